@@ -4,10 +4,10 @@
 usage: bounds.py --program PATH [--only NAME ..] [--full]
 
 The inputs are made by the shapes of the folder shapes/. The larger input is four times as large as the smaller one; with --full it is
-twice as large, at greater sizes. Its share is `times` the cost of the smaller input, or `times` squared where the documents name a product
-of two parts that both grow. A shape passes if its larger input takes at most 1.5 times its share of the memory, and at most twice its
-share of the processor time (with --full 1.5 times: without it, other work runs at the same time, and more of the input is outside the
-caches). The ratios are printed.
+twice as large, at greater sizes. Its share is the cost of the smaller input times the ratio of the sizes, or times the square of that
+ratio where docs/PERFORMANCE.md names a product of two parts that both grow. A shape passes if its larger input takes at most 1.5 times its
+share of the memory, and at most twice its share of the processor time (with --full 1.5 times: without it, other work runs at the same
+time, and more of the input is outside the caches). The ratios are printed.
 
 What does not depend on the size is not counted: 2 MiB of memory, and the time of a sixteenth of the smaller input. The sizes grow until the
 smaller input takes a tenth of a second after that; if a body cannot be so large, the inputs are sent to as many processes as take that

@@ -8,7 +8,8 @@ usage: documents.py --program PATH [--top FOLDER]
   alone (tally.py) somewhere.
 - A link [text](target) leads to an existing file, and to an existing heading of it if it names one, or to another host.
 - A word mg_NAME is a crate of crates.txt. docs/INTERNALS.md names each crate, and README.md names each document.
-- The table of crates in docs/INTERNALS.md has the crates of crates.txt in the same order, each with the same libraries.
+- The table of crates in docs/INTERNALS.md has the crates of crates.txt in the same order, each with the same libraries (for the two test
+  crates the table names no library).
 The program is not run. Prints each fault; a document passes or fails as one. The last line is 'N passed, M failed'.
 """
 import re

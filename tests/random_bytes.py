@@ -41,8 +41,8 @@ NO_VALUES = [2**63, -(2**63) - 1, 1.5, 1e300, float("nan"), "\ud800"]
 MESSAGES = 40
 
 
-class Source:
-    """A source of random messages. `whole` has the complete messages of the conversations, `targets` each target with a body for it."""
+class RandomMessages:
+    """Makes random messages. `whole` has the complete messages of the conversations, `targets` each target with a body for it."""
 
     def __init__(self, seed):
         self.random = random.Random(seed)
@@ -167,7 +167,7 @@ def difference(message, found, expected):
 def over_input(program, seed, count, tally):
     sent, number = 0, 0
     while sent < count:
-        source = Source(f"{seed}/{number}")
+        source = RandomMessages(f"{seed}/{number}")
         length, fault = run_one(program, source, Database(), *[(1, 1), (7, 2)][number % 2])
         tally.expect(f"session {number} of seed {seed}", fault, None)
         sent += length
@@ -213,7 +213,7 @@ class Pieces:
 def over_tcp(setting, seed, count, tally):
     sent, number = 0, 0
     while sent < count:
-        database, source = Database(), Source(f"tcp {seed}/{number}")
+        database, source = Database(), RandomMessages(f"tcp {seed}/{number}")
         with listening(setting, 2) as port:
             sent += two_at_a_time(port, source, database, f"run {number}, seed {seed}", tally)
         number += 1

@@ -133,9 +133,9 @@ class PostgreSQL:
             sizes.append(self.size())
             time.sleep(0.2)
 
-    def call(self, program, *words):
+    def call(self, program, *args):
         front = ["runuser", "-u", "postgres", "--"] if os.getuid() == 0 else []
-        done = subprocess.run([*front, os.path.join(programs(), program), *words], stdin=subprocess.DEVNULL,
+        done = subprocess.run([*front, os.path.join(programs(), program), *args], stdin=subprocess.DEVNULL,
                               stdout=subprocess.DEVNULL, stderr=subprocess.PIPE, cwd=self.folder, text=True)
         if done.returncode:
             raise SystemExit(f"{program}: {done.stderr}")

@@ -30,7 +30,10 @@ journal.main()
 
 
 class Proxy:
-    """A running journal.py: its port, or None if it ended before it listened; `lines` is what it wrote to standard error."""
+    """A running journal.py: its port, or None if it ended before it listened; `lines` is what it wrote to standard error.
+
+    `watch` is the folder for `WATCHED`, which then runs in place of journal.py. `before` is a command that runs the program, such as `env`.
+    """
 
     def __init__(self, program, file, database="db", watch=None, before=(), **options):
         script = ["-c", WATCHED, watch] if watch else [EXAMPLES / "journal.py"]

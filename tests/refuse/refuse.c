@@ -2,8 +2,9 @@
  *
  * REFUSE names a file of words of 64 bits, which is shared with the test, so the test can look at it and change it while the
  * program runs. Each of the four kinds has four words: how many calls were made, the first and the last one that is
- * refused (from 1; a first of 0: none), and how many were refused. Three words follow: the most bytes that a read or a write moves (0: as many as
- * are asked for), what a refused write answers: 0 an error, 1 that it took no byte, and whether writes move all bytes all the same: 1. */
+ * refused (from 1; a first of 0: none), and how many were refused. Three words follow: the most bytes that a read or a write
+ * moves (0: as many as are asked for); what a refused write returns (0: an error; 1: that it took no byte); and whether each
+ * write moves all its bytes, whatever the most is (1: it does). */
 #include <errno.h>
 #include <fcntl.h>
 #include <pthread.h>

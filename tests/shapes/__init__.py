@@ -16,7 +16,7 @@ MOST = 2**31 - 1
 @dataclass
 class Shape:
     """What makes an input of a size; the larger size in the gate and in full; and the power of the size with which it may cost:
-    1, or 2 where the documents name a product of two parts that both grow."""
+    1, or 2 where docs/PERFORMANCE.md names a product of two parts that both grow."""
 
     make: Callable
     gate: int
@@ -50,6 +50,6 @@ def page(names):
 
 
 def revision(parent, body=b"{}"):
-    """The id of the new revision of a document with this body over a parent, none for the first."""
+    """The id of the new revision of a document with this body over a parent; the first revision has no parent (None)."""
     text = b"null" if parent is None else b'"%s"' % parent
     return hashlib.md5(b"[false,%s,%s]" % (text, body)).hexdigest().encode()

@@ -69,7 +69,7 @@ impl Index {
         Some(Row { values, id: id.to_owned() })
     }
 
-    /// Whether every document that the selector matches has a row, and the rows are in the order that is wanted.
+    /// Whether every document that the selector matches has a row, and the rows are in the order of the sort.
     pub fn serves(&self, selector: &Selector, sort: &[Path]) -> bool {
         let has_rows = self.columns.iter().all(|path| sort.contains(path) || selector.at(path).next().is_some());
         self.columns.starts_with(sort) && has_rows
@@ -88,7 +88,7 @@ impl Index {
     }
 }
 
-/// The rows that begin with these values, and whose next one is within what is asked of its path.
+/// The rows that begin with these values, and whose next value is within the limits that the selector sets at `path`.
 fn limits(equal: Vec<Key>, selector: &Selector, path: &Path) -> Range<Row> {
     let (mut lower, mut upper) = (row(&equal, None, false), row(&equal, None, true));
     for one in selector.at(path) {
@@ -103,7 +103,7 @@ fn limits(equal: Vec<Key>, selector: &Selector, path: &Path) -> Range<Row> {
     lower..upper
 }
 
-/// The place before all rows that begin with these values, or behind them.
+/// The place before all rows that begin with these values and the next one, if it is given; or the place after them.
 fn row(equal: &[Key], next: Option<&Value>, behind: bool) -> Row {
     let next = next.cloned().map(Key::Value);
     let values = equal.iter().cloned().chain(next).chain(behind.then(|| Key::End)).collect();

@@ -78,7 +78,7 @@ impl Document {
         leaves.clone().find(|node| !node.deleted).or_else(|| leaves.next())
     }
 
-    /// Extends the leaf `parent`, or begins the document anew where there is no parent and nothing to be seen.
+    /// Extends the leaf `parent`. Without a parent it makes the first revision, or extends a deleted winner.
     pub fn edit(&mut self, id: &str, parent: Option<Rev>, edit: Edit) -> Result<Rev, Refusal> {
         let parent = match parent {
             Some(rev) => Some(self.node(&rev).filter(|node| node.is_leaf).map(|_| rev).ok_or(Refusal::Conflict)?),
@@ -115,7 +115,7 @@ impl Document {
         self.nodes.binary_search_by(|node| node.rev.cmp(rev))
     }
 
-    /// Adds a revision that is not known. It is a leaf if it has an edit; then its parent is not one any more.
+    /// Adds a revision that is not known. It is a leaf if it has an edit. Its parent, if it is known, is no longer a leaf.
     fn add(&mut self, id: &str, rev: Rev, parent: Option<Rev>, edit: Option<Edit>) {
         if let Some(Ok(at)) = parent.as_ref().map(|parent| self.find(parent)) {
             self.nodes[at].is_leaf = false;

@@ -20,6 +20,6 @@ sorted order (x ∷ xs) = sorted_with order x (sorted order xs)
 abbrev pub sorted_rows : Direction → List RowValue → List RowValue
 sorted_rows direction = sorted (directed_order direction)
 
--- no row comes after one that the direction lists later
+-- the rows stand in the order in which the direction lists them
 abbrev pub IsInOrder : Direction → List RowValue → Type 0
 IsInOrder direction = IsSorted (directed_order direction)

@@ -31,9 +31,9 @@ use Rattle.mg_doc.proofs.Cases.{two}
 
 -- ---- errors
 
-pub told_error : (refused : Refused) → refusal_in (error_of refused) ≡ Some refused
-told_error Conflict = refl
-told_error BadHistory = refl
+pub refusal_in_error : (refused : Refused) → refusal_in (error_of refused) ≡ Some refused
+refusal_in_error Conflict = refl
+refusal_in_error BadHistory = refl
 
 -- ---- a path of a replica
 
@@ -163,7 +163,7 @@ refuses_new h e named x refused is k to =
     let made : extended h e.deleted e.body named ≡ Err refused =
     sym (extended_is h e.deleted e.body named) ∙ unplaced_found h e.deleted e.body (base_found h named) refused (first_is h named ∙ k) in
     let said : accepted_by h e ≡ Err refused = rw is made in
-    subst P (sym (ap refusal_in to ∙ told_error refused)) (ap newest_accepted said)
+    subst P (sym (ap refusal_in to ∙ refusal_in_error refused)) (ap newest_accepted said)
 
 -- ---- the look-up of a replica's path
 

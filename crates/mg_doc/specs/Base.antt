@@ -34,7 +34,7 @@ made_found h deleted body (Err refused) = Err refused
 abbrev pub extended_by : Paths → Bool → Value → Option Revision → Result Accepted Refused
 extended_by h deleted body named = made_found h deleted body (base_found h named)
 
--- why nothing is made over the base that is found, as far as it is known before the revision is made
+-- the refusal that is found before a revision is made: that of the base, or that of the position over it
 abbrev pub unplaced : Paths → Result (Option Revision) Refused → Option Refused
 unplaced h (Ok base) = option_map refused_by (result_err (next_position h base))
 unplaced h (Err refused) = Some refused
@@ -55,7 +55,7 @@ LooksFor h run (Ok (Some r)) = (newest_of run ≡ Some r) × (is_whole h run ≡
 LooksFor h run (Ok None) = (fits h run ≡ true) × (is_whole h run ≡ false)
 LooksFor h run (Err x) = Misfits h run (refusal_in x)
 
--- what a look at an edit gives for what it found: the newest revision of a path that is known whole, or nothing
+-- what a look at an edit returns if it found the newest revision of a path that is known whole, or found nothing
 abbrev pub look_of : Edit → Option Revision → Look
 look_of e (Some r) = Known r
 look_of e None = Ready e

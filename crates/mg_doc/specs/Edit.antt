@@ -26,11 +26,11 @@ abbrev pub is_alive : Option Leaf → Bool
 is_alive None = false
 is_alive (Some l) = not l.deleted
 
--- whether it names no revision, though the winner is not deleted
+-- whether a new edit names no revision, though the winner is not deleted
 abbrev pub is_unnamed : Paths → Option Revision → Bool
 is_unnamed h named = is_none named && is_alive (winner_of h)
 
--- its base: the revision that it names, or else the winner's, if there is a winner
+-- the base of a new edit: the revision that it names, or else the winner's, if there is a winner
 abbrev pub base_of : Paths → Option Revision → Option Revision
 base_of h None = option_map (λ l. l.rev) (winner_of h)
 base_of h (Some r) = Some r
@@ -41,12 +41,12 @@ refused_by NotLeaf = Conflict
 refused_by Full = BadHistory
 refused_by Known = Conflict
 
--- why it is refused, if it is: it names no revision, though the winner is not deleted; or a revision of this id cannot be
--- made over its base
+-- why a new edit is refused, if it is: it names no revision, though the winner is not deleted; or a revision of this id
+-- cannot be made over its base
 abbrev pub refusal_over : Paths → Option Revision → List ℕ → Option Refused
 refusal_over h named id = if is_unnamed h named then Some Conflict else option_map refused_by (refusal_of h (base_of h named) id)
 
--- the path that it brings: the revision of this id, and after it the base, if there is one
+-- the path that a new edit brings: the revision of this id, and after it the base, if there is one
 abbrev pub made_over : Option Revision → List ℕ → Accepted
 made_over base id = (next_revision base id, option_to_list base)
 
@@ -55,7 +55,7 @@ abbrev pub unless : Option Refused → Accepted → Result Accepted Refused
 unless None accepted = Ok accepted
 unless (Some refused) accepted = Err refused
 
--- the path that it brings, its id the digest over its base and its body; or why it is refused
+-- the path that a new edit brings, if the new revision's id is the digest of mark, base and body; or why the edit is refused
 abbrev pub extended : Paths → Bool → Value → Option Revision → Result Accepted Refused
 extended h deleted body named =
     let base = base_of h named in
@@ -64,7 +64,7 @@ extended h deleted body named =
 
 -- ---- an edit that a replica made
 
--- its path is accepted if it fits
+-- the path of a replica is accepted if it fits
 abbrev pub replicated : Paths → List Revision → Result Accepted Refused
 replicated h [] = Err BadHistory
 replicated h (r ∷ rs) = if fits h (r ∷ rs) then Ok (r, rs) else Err BadHistory

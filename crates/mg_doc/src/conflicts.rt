@@ -13,8 +13,8 @@ use std::alloc::Global;
 /// beside the winner that are not deleted. A document without losers comes back as it was, and so does a value that is not
 /// an object.
 ///
-/// Without losers, no memory is needed. Cost: the number of the leaves, and the length of the texts. Source:
-/// `conflicts` of `GET` and `_find` in CouchDB's API reference.
+/// Errors: `NoMemory` if an allocation fails; without losers, no memory is needed. Cost: the number of the leaves, and the length of the
+/// texts. Source: `conflicts` of `GET` and `_find` in CouchDB's API reference.
 pub fn with_conflicts(alloc: Global, document: Json, tree: &RevTree) -> Result<Json, NoMemory>
     ensures shown { IfOk result
         (λ v. (h : Paths) → StandsFor tree.now h → view v ≡ with_conflicts_of h (view document)) }

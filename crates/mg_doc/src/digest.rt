@@ -11,9 +11,10 @@ use mg_value::{Json, NoMemory, write};
 use std::alloc::Global;
 
 /// The id of a new revision over a parent, or of a document's first revision: the MD5 of the compact text of
-/// `[deleted, parent, body]`, in 32 lower-case hexadecimal digits. The parent is its text `N-id`, or null.
+/// `[deleted, parent, body]`, in 32 lower-case hexadecimal digits. The parent is written as its text `N-id`, or as null if there is none.
 ///
-/// Cost: the length of the body's text. Source: CouchDB's deterministic revision ids, RFC 1321.
+/// Errors: `NoMemory` if an allocation fails. Cost: the length of the body's text. Source: CouchDB's deterministic revision ids,
+/// RFC 1321.
 pub fn rev_id(
     alloc: Global,
     deleted: bool,

@@ -11,8 +11,8 @@ use std::alloc::Global;
 /// The document that is served for an id: the body of the winning revision with `_id` and `_rev`. `None` if that revision
 /// deletes the document, or if the tree is empty.
 ///
-/// If there is no document, no memory is needed. Cost: a copy of the body. Source: `GET` of a document in CouchDB's API
-/// reference.
+/// Errors: `NoMemory` if an allocation fails; if there is no document, no memory is needed. Cost: a copy of the body. Source: `GET` of a
+/// document in CouchDB's API reference.
 pub fn served(alloc: Global, id: &str, tree: &RevTree) -> Result<Option<Json>, NoMemory>
     ensures served { IfOk result
         (λ o. (h : Paths) → StandsFor tree.now h → option_map view o ≡ served_of id.now h) }
@@ -42,8 +42,9 @@ fn served_form(alloc: Global, id: &str, leaf: &Leaf) -> Result<Json, NoMemory>
 /// The document that `served` gives, in one block of memory with its text. The winner's body moves into that block, as for
 /// `RevTree::move_body_into`. Contracts see the same tree.
 ///
-/// If there is no document, no memory is needed. Cost: that of `Body::form`; if the winner's body is already in the block of this
-/// form, the block is shared and nothing is copied. Source: `GET` of a document in CouchDB's API reference.
+/// Errors: `NoMemory` if an allocation fails, or if there are too many references to the block; if there is no document, no memory is
+/// needed. Cost: that of `Body::form`; if the winner's body is already in the block of this form, the block is shared and no body is
+/// copied. Source: `GET` of a document in CouchDB's API reference.
 pub fn served_packed(alloc: Global, id: &str, tree: &mut RevTree) -> Result<Option<Form>, NoMemory>
     ensures served { IfOk result (λ o. (h : Paths) → StandsFor tree.old h → o ≡ served_of id.now h) }
     ensures form { IfOk result (λ o. IfSome o (λ form. (l : Winner) × (form ≡ form_of id.now l))) }

@@ -103,13 +103,13 @@ impl Edit {
         }
     }
 
-    /// A copy of the edit, which makes the id of its revision when it is applied. Errors: `NoMemory` if an allocation fails. Cost:
-    /// the lengths of its id, its path and its body.
+    /// A copy of the edit. The copy makes the id of its revision only when it is applied. Errors: `NoMemory` if an allocation fails.
+    /// Cost: the lengths of the edit's id, path and body.
     pub fn copy(&self, alloc: Global) -> Result<Edit, NoMemory>
         ensures { IfOk result (λ edit. edit ≡ self.now) }
     {
         Ok(Edit {
-            id: copied_id(alloc, self.id())?,
+            id: copy_id(alloc, self.id())?,
             change: self.change.copy(alloc)?,
             deleted: self.deleted,
             body: self.body.copy(alloc)?,
@@ -119,7 +119,7 @@ impl Edit {
 }
 
 // A copy of the id, if there is one.
-fn copied_id(alloc: Global, id: Option<&str>) -> Result<Option<String>, NoMemory>
+fn copy_id(alloc: Global, id: Option<&str>) -> Result<Option<String>, NoMemory>
     ensures { IfOk result (λ copy. option_map string_bytes copy ≡ option_map (λ s. s.now) id.entry) }
 {
     match id {
@@ -140,7 +140,7 @@ fn edit_in(alloc: Global, members: &Object<'_>, new_edit: bool) -> Result<Edit, 
     if !gives_change(alloc, members, new_edit) {
         return Err(DocError::BadRev);
     }
-    let id = copied_id(alloc, id)?;
+    let id = copy_id(alloc, id)?;
     let change = change_asked(alloc, members, new_edit)?;
     let body = own_body(alloc, members)?;
     let ahead = id_ahead(alloc, &change, deleted, &body)?;

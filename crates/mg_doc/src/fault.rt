@@ -1,4 +1,5 @@
-//! Whether `_rev` and `_revisions` give a change. This is found before memory is needed, so that `NoMemory` never hides a fault.
+//! Whether `_rev` and `_revisions` give a change. The answer does not depend on memory, and is found before anything is copied, so that
+//! `NoMemory` never hides a fault.
 ghost use Rattle.std.specs.Prelude.{◌≡◌, Some, codes, is_some, option_and_then, option_map, pos};
 ghost use Rattle.mg_value.specs.Value.{get_member, whole};
 ghost use Rattle.mg_revtree.specs.Revision.{revision_of, run_of};
@@ -43,7 +44,7 @@ fn names_revision(alloc: Global, member: Option<Part<'_>>) -> Option<bool>
     }
 }
 
-// Whether a text is a revision. `Rev::parse` checks the text before it allocates, so `NoMemory` means that the text is a revision.
+// Whether a text is a revision. `Rev::parse` checks the text before it copies the id, so `NoMemory` means that the text is a revision.
 #[tactic(auto, using(crate::proofs::Forms::there_unless_none))]
 fn is_revision(alloc: Global, text: &str) -> bool
     ensures { result ≡ is_some (revision_of text.now) }

@@ -1,4 +1,4 @@
--- The members of an object whose names do not begin with a byte.
+-- The members of an object whose names do not begin with a given byte.
 use Rattle.std.specs.Prelude.{ℕ, List, [], ◌∷◌, Bool, false, ◌==◌, if◌then◌else◌}
 use Rattle.mg_value.specs.Value.{Members, no_members, member}
 

@@ -1,4 +1,4 @@
--- For private clauses: where an entry goes among the entries of a table, and the entries with it.
+-- For private clauses: where the entry of a name goes among the entries of a table, and the entries with it.
 use Rattle.std.specs.Prelude.{ℕ, suc, List, ◌∷◌, ◌++◌, length, take, drop}
 use Rattle.std.specs.Cmp.Lexicographic.{slice_cmp}
 use Rattle.std.specs.List.{concat}

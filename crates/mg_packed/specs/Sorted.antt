@@ -35,7 +35,7 @@ abbrev pub sorted_data : List Named → Option parsed.Members
 sorted_data [] = Some parsed.no_members
 sorted_data (e ∷ es) = option_and_then (λ d. option_map (parsed.member e.0.now d) (sorted_data es)) (of_json (value_view e.1.now))
 
--- the members in the text's order have the data of the sorted ones
+-- if the sorted members have data, reading the members in the order of the text gives the same data
 abbrev pub IsSorting : List Named → json.Members → Type 0
 IsSorting es js = (ds : parsed.Members) → sorted_data es ≡ Some ds → of_members js parsed.no_members ≡ Some ds
 
@@ -57,7 +57,7 @@ MembersMatch (e ∷ es) (member k v ms) = (e.0.now ≡ k) × IsUtf8 k × IsWhole
 abbrev pub IsPushed : json.Json → List ℕ → List ℕ → Type 0
 IsPushed j old new = (v : Value) × IsWhole j v × IsStored v × (new ≡ old ++ packed v)
 
--- the bytes are the old ones, and the name and such a value
+-- the bytes are the old ones, and those of a member with this name, and with a value that the tree stands for
 abbrev pub IsMemberPushed : List ℕ → json.Json → List ℕ → List ℕ → Type 0
 IsMemberPushed k j old new = IsUtf8 k × ((v : Value) × IsWhole j v × IsStored v × (new ≡ old ++ named k (packed v)))
 
@@ -65,6 +65,6 @@ IsMemberPushed k j old new = IsUtf8 k × ((v : Value) × IsWhole j v × IsStored
 abbrev pub AreItemsPushed : List (Tree Global) → List ℕ → List ℕ → Type 0
 AreItemsPushed ts old new = (vs : Items) × ItemsMatch ts vs × (new ≡ old ++ (offsets 0 (item_entries vs) ++ concat (item_entries vs)))
 
--- the members, sorted, are those of the text
-abbrev pub AreMembersPushed : json.Members → Members → Type 0
-AreMembersPushed js ms = (es : List Named) × IsSorting es js × Ascend es × MembersMatch es ms
+-- the members, sorted by name, are those that the members of the tree stand for
+abbrev pub AreSortedMembers : json.Members → Members → Type 0
+AreSortedMembers js ms = (es : List Named) × IsSorting es js × Ascend es × MembersMatch es ms

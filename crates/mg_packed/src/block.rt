@@ -1,4 +1,4 @@
-// Where the bytes of a value end, among those that follow it.
+// Finds where the bytes of a value end, if other bytes follow them.
 ghost use Rattle.std.specs.Prelude.{◌≡◌, ◌++◌, length};
 ghost use Rattle.mg_packed.specs.Packed.{packed};
 ghost use Rattle.mg_packed.specs.Read.{value_in, HoldsArray, HoldsObject, IsPart, IsBlockOf};

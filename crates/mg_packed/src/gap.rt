@@ -1,7 +1,7 @@
-// Where an entry goes among the entries of a table.
+// A gap among the entries of a table. A new table is made without the entries in the gap; a new entry may take their place.
 ghost use Rattle.std.specs.Prelude.{◌≡◌, ◌+◌, ◌<◌, ◌^◌};
 
-// The entry goes after the first `before` entries, and replaces the entries from there up to `after`.
+// In the gap are the entries from the index `before` up to the index `after`, which is not in it.
 #[derive(Clone, Copy)]
 pub(crate) struct Gap {
     pub(crate) before: usize,
@@ -9,7 +9,7 @@ pub(crate) struct Gap {
 }
 
 impl Gap {
-    // The entry goes before the entry at this index, and replaces none.
+    // The gap before the entry at this index, with no entry in it.
     pub(crate) fn at(index: usize) -> Gap
         ensures before { result.before ≡ index }
         ensures after { result.after ≡ index }
@@ -20,7 +20,7 @@ impl Gap {
         }
     }
 
-    // The entry replaces the entry at this index.
+    // The gap with the entry at this index.
     pub(crate) fn over(index: usize) -> Gap
         requires { index + 1 < 2 ^ 64 }
         ensures before { result.before ≡ index }

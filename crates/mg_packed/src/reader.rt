@@ -15,7 +15,7 @@ use json::{Scratch, Value as Tree};
 use mg_value::{Json, LONGEST_KEPT, MAX_DEPTH, ReadBuffer, ReadError, read_tree};
 use std::alloc::Global;
 
-// The value of a JSON text, in a block of its own. Errors: those of `mg_value::read`.
+// The value of a JSON text, in a new block. Errors: those of `mg_value::read`, and `NoMemory` if the block would be too long.
 pub(crate) fn read_packed(
     alloc: Global,
     bytes: &[u8],
@@ -34,7 +34,8 @@ pub(crate) fn read_packed(
     }
 }
 
-// The fast path, without a `Json`. It gives up (`None`) where `push_tree` does, and if the bytes are not JSON.
+// The fast path, without a `Json`. It gives up (`None`) where `push_tree` does, if the bytes are not JSON, or if the block would be too
+// long.
 fn read_fast(alloc: Global, bytes: &[u8], buffer: &mut ReadBuffer) -> Option<Packed>
     ensures { IfSome result (λ packed. Reads bytes.now packed) }
 {
@@ -64,7 +65,8 @@ fn read_with(alloc: Global, text: &str, scratch: &mut Scratch) -> Option<Packed>
     }
 }
 
-// The bytes of the value that the tree stands for, in a block that may have spare room.
+// The bytes of the value that the tree stands for. The block begins with room for twice the length of the text, so spare room may be
+// left.
 fn tree_block(alloc: Global, text_len: usize, tree: &Tree<'_>) -> Result<Vec<u8>, GaveUp>
     ensures { IfOk result (λ b. (v : Value) × IsWhole (value_view tree.now) v × IsBlockOf b.items v) }
 {
@@ -74,7 +76,8 @@ fn tree_block(alloc: Global, text_len: usize, tree: &Tree<'_>) -> Result<Vec<u8>
     Ok(out)
 }
 
-// The slow path, over a `Json`. It finds why a text is refused, and reads the rare texts that the fast path gives up.
+// The slow path, over a `Json`. It finds why a text is refused, and reads the rare other texts with which the fast path gave up: an
+// object has a name twice, or memory ran out.
 fn read_again(alloc: Global, bytes: &[u8]) -> Result<Packed, ReadError>
     ensures ok { IfOk result (λ packed. Reads bytes.now packed) }
     ensures not_json { result ≡ Err ReadError.NotJson → (d : Data) → ¬ IsText bytes.now d }
@@ -89,7 +92,7 @@ fn read_again(alloc: Global, bytes: &[u8]) -> Result<Packed, ReadError>
     }
 }
 
-// Packs the value; a refused block is the only error.
+// Packs the value. The only error is `NoMemory`.
 fn pack(alloc: Global, value: &Json) -> Result<Packed, ReadError>
     ensures ok { IfOk result (λ packed. packed ≡ view value.now) }
     ensures json { result ≡ Err ReadError.NotJson → ⊥ }

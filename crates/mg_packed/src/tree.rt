@@ -1,4 +1,5 @@
-// Writes the bytes of a parse tree in one walk, and gives up where `mg_value::read` has to look closer.
+// Writes the bytes of the value that a parse tree stands for, in one walk. Where it gives up (`GaveUp`), the text has to be read by
+// `mg_value::read`.
 ghost use Rattle.std.specs.Prelude.{◌≡◌, ◌+◌, ◌*◌, ◌++◌, ℤ, length, take, FitsSigned, IsUtf8, IfOk, OnOk, Some};
 ghost use Rattle.std.specs.Int.{w64};
 ghost use Rattle.std.specs.List.{concat};
@@ -6,7 +7,7 @@ ghost use Rattle.json.specs.Value.{value_view, members_view as tree_members};
 ghost use Rattle.mg_value.specs.Borrowed.{whole_number_of};
 ghost use Rattle.mg_value.specs.Value.{Items, Members, null, flag as boolean, whole, text as string, list, object};
 ghost use Rattle.mg_packed.specs.Packed.{size, offsets, packed, named, item_entries, member_entries};
-ghost use Rattle.mg_packed.specs.Sorted.{IsPushed, AreItemsPushed, AreMembersPushed, IsMemberPushed, IsSorting, ItemsMatch, MembersMatch, Ascend};
+ghost use Rattle.mg_packed.specs.Sorted.{IsPushed, AreItemsPushed, AreSortedMembers, IsMemberPushed, IsSorting, ItemsMatch, MembersMatch, Ascend};
 
 use crate::build::{push_head, push_name, push_tag, push_text, push_whole, set_offset};
 use crate::measure::as_word;
@@ -15,7 +16,7 @@ use mg_value::{NoMemory, whole_number};
 use std::alloc::{AllocError, AllocFailed, Global};
 use std::collections::BTreeMap;
 
-// A number is not an `i64`, an object has a name twice, or memory ran out.
+// A number is not an `i64`, an object has a name twice, the tree nests too deep, a length needs more than four bytes, or memory ran out.
 #[derive(Drop)]
 pub(crate) struct GaveUp;
 
@@ -37,9 +38,10 @@ impl<T: Drop> From<AllocFailed<T>> for GaveUp {
     }
 }
 
-// Adds the bytes of the value that the tree stands for. It gives up where the tree nests deeper than `depth`. Each level of nesting is
-// one call of `push_items` or `push_sorted`, whose frames are no larger than those that reading the tree took: so no deeper stack is
-// needed where memory is short.
+// Adds the bytes of the value that the tree stands for. It gives up if the tree nests deeper than `depth`, by which proofs know that
+// the walk ends; no tree of `read_tree` nests deeper than `MAX_DEPTH`. A level of nesting takes one frame of the stack, that of
+// `push_items` or `push_sorted`, since the functions between them are inlined. The frame is no larger than the one that reading took
+// for the level, so this walk needs no deeper stack than reading did.
 #[cycle(push_tree)]
 #[inline(always)]
 pub(crate) fn push_tree<'t, 'a>(
@@ -56,7 +58,7 @@ pub(crate) fn push_tree<'t, 'a>(
         Tree::Number(text) => push_number(out, text),
         Tree::String(text) => push_string(out, text),
         Tree::Array(items) => push_array(alloc, out, items, depth),
-        Tree::Object(members) => push_members(alloc, out, members, depth),
+        Tree::Object(members) => push_object(alloc, out, members, depth),
     }
 }
 
@@ -101,6 +103,7 @@ fn push_fitting(out: &mut Vec<u8>, number: i64) -> Result<(), GaveUp>
     Ok(())
 }
 
+// The text is a parameter so that proofs know that it is UTF-8.
 #[inline(always)]
 fn push_string(out: &mut Vec<u8>, text: &str) -> Result<(), GaveUp>
     ensures utf8 { IsUtf8 text.now }
@@ -153,13 +156,13 @@ fn push_items<'t, 'a>(
 
 #[cycle(push_tree)]
 #[inline(always)]
-fn push_members<'t, 'a>(
+fn push_object<'t, 'a>(
     alloc: Global,
     out: &mut Vec<u8>,
     members: &'t [(&'a str, Tree<'a>)],
     depth: usize,
 ) -> Result<(), GaveUp>
-    ensures { OnOk result ((ms : Members) × AreMembersPushed (tree_members members.now) ms
+    ensures { OnOk result ((ms : Members) × AreSortedMembers (tree_members members.now) ms
         × (out.new.items ≡ out.old.items ++ packed (object ms))) }
 {
     if depth == 0 {
@@ -170,7 +173,8 @@ fn push_members<'t, 'a>(
     push_sorted(alloc, out, table, &sorted, depth - 1)
 }
 
-// The members in the order of their names. It gives up at a name that comes twice.
+// The members in the order of their names. It gives up at a name that comes twice, since the value that is replaced would not be
+// checked.
 #[inline(never)]
 fn sort<'t, 'a>(
     alloc: Global,
@@ -228,6 +232,7 @@ fn push_member<'t, 'a>(
     push_tree(alloc, out, tree, depth)
 }
 
+// Adds the name of a member. It is a parameter so that proofs know that it is UTF-8.
 fn push_key(out: &mut Vec<u8>, name: &str) -> Result<(), GaveUp>
     ensures utf8 { IsUtf8 name.now }
     ensures pushed { OnOk result

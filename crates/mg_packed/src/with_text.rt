@@ -42,7 +42,7 @@ pub(crate) fn object_with_text(
     Ok(out)
 }
 
-// A copy of the bytes in a block of its own.
+// A copy of the bytes in a new block, which has no spare room.
 pub(crate) fn copy_bytes(alloc: Global, bytes: &[u8]) -> Result<Vec<u8>, NoMemory>
     ensures { IfOk result (λ b. b.items ≡ bytes.now) }
 {
@@ -110,7 +110,7 @@ fn push_offsets(
     Ok(())
 }
 
-// Adds the offsets of the entries from `after` on, once the first of them begins at `begin`.
+// Adds the offsets of the entries from `after` on, moved so that the first of them begins at `begin`.
 pub(crate) fn push_moved(
     out: &mut Vec<u8>,
     bytes: &[u8],

@@ -32,7 +32,7 @@ impl Written {
     ghost use Rattle.std.specs.Prelude.{◌≡◌, IfOk};
     ghost use Rattle.mg_value.specs.Text.{compact};
 
-    /// Copies the value of a block into a block of its own, followed by its text.
+    /// Copies the value into a new block, and writes its text after it.
     ///
     /// Errors: `NoMemory` if an allocation fails. Cost: one walk over the value that writes its text, and a copy of the bytes and of the
     /// text.

@@ -130,29 +130,29 @@ is_empty-snoc [] c = refl
 is_empty-snoc (x ∷ step) c = refl
 
 -- with `rest` left, `empty_from` is right for every piece that may have been begun
-abbrev Told : List ℕ → Type 0
-Told rest = (step : List ℕ) → empty_from (is_empty step) (ends_in_backslash step) rest ≡ list_any is_empty (continued step rest)
+abbrev Decides : List ℕ → Type 0
+Decides rest = (step : List ℕ) → empty_from (is_empty step) (ends_in_backslash step) rest ≡ list_any is_empty (continued step rest)
 
-told_after : (cs step : List ℕ) (c : ℕ) → Told cs → empty_from false (eqb c 92) cs ≡ list_any is_empty (continued (step ++ c ∷ []) cs)
-told_after cs step c told = ap₂ (λ b x. empty_from b (eqb x 92) cs) (sym (is_empty-snoc step c)) (sym (last-snoc step c)) ∙ told (step ++ c ∷ [])
+decides_after : (cs step : List ℕ) (c : ℕ) → Decides cs → empty_from false (eqb c 92) cs ≡ list_any is_empty (continued (step ++ c ∷ []) cs)
+decides_after cs step c decides = ap₂ (λ b x. empty_from b (eqb x 92) cs) (sym (is_empty-snoc step c)) (sym (last-snoc step c)) ∙ decides (step ++ c ∷ [])
 
 -- an escaped dot joins the piece, and any other dot ends it
-told_at_dot : (cs step : List ℕ) (escaped : Bool) → Told cs
+decides_at_dot : (cs step : List ℕ) (escaped : Bool) → Decides cs
     → cond (false || escaped) (empty_from false false cs) (is_empty step || empty_from true false cs)
     ≡ list_any is_empty (cond escaped (continued (take (length step - 1) step ++ 46 ∷ []) cs) (step ∷ continued [] cs))
-told_at_dot cs step true told = told_after cs (take (length step - 1) step) 46 told
-told_at_dot cs step false told = ap (λ b. is_empty step || b) (told [])
+decides_at_dot cs step true decides = decides_after cs (take (length step - 1) step) 46 decides
+decides_at_dot cs step false decides = ap (λ b. is_empty step || b) (decides [])
 
-told_all : (rest : List ℕ) → Told rest
-told_all [] step = or_false (is_empty step)
-told_all (c ∷ cs) step = elim (same_or c 46) as (λ _. empty_from (is_empty step) (ends_in_backslash step) (c ∷ cs) ≡ list_any is_empty (continued step (c ∷ cs))) [
-  | inl dot ↦ rw dot (told_at_dot cs step (ends_in_backslash step) (told_all cs))
-  | inr no_dot ↦ rw no_dot (told_after cs step c (told_all cs))
+decides_all : (rest : List ℕ) → Decides rest
+decides_all [] step = or_false (is_empty step)
+decides_all (c ∷ cs) step = elim (same_or c 46) as (λ _. empty_from (is_empty step) (ends_in_backslash step) (c ∷ cs) ≡ list_any is_empty (continued step (c ∷ cs))) [
+  | inl dot ↦ rw dot (decides_at_dot cs step (ends_in_backslash step) (decides_all cs))
+  | inr no_dot ↦ rw no_dot (decides_after cs step c (decides_all cs))
 ]
 
 -- at the start, `empty_from` decides for the whole text
 pub empty_from-start : (t : List ℕ) → list_any is_empty (pieces_of t) ≡ empty_from true false t
-empty_from-start t = ap (λ ps. list_any is_empty ps) (sym (continued-start t)) ∙ sym (told_all t [])
+empty_from-start t = ap (λ ps. list_any is_empty ps) (sym (continued-start t)) ∙ sym (decides_all t [])
 
 -- bytes other than a dot join the step
 continued-plain_bytes : (xs : List ℕ) (step rest : List ℕ) → AllByRecursion (λ x. x ≢ 46) xs → continued step (xs ++ rest) ≡ continued (step ++ xs) rest

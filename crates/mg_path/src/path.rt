@@ -86,7 +86,7 @@ impl Path {
         part_of(&self.steps, value)
     }
 
-    /// Finds the part at this path, as `get` does, in a lent part that may itself be missing.
+    /// Finds the part at this path, as `get` does, in a lent part that may itself be missing. Cost: that of `get`.
     pub fn get_in<L: LentValue>(&self, part: Option<L>) -> Option<L>
         ensures { option_map L.value result
             ≡ option_and_then (part_of self.now) (option_map L.value part) }

@@ -39,7 +39,7 @@ pub(crate) fn pieces(alloc: Global, text: &str) -> Result<Vec<String>, NoMemory>
     Ok(pieces)
 }
 
-// Does what `pieces` does, letter by letter.
+// Does what `pieces` does, for any text, character by character.
 fn cut_at_dots(alloc: Global, text: &str) -> Result<Vec<String>, NoMemory>
     ensures { IfOk result (λ pieces. map string_bytes pieces.items ≡ pieces_of text.now) }
 {

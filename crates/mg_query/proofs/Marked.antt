@@ -27,23 +27,23 @@ made selector fields limit skip sort directions hint bookmark conflicts =
 abbrev with_mark : Shaped → List ℕ → Shaped
 with_mark m t = record m { bookmark = t }
 
--- the members behind the sort
-abbrev behind : Value → List Steps → ℕ → ℕ → Option (List Steps) → Option (List Direction) → Option Hint → Option (List ℕ) → Option Bool → Option Shaped
-behind a f l k p d h b c = p >> (λ sort. d >> (λ directions. h >> (λ hint. b >> (λ bookmark. c >> (λ conflicts. Some (made a f l k sort directions hint bookmark conflicts))))))
+-- the members after the sort
+abbrev after_sort : Value → List Steps → ℕ → ℕ → Option (List Steps) → Option (List Direction) → Option Hint → Option (List ℕ) → Option Bool → Option Shaped
+after_sort a f l k p d h b c = p >> (λ sort. d >> (λ directions. h >> (λ hint. b >> (λ bookmark. c >> (λ conflicts. Some (made a f l k sort directions hint bookmark conflicts))))))
 
-behind_marked : (a : Value) (f : List Steps) (l k : ℕ) (p : Option (List Steps)) (d : Option (List Direction)) (h : Option Hint) (b : Option (List ℕ)) (c : Option Bool) (m : Shaped) (t : List ℕ)
-    → behind a f l k p d h b c ≡ Some m → behind a f l k p d h (Some t) c ≡ Some (with_mark m t)
-behind_marked a f l k None d h b c m t e = absurd cc
-behind_marked a f l k (Some p) None h b c m t e = absurd cc
-behind_marked a f l k (Some p) (Some d) None b c m t e = absurd cc
-behind_marked a f l k (Some p) (Some d) (Some h) None c m t e = absurd cc
-behind_marked a f l k (Some p) (Some d) (Some h) (Some b) None m t e = absurd cc
-behind_marked a f l k (Some p) (Some d) (Some h) (Some b) (Some c) m t e = ap (λ (o : Option Shaped). option_map (λ n. with_mark n t) o) e
+after_sort_marked : (a : Value) (f : List Steps) (l k : ℕ) (p : Option (List Steps)) (d : Option (List Direction)) (h : Option Hint) (b : Option (List ℕ)) (c : Option Bool) (m : Shaped) (t : List ℕ)
+    → after_sort a f l k p d h b c ≡ Some m → after_sort a f l k p d h (Some t) c ≡ Some (with_mark m t)
+after_sort_marked a f l k None d h b c m t e = absurd cc
+after_sort_marked a f l k (Some p) None h b c m t e = absurd cc
+after_sort_marked a f l k (Some p) (Some d) None b c m t e = absurd cc
+after_sort_marked a f l k (Some p) (Some d) (Some h) None c m t e = absurd cc
+after_sort_marked a f l k (Some p) (Some d) (Some h) (Some b) None m t e = absurd cc
+after_sort_marked a f l k (Some p) (Some d) (Some h) (Some b) (Some c) m t e = ap (λ (o : Option Shaped). option_map (λ n. with_mark n t) o) e
 
 -- all members
 abbrev all_of : Option Value → Option (List Steps) → Option ℕ → Option ℕ → Option (List Value) → Option Hint → Option (List ℕ) → Option Bool → Option Shaped
 all_of a f l k s h b c =
-    a >> (λ selector. f >> (λ fields. l >> (λ limit. k >> (λ skip. s >> (λ sorted. behind selector fields limit skip (each_of sort_path sorted) (each_of field_direction sorted) h b c)))))
+    a >> (λ selector. f >> (λ fields. l >> (λ limit. k >> (λ skip. s >> (λ sorted. after_sort selector fields limit skip (each_of sort_path sorted) (each_of field_direction sorted) h b c)))))
 
 all_marked : (a : Option Value) (f : Option (List Steps)) (l k : Option ℕ) (s : Option (List Value)) (h : Option Hint) (b : Option (List ℕ)) (c : Option Bool) (m : Shaped) (t : List ℕ)
     → all_of a f l k s h b c ≡ Some m → all_of a f l k s h (Some t) c ≡ Some (with_mark m t)
@@ -52,7 +52,7 @@ all_marked (Some a) None l k s h b c m t e = absurd cc
 all_marked (Some a) (Some f) None k s h b c m t e = absurd cc
 all_marked (Some a) (Some f) (Some l) None s h b c m t e = absurd cc
 all_marked (Some a) (Some f) (Some l) (Some k) None h b c m t e = absurd cc
-all_marked (Some a) (Some f) (Some l) (Some k) (Some s) h b c m t e = behind_marked a f l k (each_of sort_path s) (each_of field_direction s) h b c m t e
+all_marked (Some a) (Some f) (Some l) (Some k) (Some s) h b c m t e = after_sort_marked a f l k (each_of sort_path s) (each_of field_direction s) h b c m t e
 
 -- the members of a body, by what it has under each name
 abbrev from_members : Option Value → Option Value → Option Value → Option Value → Option Value → Option Value → Option Value → Option Value → Option Shaped

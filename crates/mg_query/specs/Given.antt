@@ -26,7 +26,7 @@ pub record Given : Type 0 where
   pub bookmark : List ℕ
   pub conflicts : Bool
 
--- the members of a body, seen on the loan
+-- the members of a body, before paths and directions are read; `None` if one has a wrong shape
 abbrev pub given : Value → Option Given
 given v =
     option_and_then (λ selector. option_and_then (λ fields. option_and_then (λ limit. option_and_then (λ skip. option_and_then (λ sort.
@@ -54,7 +54,7 @@ with_parts g fields sort directions = record {
   conflicts = g.conflicts;
 }
 
--- the members with their paths and directions, where all of these can be read
+-- the members with their paths and directions; `None` if one of these cannot be read
 abbrev pub parsed : Given → Option Shaped
 parsed g =
     option_and_then (λ fields. option_and_then (λ sort. option_map (λ directions. with_parts g fields sort directions)
@@ -74,19 +74,19 @@ gives_path v = is_some (path_of v)
 abbrev pub gives_sort : Value → Bool
 gives_sort v = is_some (sort_path v) && is_some (field_direction v)
 
--- the fault of given members: a wrong shape, and else that of the selector
+-- the fault of given members: a wrong shape, or else that of the selector
 abbrev pub fault_given : Given → Option QueryError
 fault_given g = result_err (or_fault wrong_shape (parsed g) >>= (λ m. selector_or_fault (reading m.selector)))
 
 -- ---- of the code's members
 
--- the hint
+-- the hint that the code's `GivenHint` stands for
 abbrev pub hint_seen : code_hint.GivenHint → Hint
 hint_seen code_hint.TheVariants.None = no_hint
 hint_seen (code_hint.TheVariants.Ddoc ddoc) = in_document (design_document ddoc.now)
 hint_seen (code_hint.TheVariants.Both ddoc name) = exactly (design_document ddoc.now) name.now
 
--- the members
+-- the members that the code's `Members` stands for
 abbrev pub given_seen : code.Members → Given
 given_seen g = record {
   selector = view g.selector.now;

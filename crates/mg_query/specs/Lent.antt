@@ -16,7 +16,7 @@ use Rattle.mg_shard.specs.Shard.{ShardView}
 use Rattle.mg_query.specs.Page.{Candidate, row_by}
 use Rattle.mg_query.specs.Query.{Query}
 
--- the row after which a page begins that follows this place
+-- the row at a bookmark's place, after which the page begins
 abbrev pub row_at : Place → RowValue
 row_at p = (p.key, p.id)
 
@@ -25,7 +25,7 @@ abbrev pub shard_rows : NormalForm → List Steps → Query → ShardView → Li
 shard_rows normal columns q s =
     scanned (scan_input normal (range_of normal.atoms columns) (option_map row_at q.bookmark) (q.skip + q.limit) q.direction columns) (docs_of s.documents)
 
--- the query shows documents as they are served: with no conflicts, and at no fields
+-- the query shows documents as they are served: whole, and without their conflicts
 abbrev pub shows_whole : Query → Bool
 shows_whole q = not q.conflicts && (length q.fields == 0)
 

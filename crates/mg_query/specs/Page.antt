@@ -48,7 +48,7 @@ abbrev pub source_columns : Source → List Steps
 source_columns all_docs = id_path ∷ []
 source_columns (defined d) = d.columns
 
--- its design document, none for the index of all documents
+-- its design document; `None` for the index of all documents
 abbrev pub ddoc_of : Source → Option (List ℕ)
 ddoc_of all_docs = None
 ddoc_of (defined d) = Some d.ddoc
@@ -60,7 +60,7 @@ name_of (defined d) = d.name
 
 -- ---- the order
 
--- the value of a column; null if it is missing. A document that the query finds misses none, as the law of ranges says
+-- the value of a column; null if it is missing. A document that the query finds has a value for each column, as the law of ranges says
 abbrev pub value_at : Candidate → Steps → Value
 value_at c column = unwrap_or (part_of column c.form) null
 
@@ -90,7 +90,7 @@ candidates_found columns q cs = filter (is_after columns q) (sorted (order_by co
 abbrev pub page_rows : List Steps → Query → List Candidate → List Candidate
 page_rows columns q cs = take q.limit (drop q.skip (candidates_found columns q cs))
 
--- a document, with its conflicts where they are asked for
+-- the form of a document, with its conflicts if they are asked for
 abbrev pub form_for : Query → Candidate → Value
 form_for q c = if q.conflicts then with_conflicts_of c.history c.form else c.form
 
@@ -107,7 +107,7 @@ shown_of q c = projected q.fields (form_for q c)
 abbrev pub bookmark_at : Source → Query → Candidate → List ℕ
 bookmark_at s q c = spelled (record { ddoc = ddoc_of s; name = name_of s; direction = q.direction; key = (row_by (source_columns s) c).0; id = c.id })
 
--- the last of a list, and none of an empty one
+-- the last item of a list; `None` if it is empty
 abbrev pub last : {X : Type 0} → List X → Option X
 last [] = None
 last (x ∷ []) = Some x
@@ -132,12 +132,12 @@ page_value p = object (member (codes "bookmark") (text p.bookmark) (member (code
 
 -- ---- the answer
 
--- why a query that was read has no page: no index serves it, or its bookmark is of another index or direction
+-- why a query that was read has no page: no index serves it, or its bookmark is of another index, direction or number of columns
 pub data Unanswered : Type 0 where
   no_usable_index : Unanswered
   bad_bookmark : Unanswered
 
--- whether a design document is the index's
+-- whether two design documents are the same; `None` is that of the index of all documents
 abbrev pub is_ddoc : Option (List ℕ) → Option (List ℕ) → Bool
 is_ddoc None None = true
 is_ddoc (Some a) (Some b) = bytes_eq a b

@@ -1,4 +1,4 @@
--- The page that the code's stands for, its text, and what shards hand over for it.
+-- The page that the code's `Page` stands for, its text, and what shards hand over for it.
 use Rattle.std.specs.Prelude.{◌≡◌, ℕ, ◌+◌, ◌≤◌, List, length, map, min, string_bytes, All, Result, Ok, Err}
 use Rattle.std.specs.List.{range_with_len, sum}
 use Rattle.mg_value.specs.Text.{compact}
@@ -11,7 +11,7 @@ use Rattle.mg_query.specs.Page.{Page, Unanswered, candidates_of, source_columns,
 use Rattle.mg_query.specs.Query.{Query}
 use Rattle.mg_query.specs.declared.shown.Page as code
 
--- the page that the code's stands for
+-- the page that the code's `Page` stands for
 abbrev pub page_seen : code.Page → Page
 page_seen p = record { docs = map view p.docs.items; bookmark = string_bytes p.bookmark }
 

@@ -76,7 +76,7 @@ fields_of None = Some []
 fields_of (Some (list vs)) = each_of path_of (item_list vs)
 fields_of (Some v) = None
 
--- `fields` as `_explain` renders them: as given, and `all_fields` where they are absent or empty
+-- `fields` as `_explain` renders them: as they were given; `all_fields` if they are absent or empty
 abbrev pub rendered_fields_of : Option Value → Value
 rendered_fields_of None = text (codes "all_fields")
 rendered_fields_of (Some (list no_items)) = text (codes "all_fields")
@@ -86,7 +86,7 @@ rendered_fields_of (Some v) = v
 abbrev pub greatest_count : ℕ
 greatest_count = 2147483647
 
--- `limit` and `skip`: a whole number from 0 on, and this one where it is absent
+-- `limit` and `skip`: a whole number from 0 to `greatest_count`; `otherwise` if it is absent
 abbrev pub count_of : ℕ → Option Value → Option ℕ
 count_of otherwise None = Some otherwise
 count_of otherwise (Some (whole (pos n))) = if nat_le n greatest_count then Some n else None
@@ -117,14 +117,14 @@ hint_given (Some (list (item (text ddoc) no_items))) = Some (in_document (design
 hint_given (Some (list (item (text ddoc) (item (text name) no_items)))) = Some (exactly (design_document ddoc) name)
 hint_given (Some v) = None
 
--- `bookmark`, a text; `nil` where it is null or absent
+-- `bookmark`, a text; `nil` if it is null or absent
 abbrev pub bookmark_given : Option Value → Option (List ℕ)
 bookmark_given None = Some (codes "nil")
 bookmark_given (Some null) = Some (codes "nil")
 bookmark_given (Some (text t)) = Some t
 bookmark_given (Some v) = None
 
--- `conflicts`, true or false, and false where it is absent
+-- `conflicts`, true or false; false if it is absent
 abbrev pub conflicts_of : Option Value → Option Bool
 conflicts_of None = Some false
 conflicts_of (Some (flag b)) = Some b
@@ -200,6 +200,6 @@ query_with fields m =
 abbrev pub query_of : Value → Result Query QueryError
 query_of v = or_fault Shape (shaped v) >>= query_with (member_of (codes "fields") v)
 
--- the faults that are found without memory: a wrong shape, and else the first fault of the selector
+-- the fault that is found without taking memory: a wrong shape, or else the first fault of the selector
 abbrev pub early_fault : Value → Option QueryError
 early_fault v = result_err (or_fault Shape (shaped v) >>= (λ m. selector_or_fault (reading m.selector)))

@@ -16,7 +16,7 @@ use Rattle.mg_query.specs.declared.query.Query as code
 abbrev pub lent : Option (Bor Json) → Option Value
 lent = option_map (λ v. view v.now)
 
--- the query that the code's stands for
+-- the query that the code's `Query` stands for
 abbrev pub query_seen : code.Query → Query
 query_seen q = record {
   selector = selector_of q.selector;

@@ -33,10 +33,10 @@ use std::thread::Threads;
 /// The page that answers a query over the indexes of the catalog, and how many rows each shard handed over for it: all
 /// that the query finds there, but at most skip + limit. Each shard must have the indexes of the catalog; others that it
 /// has are ignored. The page does not depend on the number of workers, from 1 to 32, nor on how documents are placed on
-/// shards. The gate is passed before a shard's first row is read and after its last.
+/// shards. The gate is passed before a shard's first row is read, and after its last unless an allocation fails.
 ///
-/// Errors: `NoUsableIndex` if no index serves the query, then `BadBookmark` if its bookmark is of another index or
-/// direction; `NoMemory` if an allocation fails.
+/// Errors: `NoUsableIndex` if no index serves the query, then `BadBookmark` if its bookmark is of another index, direction or
+/// number of columns; `NoMemory` if an allocation fails.
 /// Cost: the choice of the index; in each shard a look-up of where to begin, then a look-up of a document and the selector on
 /// it for each row, until skip + limit are found; the merge of these; copies of what is shown. Source: `_find` of
 /// CouchDB's API reference.
@@ -105,8 +105,8 @@ pub fn page_text<R: Threads + Sync, G: Gate + Sync>(
 /// is not worth a second thread runs on the caller's thread, and passes no gate.
 ///
 /// Errors: those of `page`. Cost: that of `page_text`. On the caller's thread, all shards together find at most skip + limit hits and
-/// one more for each shard, and read no further. If the range of the index decides the whole selector, a document is looked up for
-/// each hit that the page shows, and each row that it skips costs a step.
+/// one more for each shard, and read no further. If the range of the index decides the whole selector, documents are looked up only
+/// for the hits that the page shows, and most rows that it skips are passed over by counts.
 pub fn page_text_by<R: Threads + Sync, G: Gate + Sync>(
     rt: &R,
     alloc: Global,

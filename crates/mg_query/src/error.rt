@@ -14,7 +14,7 @@ pub enum QueryError {
     /// An operator that is not known.
     #[error("unknown operator")]
     InvalidOperator,
-    /// An operator with an argument that it does not take.
+    /// An operator with an argument that it does not take, or a path of the selector with an empty step.
     #[error("bad argument for an operator")]
     BadArg,
     /// The text is not a bookmark.
@@ -97,7 +97,7 @@ pub enum PageError {
     /// No index serves the query's sort.
     #[error("no index is usable")]
     NoUsableIndex,
-    /// The bookmark is of another index or direction.
+    /// The bookmark is of another index or direction, or its key has another number of values than the index has columns.
     #[error("invalid bookmark")]
     BadBookmark,
     /// An allocation failed.

@@ -18,8 +18,8 @@ use std::alloc::Global;
 /// `{"dbname":..,"fields":..,"index":..,"limit":..,"range":..,"selector":..,"skip":..}`, with `fields` and `selector`
 /// as they were given (`"all_fields"` if the fields are absent or empty), the index as it is listed, and the range of its keys.
 ///
-/// Errors: `NoUsableIndex` where no index serves the query, then `BadBookmark` where its bookmark is of another index
-/// or direction; `NoMemory` if an allocation fails.
+/// Errors: `NoUsableIndex` if no index serves the query, then `BadBookmark` if its bookmark is of another index, direction
+/// or number of columns; `NoMemory` if an allocation fails.
 /// Cost: the size of the query, and for each definition its columns times the query's atoms. Source: `_explain` of
 /// CouchDB's API reference.
 pub fn explain(
@@ -63,7 +63,7 @@ fn render_explanation(
     Ok(explanation)
 }
 
-// The fields as they were given, `all_fields` where they are absent or empty.
+// The fields as they were given; `all_fields` if they are absent or empty.
 fn render_fields(alloc: Global, fields: Option<&Json>) -> Result<Json, NoMemory>
     ensures { IfOk result (λ v. view v ≡ rendered_fields_of (lent fields.entry)) }
 {

@@ -1,5 +1,5 @@
 //! The paths of `fields`, and the paths and directions of `sort`.
-ghost use Rattle.std.specs.Prelude.{◌≡◌, map};
+ghost use Rattle.std.specs.Prelude.{map};
 ghost use Rattle.mg_value.specs.View.{view};
 ghost use Rattle.mg_index.specs.Reading.{each_of, field_direction as direction_given};
 ghost use Rattle.mg_selector.specs.Fault.{or_fault};

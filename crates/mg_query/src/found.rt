@@ -173,7 +173,7 @@ fn search_of<'a>(query: &Query<'_>, plan: &'a Plan<'_>, range: &'a RowRange<'_>)
     }
 }
 
-// The hits of the page, and how many of the first of them the page does not show.
+// The hits that the page shows, after some that it skips; the number says how many come before those that it shows.
 fn page_hits<'a, R: Threads + Sync, G: Gate + Sync>(
     rt: &R,
     alloc: Global,

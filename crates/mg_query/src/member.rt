@@ -1,4 +1,4 @@
-//! The members of a query's body, lent from it. Only `named` takes memory.
+//! The members of a query's body, lent from it. Only `to_hint` takes memory.
 ghost use Rattle.std.specs.Prelude.{◌≡◌, Some, map, option_map};
 ghost use Rattle.mg_value.specs.Value.{item, list, no_items, whole};
 ghost use Rattle.mg_value.specs.View.{view, items_view};
@@ -199,7 +199,7 @@ impl GivenHint<'_> {
     ghost use Rattle.mg_index.specs.View.{hint_of as hint_named};
 
     // A copy of the hint, with `_design/` put before a design document that does not begin with it.
-    pub(crate) fn named(self, alloc: Global) -> Result<Hint, NoMemory>
+    pub(crate) fn to_hint(self, alloc: Global) -> Result<Hint, NoMemory>
         ensures { IfOk result (λ hint. hint_named hint ≡ hint_seen self.entry) }
     {
         match self {

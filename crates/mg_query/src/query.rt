@@ -52,7 +52,7 @@ impl<'a> Query<'a> {
     /// - `limit` and `skip`, whole numbers from 0 to 2,147,483,647; 25 and 0 if they are absent.
     /// - `sort`, an array whose items are paths, for ascending order, and `{path: "asc"}` or `{path: "desc"}`.
     /// - `fields`, an array whose items are paths. Without one, documents are shown whole.
-    /// - `use_index`, a design document, or an array: `[]`, `[ddoc]` or `[ddoc, name]`.
+    /// - `use_index`, a design document, or an array: `[]`, `[ddoc]` or `[ddoc, name]`; `ddoc` may lack `_design/`.
     /// - `conflicts`, true or false; `bookmark`, null or a text. Other members are ignored.
     ///
     /// Errors, in this order: `Shape` for any other body, or a path of `sort` or `fields` with an empty step; the
@@ -102,7 +102,7 @@ fn query_with<'a>(
     let selector = Sel::read(alloc, members.selector)?;
     let bookmark = read_bookmark(alloc, members.bookmark)?;
     let direction = one_direction(&directions)?;
-    let hint = members.hint.named(alloc)?;
+    let hint = members.hint.to_hint(alloc)?;
     Ok(Query {
         selector,
         fields,

@@ -141,7 +141,7 @@ impl<'a> Source<'a> {
         }
     }
 
-    // What a scan of it reads in each shard that has it.
+    // What a scan of this index reads in each shard that has the index.
     pub(crate) fn target(self) -> Target<'a>
         ensures { (ds : List IndexDefinition) → IsListed ds (source_seen self.entry)
             → target_columns result ds ≡ Some (source_columns (source_seen self.entry)) }
@@ -155,7 +155,7 @@ impl<'a> Source<'a> {
         }
     }
 
-    // The range of its keys in which a query looks.
+    // The range of keys that a query has to read in this index.
     pub(crate) fn range(self, alloc: Global, normal: &Normal) -> Result<KeyRange, NoMemory>
         ensures { IfOk result
             (λ r. r ≡ range_of normal.now.atoms (source_columns (source_seen self.entry))) }

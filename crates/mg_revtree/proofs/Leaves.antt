@@ -111,9 +111,6 @@ or_false : (a b : Bool) → a || b ≡ false → (a ≡ false) × (b ≡ false)
 or_false true b h = cc
 or_false false b h = (refl, h)
 
-or_false_is : (a b : Bool) → a ≡ false → b ≡ false → a || b ≡ false
-or_false_is a b h k = rw (h, k) refl
-
 pub head_known : (r : Revision) (rs : List Revision) → is_at r (newest_of rs) ≡ true → is_known r (links rs) ≡ true
 head_known r [] h = cc
 head_known r (q ∷ qs) h = rw h refl

@@ -190,6 +190,6 @@ put_between l [] (suc i) h = absurd h
 put_between l (m ∷ ls) (suc i) h = rw h.0 (ap (λ xs. m ∷ xs) (put_between l ls i h.1))
 
 -- an optional place of a revision's leaf is there exactly where the revision is a leaf
-pub leaf_told : (r : Revision) (ls : List Leaf) (o : Option ℕ) → IfSome o (λ i. (i < length ls) × IsLeafAt r ls i) → IfNone o (AreRanked ls → leaf_in r ls ≡ None) → AreRanked ls → is_some o ≡ is_some (leaf_in r ls)
-leaf_told r ls None found absent h = sym (ap is_some (absent h))
-leaf_told r ls (Some i) found absent h = sym (at_some r ls i found.1)
+pub found_if_leaf : (r : Revision) (ls : List Leaf) (o : Option ℕ) → IfSome o (λ i. (i < length ls) × IsLeafAt r ls i) → IfNone o (AreRanked ls → leaf_in r ls ≡ None) → AreRanked ls → is_some o ≡ is_some (leaf_in r ls)
+found_if_leaf r ls None found absent h = sym (ap is_some (absent h))
+found_if_leaf r ls (Some i) found absent h = sym (at_some r ls i found.1)

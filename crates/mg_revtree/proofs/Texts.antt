@@ -87,11 +87,6 @@ map-insert f xs zero x = refl
 map-insert f [] (suc i) x = refl
 map-insert f (y ∷ xs) (suc i) x = ap (λ zs. f y ∷ zs) (map-insert f xs i x)
 
--- the first of some parts
-abbrev pub first : List IdPart → Option IdPart
-first [] = None
-first (p ∷ ps) = Some p
-
 module _ (t : List ℕ) where
   joined_parent : (n : ℕ) (a b : Option IdPart) → option_map {U = Revision} (λ p. (n - 1, text_of_part t p)) (option_or a b) ≡ option_or (option_map {U = Revision} (λ p. (n - 1, text_of_part t p)) a) (option_map {U = Revision} (λ p. (n - 1, text_of_part t p)) b)
   joined_parent n None b = refl
@@ -157,9 +152,3 @@ grown-grown xs ys zs g k = record {
 pub parts-step : {X : Type 0} (f : X → List ℕ) (t t' : List ℕ) (k : Grows t t') (ps : List IdPart) (p : IdPart) (xs : List X) (i : ℕ) (x : X) → PartsWithin (length t) ps → map (text_of_part t) ps ≡ map f (take i xs) → text_of_part t' p ≡ f x → i < length xs → x ≡ get_or xs i x → map (text_of_part t') (ps ++ p ∷ []) ≡ map f (take (i + 1) xs)
 parts-step f t t' k ps p xs i x within done new lt is =
     map_push (text_of_part t') ps p ∙ ap (λ ss. ss ++ text_of_part t' p ∷ []) (grown-parts t t' k ps within ∙ done) ∙ ap (λ s. map f (take i xs) ++ s ∷ []) (new ∙ ap f is) ∙ sym (map_more f xs i x lt)
-
-pub first-within : (n : ℕ) (ps : List IdPart) (i : ℕ) → PartsWithin n ps → ParentWithin n (first (drop i ps))
-first-within n [] zero h = tt
-first-within n [] (suc i) h = tt
-first-within n (p ∷ ps) zero h = h.0
-first-within n (p ∷ ps) (suc i) h = first-within n ps i h.1

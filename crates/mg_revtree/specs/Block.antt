@@ -11,7 +11,7 @@ block_value Empty = object no_members
 block_value (Own body) = body
 block_value (Served form) = bare form
 
--- a block of a form holds the form of a body: of what is left without the id and the revision
+-- a form in a block is the form of some body, which is the form without its id and its revision
 abbrev pub IsFormIfServed : Block → Type 0
 IsFormIfServed Empty = ⊤
 IsFormIfServed (Own body) = ⊤

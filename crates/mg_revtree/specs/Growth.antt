@@ -26,7 +26,7 @@ tree_in (Pair pair) = pair
 tree_in (Line leaf known) = line_tree known.value leaf
 tree_in (Grown grown) = grown.value
 
--- whether it has no revision
+-- whether the tree has no revision
 abbrev pub is_empty : Growth → Bool
 is_empty Empty = true
 is_empty (First leaf) = false

@@ -56,7 +56,7 @@ impl Body {
         Body { block }
     }
 
-    // The body that a form shows, in the form's block.
+    // The body that a form holds, in the form's block.
     fn within(form: Form) -> Body
         requires { IsFormOf (bare form) form }
         ensures { result ≡ bare form }
@@ -78,9 +78,9 @@ impl Body {
     /// The form of the body: the body with this id as `_id` and this revision as `_rev`, in one block. A body that is not an object
     /// is its own form.
     ///
-    /// Errors: `NoMemory` if an allocation fails. Cost: three copies of the body's bytes, the text of the form, and a copy of the
-    /// text. If the body is already in the block of this form, the block is shared and nothing is copied. If it is in the block of
-    /// another form, it is first copied out.
+    /// Errors: `NoMemory` if an allocation fails, if a block would be longer than 4,294,967,295 bytes, or if there are too many references
+    /// to a shared block. Cost: three copies of the body's bytes, the text of the form, and a copy of the text. If the body is already in
+    /// the block of this form, the block is shared and nothing is copied. If it is in the block of another form, it is first copied out.
     pub fn form(&self, alloc: Global, id: &str, rev: &str) -> Result<Form, NoMemory>
         ensures { IfOk result (λ form. form ≡ as_form (string id.now) (string rev.now) self.now) }
     {

@@ -23,7 +23,7 @@ impl From<NoMemory> for RevError {
     }
 }
 
-/// What a merge found of the newest revision of the path.
+/// Whether a merge found the newest revision of its path new or known.
 #[derive(Clone, Copy, PartialEq, Eq, Debug, Drop)]
 pub enum Merged {
     /// The tree did not know it.
@@ -59,19 +59,19 @@ impl From<NoMemory> for MergeError {
 pub enum TreeRefusal {
     /// The revision to extend is not a leaf; or no revision is named, but the tree has leaves.
     NotLeaf,
-    /// That revision has the last position, 4,294,967,295.
+    /// The revision to extend has the last position, 4,294,967,295.
     Full,
     /// The new revision is already known.
     Known,
 }
 
-/// Why a revision was not extended.
+/// Why a new revision was not made: a refusal, or lack of memory.
 #[derive(Clone, Copy, PartialEq, Eq, Debug, Drop, Error)]
 pub enum TreeError {
     /// The revision to extend is not a leaf; or no revision is named, but the tree has leaves.
     #[error("the revision is no leaf")]
     NotLeaf,
-    /// The revision has the last position, 4,294,967,295.
+    /// The revision to extend has the last position, 4,294,967,295.
     #[error("the revision has the last position")]
     Full,
     /// The new revision is already known.

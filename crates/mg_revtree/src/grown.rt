@@ -149,7 +149,7 @@ impl Grown {
     }
 }
 
-// The known revisions of a tree that has this one alone.
+// The known revisions of a tree of this revision alone.
 fn links_of(alloc: Global, rev: &Rev) -> Result<KnownLinks, NoMemory>
     ensures { IfOk result (λ known. AreNodes known (links (rev.now ∷ []))) }
 {
@@ -159,7 +159,7 @@ fn links_of(alloc: Global, rev: &Rev) -> Result<KnownLinks, NoMemory>
     Ok(known)
 }
 
-/// The leaves of a tree that has this one alone, with capacity for one more.
+/// The list of this leaf alone, with capacity for one more.
 pub(crate) fn leaves_of(alloc: Global, first: &SharedLeaf) -> Result<Vec<SharedLeaf>, NoMemory>
     ensures { IfOk result (λ leaves. leaves.items ≡ first.now ∷ []) }
 {

@@ -1,5 +1,5 @@
 //! How a revision tree is kept, by how far it has grown.
-ghost use Rattle.std.specs.Prelude.{◌≡◌, ◌<◌, ◌≤◌, ◌+◌, List, [], ◌∷◌, IfOk, IfSome, OnErr, OnOk, is_some, length, map, option_map, string_bytes};
+ghost use Rattle.std.specs.Prelude.{◌≡◌, ◌<◌, ◌≤◌, ◌+◌, List, IfOk, IfSome, OnErr, OnOk, is_some, length, map, option_map, string_bytes};
 ghost use Rattle.mg_revtree.specs.Revision.{run_from};
 ghost use Rattle.mg_revtree.specs.Body.{IsFormOf};
 ghost use Rattle.mg_revtree.specs.History.{Paths, Link, are_held, first_of, fit, links};
@@ -21,7 +21,7 @@ use std::alloc::Global;
 use std::slice;
 
 /// How a tree is kept. Most documents have one revision: their tree is its leaf alone. The tree of a document that was edited or
-/// deleted once is its leaf and the id of its parent.
+/// deleted once is its leaf and the id of the leaf's parent, if that id has 32 bytes.
 #[derive(Drop)]
 pub(crate) enum Growth {
     // no revision
@@ -36,8 +36,8 @@ pub(crate) enum Growth {
     Grown(Box<Grown>),
 }
 
-// Every document has a tree, so its size counts. A pair takes the most: it holds the id of the parent, which takes less memory than a
-// block for the id would.
+// Every document has a tree, so the size of this type counts. `Pair` is the largest case, since it holds the id of the parent in place: a
+// block for that id would take more memory.
 const _: () = prove!(size_of::<Growth>() == 48);
 
 impl Growth {
@@ -147,8 +147,8 @@ impl Growth {
         Ok(Growth::First(leaf))
     }
 
-    /// Accepts a run that fits, given by its start and its ids, newest first. The tree is then a line if it has one leaf and never had
-    /// more; otherwise it has lists. An error leaves it as it was.
+    /// Accepts a run that fits, given by its start and its ids, newest first. The tree is then a pair or a line if it has one leaf and
+    /// never had more; otherwise it has lists. An error leaves it as it was.
     pub fn accept(
         &mut self,
         alloc: Global,

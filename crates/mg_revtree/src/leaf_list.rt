@@ -6,7 +6,6 @@ ghost use Rattle.mg_revtree.specs.Tree.{AreApart, AreRanked, leaf_in};
 ghost use Rattle.mg_revtree.specs.Steps.{IsBetween, IsLeafAt, IsTied, marked_as};
 
 use crate::leaf::{Leaf, SharedLeaf};
-use crate::revision::Rev;
 use mg_value::NoMemory;
 use std::alloc::Global;
 
@@ -79,7 +78,7 @@ fn place_for(leaves: &[SharedLeaf], leaf: &Leaf) -> Result<usize, usize>
     leaves.binary_search_by(|other| leaf.order(other.leaf()))
 }
 
-// The place where a leaf of another revision goes.
+// The place where a leaf goes whose revision is not among these leaves.
 fn rank(leaves: &[SharedLeaf], leaf: &Leaf) -> usize
     ensures within { result ≤ length leaves.now }
     ensures ranked { AreRanked leaves.now → leaf_in leaf.now.rev leaves.now ≡ None

@@ -42,7 +42,7 @@ impl Model for Pair {
 }
 
 impl Pair {
-    /// The pair of a leaf and its parent, if these are the known revisions, and the parent's id has 32 bytes. Takes no memory.
+    /// The pair of a leaf and its parent, if no other revision is known, and the parent's id has 32 bytes. Takes no memory.
     /// Errors: `NoMemory` if there are too many references to the leaf.
     pub fn of(leaf: &SharedLeaf, known: &KnownLinks) -> Result<Option<Pair>, NoMemory>
         ensures { IfOk result (λ found. IfSome found (λ pair. pair ≡ line_tree known.now leaf.now)) }
@@ -133,7 +133,7 @@ impl LookUp for Pair {
     }
 }
 
-// The id of a revision's parent, if the known revisions are these two, and the id has 32 bytes.
+// The id of a revision's parent, if no other revision than the two is known, and the parent's id has 32 bytes.
 fn parent_of(rev: &Rev, known: &KnownLinks) -> Option<[u8; 32]>
     ensures { IfSome result (λ parent. (0 < rev.now.0) × (known.now ≡ pair_links rev.now parent)) }
 {

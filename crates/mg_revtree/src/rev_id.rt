@@ -17,8 +17,8 @@ pub(crate) enum HeldRevId {
     Text(String),
 }
 
-/// The id of a revision. One of exactly 32 bytes, as every id that is made here, is stored in the value itself, since a block for
-/// each id costs memory. Any other id has a block. Contracts see the bytes.
+/// The id of a revision. An id of exactly 32 bytes is stored in the value itself, since a block for each id would take more memory; each
+/// id that `rev_id` of `mg_doc` makes has 32 bytes. Any other id has a block. Contracts see the bytes.
 #[derive(Debug, Drop)]
 pub struct RevId {
     held: HeldRevId,
@@ -36,7 +36,8 @@ impl Model for RevId {
 }
 
 impl RevId {
-    /// The id that this text is. Takes no memory: the block of a text of 32 bytes is freed, and any other text keeps its block.
+    /// Turns a text into an id. Takes no memory: a text of 32 bytes is copied into the value, and its block is freed; any other text
+    /// keeps its block.
     pub fn of(id: String) -> RevId
         ensures { result ≡ string_bytes id }
     {

@@ -53,7 +53,7 @@ impl Rev {
         })
     }
 
-    /// The text `N-id`. Cost: the length of the id.
+    /// The text `N-id`. Errors: `NoMemory` if an allocation fails. Cost: the length of the id.
     pub fn text(&self, alloc: Global) -> Result<String, NoMemory>
         ensures { IfOk result (λ text. string_bytes text ≡ revision_text self.now) }
     {

@@ -1,4 +1,4 @@
-ghost use Rattle.std.specs.Prelude.{◌≡◌, ◌+◌, ◌<◌, ◌≤◌, ◌++◌, [], Err, IfOk, IfSome, IsOk, IsOkUnless, Ok, OnErr, OnOk, false, is_some, length, map, option_copied, string_bytes, true};
+ghost use Rattle.std.specs.Prelude.{◌≡◌, ◌+◌, ◌<◌, ◌≤◌, [], Err, IfOk, IfSome, IsOk, IsOkUnless, Ok, OnErr, OnOk, false, is_some, length, map, option_copied, string_bytes, true};
 ghost use Rattle.mg_revtree.specs.Revision.{run_from};
 ghost use Rattle.mg_revtree.specs.Body.{IsFormOf};
 ghost use Rattle.mg_revtree.specs.History.{Paths, first_of, fits, is_whole, leaves_of, winner_of};
@@ -53,9 +53,9 @@ fn ids_over(alloc: Global, id: String, parent: Option<&Rev>) -> Result<Vec<Strin
 /// and bodies. Contracts speak of every list of accepted paths that the tree stands for.
 ///
 /// A body is kept once, at its leaf, in at most one block of memory. Most documents have one revision; their tree is its leaf alone.
-/// That of a document which was edited or deleted once is its leaf and the id of its parent. Any other tree has two lists of known
-/// revisions, an older and a newer one. It keeps the id of a revision in one of them, or in both, and once more if the revision is
-/// a leaf.
+/// The tree of a document that was edited or deleted once is its leaf and the id of the leaf's parent, if that id has 32 bytes. Any
+/// other tree has two lists of known revisions, an older and a newer one. It keeps the id of a revision in one of them, or in both, and
+/// once more if the revision is a leaf.
 #[derive(Drop)]
 pub struct RevTree {
     alloc: Global,
@@ -84,7 +84,7 @@ impl RevTree {
         }
     }
 
-    /// The best leaf, by `Leaf::order`. Takes no memory.
+    /// The best leaf, by `Leaf::order`; `None` in a tree without leaves. Takes no memory.
     pub fn winner(&self) -> Option<&Leaf>
         ensures winner { (h : Paths) → StandsFor self.now h → option_copied result ≡ winner_of h }
         ensures first { option_copied result ≡ first_of self.now.leaves }
@@ -96,9 +96,9 @@ impl RevTree {
         Some(leaves[0].leaf())
     }
 
-    /// Moves the winner's body into the block of the form in which the document is served, so that both take one block. The body
-    /// stays where it is if a copy of the tree shares the winner, if it has no block of its own, or if it has `_id` or `_rev` as a
-    /// member. Contracts see the same tree. Takes no memory. Cost: two look-ups of a member in the body.
+    /// Moves the winner's body into the block of the form in which the document is served, so that both take one block. `form` must be
+    /// a form of that body. The body stays where it is if a copy of the tree shares the winner, if it has no block of its own, or if it
+    /// has `_id` or `_rev` as a member. Contracts see the same tree. Takes no memory. Cost: two look-ups of a member in the body.
     pub fn move_body_into(&mut self, form: Form)
         requires { IfSome (first_of self.old.leaves) (λ l. IsFormOf l.body form) }
         ensures { self.new ≡ self.old }
@@ -137,8 +137,8 @@ impl RevTree {
     /// A copy of the tree. It shares the leaves with their bodies, and the older known revisions.
     ///
     /// Errors: `NoMemory` if an allocation fails, or if there are too many references to what is shared. Cost: one reference count for
-    /// each leaf; for a tree of more than a leaf and its parent also copies of the two blocks that hold the newer known revisions, of
-    /// which there are at most 64, or about four times the square root of the number of older ones.
+    /// each leaf; for a tree with two lists of known revisions also copies of the two blocks that hold the newer list, which has at most
+    /// 64 revisions, or about four times the square root of the number of older ones.
     pub fn copy(&self, alloc: Global) -> Result<RevTree, NoMemory>
         ensures { IfOk result (λ tree. tree ≡ self.now) }
     {
@@ -185,15 +185,15 @@ impl RevTree {
     /// become known, and known ones without a parent get the parent that the path gives them. If the newest
     /// revision is already known, it keeps its mark and its body. A path that is known whole changes nothing.
     ///
-    /// Errors: `BadHistory` if the path contradicts a known parent; else `NoMemory` if an allocation fails, or if the ids of the known
-    /// revisions take more than 4,294,967,295 bytes. Neither a bad path nor one that is known whole needs memory. An error leaves the
-    /// tree as it was.
+    /// Errors: `BadHistory` if the path contradicts a known parent; else `NoMemory` if an allocation fails, if the ids of the known
+    /// revisions take more than 4,294,967,295 bytes, or if there are too many references to a leaf. Neither a bad path nor one that is
+    /// known whole needs memory. An error leaves the tree as it was.
     ///
-    /// Cost: the length of the path times the logarithms of the known revisions and of the leaves, a move of one pointer for each leaf,
-    /// and one pass over those of the newer known revisions that are at higher positions than the lowest unknown revision of the path.
-    /// If the path extends the branch with the highest positions, there are none. The body keeps its block and is not copied. If the
-    /// newer revisions and those of the path are more than 64, and more than about four times the square root of the number of older
-    /// ones, all known revisions are copied too. Source: the replication model of CouchDB.
+    /// Cost: the length of the path times the logarithms of the known revisions and of the leaves; for each leaf that is added or removed,
+    /// a move of one pointer for each leaf after it; and one pass over the newer known revisions at higher positions than the lowest
+    /// unknown revision of the path. There are no such revisions if the path extends the branch with the highest positions. The body keeps
+    /// its block and is not copied. If the newer revisions and those of the path are more than 64, and more than about four times the
+    /// square root of the number of older ones, all known revisions are copied too. Source: the replication model of CouchDB.
     pub fn merge(
         &mut self,
         path: &History,

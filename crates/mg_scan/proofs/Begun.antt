@@ -7,7 +7,7 @@ use Rattle.mg_collate.specs.Sorted.{sorted_with, sorted}
 use Rattle.mg_index.specs.Definition.{IndexDefinition, Steps}
 use Rattle.mg_scan.specs.Begun.{IsBegunIn}
 use Rattle.mg_scan.specs.Hit.{IsHitOf}
-use Rattle.mg_scan.specs.Lead.{AreServed, IsLeadUnread, IsLeadOf, lead_rows, rows_on_way, unasked}
+use Rattle.mg_scan.specs.Lead.{AreServed, IsLeadUnread, IsLeadOf, lead_rows, rows_on_way, without_selector}
 use Rattle.mg_scan.specs.Scan.{all_scanned}
 use Rattle.mg_scan.specs.Search.{search_input}
 use Rattle.mg_scan.specs.Way.{begin_at, walked_all_by}
@@ -101,19 +101,19 @@ held_step s ds r true xs ys (Some form) e f g = refl
 held_step s ds r false xs ys (Some form) e f g = ap (λ zs. r ∷ zs) g
 
 -- rows of served documents are all found where nothing is asked of them
-on_way : (s : Search) (ds : KeptDocuments) (rows : List RowValue) → AreServed ds rows → rows_on_way s rows ≡ walked_all_by (unasked s) ds rows
+on_way : (s : Search) (ds : KeptDocuments) (rows : List RowValue) → AreServed ds rows → rows_on_way s rows ≡ walked_all_by (without_selector s) ds rows
 on_way s ds [] h = refl
 on_way s ds (r ∷ rows) h =
-    held_step s ds r (is_late_row s.direction s.range.now r) (rows_on_way s rows) (walked_all_by (unasked s) ds rows) (form_at ds r.1) refl h.0 (on_way s ds rows h.1)
+    held_step s ds r (is_late_row s.direction s.range.now r) (rows_on_way s rows) (walked_all_by (without_selector s) ds rows) (form_at ds r.1) refl h.0 (on_way s ds rows h.1)
 
 -- all rows on the way from there are all that there are, where nothing is asked of documents
 pub begun_leads : (at : Option (List Steps)) (s : Search) (shard : ShardView) (l : Unread) → IsBegunIn at s shard l
-    → lead_rows s l ≡ option_map_or (λ columns. all_scanned (search_input (unasked s) columns) (docs_of shard.documents)) at []
+    → lead_rows s l ≡ option_map_or (λ columns. all_scanned (search_input (without_selector s) columns) (docs_of shard.documents)) at []
 begun_leads at s shard (left.Rows rows) b =
-    on_way s shard.documents rows (served_begun s shard.documents b.0 rows b.2) ∙ begun_hits at (unasked s) shard (left.Rows rows) b
+    on_way s shard.documents rows (served_begun s shard.documents b.0 rows b.2) ∙ begun_hits at (without_selector s) shard (left.Rows rows) b
 begun_leads at s shard (left.Documents documents) b =
-    begun_hits at (unasked s) shard (left.Documents documents) (b.0, record { own = b.1.own; begun = b.1.begun })
-begun_leads at s shard left.Nothing b = begun_hits at (unasked s) shard left.Nothing b
+    begun_hits at (without_selector s) shard (left.Documents documents) (b.0, record { own = b.1.own; begun = b.1.begun })
+begun_leads at s shard left.Nothing b = begun_hits at (without_selector s) shard left.Nothing b
 
 pub begun_led : (at : Option (List Steps)) (s : Search) (shard : ShardView) (l : Unread) → IsBegunIn at s shard l → (lead : Lead) → IsLeadUnread shard l lead → IsLeadOf shard lead
 begun_led at s shard (left.Rows rows) b lead lent = lent (served_begun s shard.documents b.0 rows b.2)

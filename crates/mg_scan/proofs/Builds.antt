@@ -54,7 +54,7 @@ join-at P (y ∷ xs) ys h more (suc i) x e =
     join-at (λ k z. P (suc k) z) xs ys (λ k z f. h (suc k) z f)
     (λ k z f. let same : suc (length xs) + k ≡ suc (length xs + k) = omega arith in subst (λ n. P n z) same (more k z f)) i x e
 
--- the rows so far, and those of the shards behind
+-- the rows so far, and those of the further shards
 pub rows-joined : (d : IndexDefinition) (shards : List ShardView) (xs ys : List Extracted) (from : ℕ) → from ≡ length xs → AreRowsAt d shards xs → AreRowsFrom d shards from ys → AreRowsAt d shards (xs ++ ys)
 rows-joined d shards xs ys from long h more i x e =
     join-at (HasRowsAt d shards) xs ys h (λ k z f. subst (λ n. HasRowsAt d shards (n + k) z) long (more k z f)) i x e

@@ -14,7 +14,7 @@ use Rattle.mg_range.specs.Range.{Range, range_of}
 use Rattle.mg_range.proofs.Deciding.{decides_rows}
 use Rattle.mg_scan.specs.Decided.{IsDecidedIn, everything}
 use Rattle.mg_scan.specs.Found.{scan_input}
-use Rattle.mg_scan.specs.Lead.{unasked}
+use Rattle.mg_scan.specs.Lead.{without_selector}
 use Rattle.mg_scan.specs.Scan.{all_scanned, comes_after, is_wanted}
 use Rattle.mg_scan.specs.Search.{after_of, search_input, found_by}
 use Rattle.mg_scan.specs.declared.search.Search.{Search}
@@ -49,17 +49,17 @@ scanned_alike n columns range after count direction alone decides is ds =
     ∙ sym (filter-both (is_wanted q) within (sorted_rows direction rows))
     ∙ ap (filter (is_wanted q)) (sym (sorted_rows-where within direction rows) ∙ ap (sorted_rows direction) decided)
 
-found_alike : (s : Search) (shard : ShardView) → IsDecidedIn s.target s.normal.now s.range.now shard → found_by (unasked s) shard ≡ found_by s shard
+found_alike : (s : Search) (shard : ShardView) → IsDecidedIn s.target s.normal.now s.range.now shard → found_by (without_selector s) shard ≡ found_by s shard
 found_alike s shard d =
     let ds = docs_of shard.documents in
-    ap (λ o. option_map_or (λ columns. take s.take (all_scanned (search_input (unasked s) columns) ds)) o []) d.there
+    ap (λ o. option_map_or (λ columns. take s.take (all_scanned (search_input (without_selector s) columns) ds)) o []) d.there
     ∙ ap (take s.take) (scanned_alike s.normal.now d.columns s.range.now (after_of s) s.take s.direction d.alone d.decides d.bounds ds)
     ∙ ap (λ o. option_map_or (λ columns. take s.take (all_scanned (search_input s columns) ds)) o []) (sym d.there)
 
-each_alike : (s : Search) (shards : List ShardView) → AllByRecursion (IsDecidedIn s.target s.normal.now s.range.now) shards → map (found_by (unasked s)) shards ≡ map (found_by s) shards
+each_alike : (s : Search) (shards : List ShardView) → AllByRecursion (IsDecidedIn s.target s.normal.now s.range.now) shards → map (found_by (without_selector s)) shards ≡ map (found_by s) shards
 each_alike s [] h = refl
 each_alike s (shard ∷ shards) h = ap₂ (λ rows lists. rows ∷ lists) (found_alike s shard h.0) (each_alike s shards h.1)
 
 -- where the range decides in each shard, the rows in it alone are what is found
-pub all_alike : (s : Search) (shards : List ShardView) → All (IsDecidedIn s.target s.normal.now s.range.now) shards → map (found_by (unasked s)) shards ≡ map (found_by s) shards
+pub all_alike : (s : Search) (shards : List ShardView) → All (IsDecidedIn s.target s.normal.now s.range.now) shards → map (found_by (without_selector s)) shards ≡ map (found_by s) shards
 all_alike s shards h = each_alike s shards (recursion_from_All (IsDecidedIn s.target s.normal.now s.range.now) shards h)

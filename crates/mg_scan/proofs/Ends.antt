@@ -3,7 +3,7 @@ use Rattle.std.proofs.Common.{◌≡◌, ℕ, zero, suc, ◌-◌, ◌≤◌, Boo
 use Rattle.std.specs.List.{AllByRecursion}
 use Rattle.mg_collate.specs.Row.{RowValue}
 use Rattle.mg_index.specs.Definition.{Steps}
-use Rattle.mg_scan.specs.Begun.{IsBegunIn, IsBehind}
+use Rattle.mg_scan.specs.Begun.{IsBegunIn, IsLeftAfter}
 use Rattle.mg_scan.specs.RangeEnd.{AreBeforeEnd, EndsOnce, index_rows, is_past_at}
 use Rattle.mg_scan.specs.Search.{search_input}
 use Rattle.mg_scan.specs.Walked.{is_late_row}
@@ -48,10 +48,10 @@ ends_once s (r ∷ rows) h zero (suc j) le e = all_past s rows (h.0 e) j
 ends_once s (r ∷ rows) h (suc i) zero le e = absurd (omega (arith, le))
 ends_once s (r ∷ rows) h (suc i) (suc j) le e = ends_once s rows h.1 i j (omega (arith, le)) e
 
-ends_behind : (s : Search) (n : ℕ) (rows : List RowValue) → EndsOnce s rows → EndsOnce s (drop n rows)
-ends_behind s zero rows h = h
-ends_behind s (suc n) [] h = h
-ends_behind s (suc n) (r ∷ rows) h = ends_behind s n rows (ends_on s r rows h)
+ends_after : (s : Search) (n : ℕ) (rows : List RowValue) → EndsOnce s rows → EndsOnce s (drop n rows)
+ends_after s zero rows h = h
+ends_after s (suc n) [] h = h
+ends_after s (suc n) (r ∷ rows) h = ends_after s n rows (ends_on s r rows h)
 
 -- ---- rows that are left of an index
 
@@ -61,8 +61,8 @@ begun_ends at s shard (left.Rows rows) b = ends_once s rows (late_rows (search_i
 begun_ends at s shard (left.Documents documents) b = λ i j le e. refl
 begun_ends at s shard left.Nothing b = λ i j le e. refl
 
--- behind the first n rows
-pub behind_ends : (s : Search) (n : ℕ) (l m : Unread) → IsBehind n l m → EndsOnce s (index_rows l) → EndsOnce s (index_rows m)
-behind_ends s n (left.Rows rows) m e h = subst (λ (x : Unread). EndsOnce s (index_rows x)) (sym e) (ends_behind s n rows h)
-behind_ends s n (left.Documents documents) m e h = subst (λ (x : Unread). EndsOnce s (index_rows x)) (sym e.1) h
-behind_ends s n left.Nothing m e h = subst (λ (x : Unread). EndsOnce s (index_rows x)) (sym e) h
+-- after the first n rows
+pub left_ends_after : (s : Search) (n : ℕ) (l m : Unread) → IsLeftAfter n l m → EndsOnce s (index_rows l) → EndsOnce s (index_rows m)
+left_ends_after s n (left.Rows rows) m e h = subst (λ (x : Unread). EndsOnce s (index_rows x)) (sym e) (ends_after s n rows h)
+left_ends_after s n (left.Documents documents) m e h = subst (λ (x : Unread). EndsOnce s (index_rows x)) (sym e.1) h
+left_ends_after s n left.Nothing m e h = subst (λ (x : Unread). EndsOnce s (index_rows x)) (sym e) h

@@ -11,7 +11,7 @@ use Rattle.mg_merge.specs.Pulled.{IsGivenBy}
 use Rattle.mg_normal.specs.Normal.{normal_holds}
 use Rattle.mg_scan.specs.Decided.{IsDecidedIn, everything}
 use Rattle.mg_scan.specs.Hit.{AreHitsIn, IsHitIn, IsHitOf, hit_row, hit_rows}
-use Rattle.mg_scan.specs.Lead.{AreLeadsIn, IsLeadIn, IsLeadUnread, IsLeadOf, IsLeadSourceOf, lead_row, lead_rows, unasked}
+use Rattle.mg_scan.specs.Lead.{AreLeadsIn, IsLeadIn, IsLeadUnread, IsLeadOf, IsLeadSourceOf, lead_row, lead_rows, without_selector}
 use Rattle.mg_scan.specs.Search.{found_by}
 use Rattle.mg_scan.specs.Sourced.{walked_on}
 use Rattle.mg_scan.specs.Walked.{list_of_option}
@@ -59,16 +59,16 @@ abbrev pub lead_rests : LeadSource → List RowValue
 lead_rests x = lead_rows x.search x.left
 
 pub leads_size : (s : Search) (shards : List ShardView) (sources : List LeadSource) → AllZip (IsLeadSourceOf s) shards sources → length sources ≡ length shards
-leads_size s shards sources h = sources_size (unasked s) (IsLeadSourceOf s) lead_rests (λ shard x is. is.rows) shards sources h
+leads_size s shards sources h = sources_size (without_selector s) (IsLeadSourceOf s) lead_rests (λ shard x is. is.rows) shards sources h
 
 pub leads_in_order : (s : Search) (shards : List ShardView) (sources : List LeadSource) → AllZip (IsLeadSourceOf s) shards sources → All (IsInOrder s.direction) (map lead_rests sources)
-leads_in_order s shards sources h = sources_in_order (unasked s) (IsLeadSourceOf s) lead_rests (λ shard x is. is.rows) shards sources h
+leads_in_order s shards sources h = sources_in_order (without_selector s) (IsLeadSourceOf s) lead_rests (λ shard x is. is.rows) shards sources h
 
 -- where the range decides in each shard, the merge of their rows is that of what is found
 pub leads_merged : (s : Search) (shards : List ShardView) (sources : List LeadSource) → AllZip (IsLeadSourceOf s) shards sources → All (IsDecidedIn s.target s.normal.now s.range.now) shards
     → merged s.direction s.take (map lead_rests sources) ≡ merged s.direction s.take (map (found_by s) shards)
 leads_merged s shards sources h decided =
-    sources_merged (unasked s) (IsLeadSourceOf s) lead_rests (λ shard x is. is.rows) shards sources h ∙ ap (merged s.direction s.take) (all_alike s shards decided)
+    sources_merged (without_selector s) (IsLeadSourceOf s) lead_rests (λ shard x is. is.rows) shards sources h ∙ ap (merged s.direction s.take) (all_alike s shards decided)
 
 -- what the sources give are leads in the shards
 pub leads_given : (s : Search) (shards : List ShardView) (sources : List LeadSource) → AllZip (IsLeadSourceOf s) shards sources → (leads : List Lead)
@@ -98,7 +98,7 @@ drop_end [] (suc i) le = refl
 drop_end (x ∷ leads) zero le = absurd (omega arith)
 drop_end (x ∷ leads) (suc i) le = drop_end leads i (omega arith)
 
--- the hit of a lead comes behind the others
+-- the hit of a lead comes after the others
 pub led_one : (hits : List Hit) (hit : Option Hit) (leads : List Lead) (i : ℕ) (lead : Lead) (all : List RowValue) → i < length leads → lead ≡ get_or leads i lead → option_map hit_row hit ≡ Some (lead_row lead)
     → hit_rows hits ++ map lead_row (drop i leads) ≡ all → hit_rows (hits ++ list_of_option hit) ++ map lead_row (drop (i + 1) leads) ≡ all
 led_one hits None leads i lead all less is e sum = absurd cc

@@ -14,7 +14,7 @@ pub mod Lent
 pub mod Begun
 pub mod Decided
 pub mod Leads
-pub mod Behind
+pub mod AfterFirst
 pub mod Ends
 pub mod AddedUp
 pub mod PassedOver

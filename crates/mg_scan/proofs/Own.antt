@@ -1,5 +1,5 @@
 -- The row of a document among all documents is that of its id.
-use Rattle.std.proofs.Common.{◌≡◌, ℕ, List, ◌∷◌, Option, Some, None, option_map, map, ap, sym, subst, refl, ◌∙◌}
+use Rattle.std.proofs.Common.{◌≡◌, ℕ, List, ◌∷◌, Option, Some, None, option_map, map, ap, sym, refl, ◌∙◌}
 use Rattle.std.specs.Option.{option_and_then}
 use Rattle.mg_collate.specs.Row.{RowValue}
 use Rattle.mg_scan.specs.Way.{entry_rows}
@@ -7,25 +7,20 @@ use Rattle.mg_scan.specs.Sourced.{holds_for, walked_documents, walked_on}
 use Rattle.mg_scan.specs.Walked.{id_row, is_late_row}
 use Rattle.mg_scan.specs.declared.search.Search.{Search}
 use Rattle.mg_scan.proofs.Entries.{own_form}
-use Rattle.mg_scan.proofs.Maps.{some_is}
 use Rattle.mg_scan.proofs.Sources.{among_some}
 use Rattle.mg_scan.proofs.Steps.{keyed, rows_some}
+use Rattle.mg_shard.proofs.Owned.{own_document}
 use Rattle.mg_shard.specs.Documents.{form_of, id_bytes, kept_entry}
-use Rattle.mg_shard.specs.Own.{HasOwnId, IsServedOwn, all_columns}
+use Rattle.mg_shard.specs.Own.{all_columns}
 use Rattle.mg_shard.specs.Rows.{row_key}
 use Rattle.mg_shard.specs.declared.document.Document.{Document}
-use Rattle.mg_shard.specs.declared.served.Served.{Served}
-use Rattle.mg_value.specs.Value.{Items, Value}
-
-own_served : (id : List ℕ) (o : Option Served) → IsServedOwn id o → (form : Value) → option_map (λ s. s.form) o ≡ Some form → HasOwnId id form
-own_served id None own form e = absurd cc
-own_served id (Some s) own form e = subst (HasOwnId id) (some_is (s.form) form e) (own s refl)
+use Rattle.mg_value.specs.Value.{Items}
 
 -- the row of a document that has a key
 pub own_lent : (d : Document) (key : Items) → Some key ≡ option_and_then (row_key all_columns) (form_of d) → ◌≡◌ {A = RowValue} (key, id_bytes d) (id_row (id_bytes d))
 own_lent d key e =
     let id = id_bytes d in
-    own_form id (form_of d) (key, id) (own_served id d.served d.own_id) (keyed id (form_of d) ∙ ap (option_map (λ (k : Items). (k, id))) (sym e))
+    own_form id (form_of d) (key, id) (own_document d) (keyed id (form_of d) ∙ ap (option_map (λ (k : Items). (k, id))) (sym e))
 
 -- such a document is looked at, by the row of its id
 pub among_own : (s : Search) (d : Document) (documents : List Document) (key : Items) (id : List ℕ) → Some key ≡ option_and_then (row_key all_columns) (form_of d) → id ≡ id_bytes d

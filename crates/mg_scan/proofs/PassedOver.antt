@@ -24,18 +24,18 @@ use Rattle.mg_range.specs.declared.side.RangeSide.{RangeSide}
 use Rattle.mg_range.specs.declared.side.RangeSide.TheVariants.{Before, Within, Past}
 use Rattle.mg_scan.specs.Begins.{beyond_rises, row_side, reached}
 use Rattle.mg_scan.specs.Decided.{everything}
-use Rattle.mg_scan.specs.Ahead.{begins_at, count_ahead}
 use Rattle.mg_scan.specs.Found.{all_found_in, scan_input, target_columns}
-use Rattle.mg_scan.specs.Lead.{unasked}
-use Rattle.mg_scan.specs.Passed.{AreDecided, HasPageOf, IsIndex, IsWithin, all_ahead, beyond_row}
+use Rattle.mg_scan.specs.Lead.{without_selector}
+use Rattle.mg_scan.specs.Passed.{AreDecided, HasPageOf, IsIndex, IsWithin, beyond_row, count_all_upcoming}
 use Rattle.mg_scan.specs.Scan.{all_scanned, asked_documents, comes_after, is_wanted}
 use Rattle.mg_scan.specs.Search.{after_of, found_by}
+use Rattle.mg_scan.specs.Upcoming.{begins_at, count_upcoming}
 use Rattle.mg_scan.specs.Way.{all_found_by}
 use Rattle.mg_scan.specs.Walked.{is_beyond, is_late_row}
 use Rattle.mg_scan.specs.declared.search.Search.{Search}
 use Rattle.mg_scan.specs.declared.target.Target.{Target}
 use Rattle.mg_scan.specs.declared.target.Target.TheVariants.{AllDocs, Index}
-use Rattle.mg_scan.proofs.Behind.{drop_taken}
+use Rattle.mg_scan.proofs.AfterFirst.{drop_taken}
 use Rattle.mg_scan.proofs.Decided.{all_alike, all_asked}
 use Rattle.mg_scan.proofs.Late.{late_rises}
 use Rattle.mg_scan.proofs.Sources.{found_merged}
@@ -238,8 +238,8 @@ module _ (direction : Direction) (range : Range) (after : Option RowValue) (p : 
       ap₂ (λ m n. m + n) a u ∙ counts_alike (reached direction range after) (reached direction range (Some p)) (is_wanted (scan_input everything range (Some p) 0 direction [])) (is_wanted (scan_input everything range after 0 direction [])) counted (all_of d.columns ds) ∙ sym (ap₂ (λ m n. m + n) b v)
 
   pub one_counted : (count more : ℕ) (target : Target) (shard : ShardView) → IsIndex target
-      → count_ahead target range after direction shard + length (all_found_in target (scan_input everything range (Some p) more direction) shard)
-      ≡ count_ahead target range (Some p) direction shard + length (all_found_in target (scan_input everything range after count direction) shard)
+      → count_upcoming target range after direction shard + length (all_found_in target (scan_input everything range (Some p) more direction) shard)
+      ≡ count_upcoming target range (Some p) direction shard + length (all_found_in target (scan_input everything range after count direction) shard)
   one_counted count more AllDocs shard is = absurd is
   one_counted count more (Index ddoc name) shard is = one_index count more (definition_at ddoc.now name.now shard.definitions) (docs_of shard.documents)
 
@@ -257,16 +257,16 @@ module _ (direction : Direction) (range : Range) (after : Option RowValue) (p : 
 
   pub all_passed : (count more : ℕ) (target : Target) (shards : List ShardView) → IsIndex target
       → sorted_rows direction (joined (map (all_found_in target (scan_input everything range (Some p) more direction)) shards))
-      ≡ drop (sum_by (count_ahead target range after direction) shards - sum_by (count_ahead target range (Some p) direction) shards)
+      ≡ drop (sum_by (count_upcoming target range after direction) shards - sum_by (count_upcoming target range (Some p) direction) shards)
       (sorted_rows direction (joined (map (all_found_in target (scan_input everything range after count direction)) shards)))
   all_passed count more target shards is =
       let before = joined (map (all_found_in target (scan_input everything range after count direction)) shards) in
       let behind = joined (map (all_found_in target (scan_input everything range (Some p) more direction)) shards) in
       let kept = joined_where later (all_found_in target (scan_input everything range after count direction)) (all_found_in target (scan_input everything range (Some p) more direction)) (one_found count more target) shards in
-      let sums = summed (count_ahead target range after direction) (count_ahead target range (Some p) direction) (all_found_in target (scan_input everything range after count direction))
+      let sums = summed (count_upcoming target range after direction) (count_upcoming target range (Some p) direction) (all_found_in target (scan_input everything range after count direction))
       (all_found_in target (scan_input everything range (Some p) more direction)) (λ shard. one_counted count more target shard is) shards in
       let size = ap length kept in
-      let e : length before - length (filter later before) ≡ sum_by (count_ahead target range after direction) shards - sum_by (count_ahead target range (Some p) direction) shards = omega (arith, sums, size) in
+      let e : length before - length (filter later before) ≡ sum_by (count_upcoming target range after direction) shards - sum_by (count_upcoming target range (Some p) direction) shards = omega (arith, sums, size) in
       ap (sorted_rows direction) kept ∙ after_sorted before ∙ ap (λ n. drop n (sorted_rows direction before)) e
 
 -- ---- searches
@@ -280,19 +280,19 @@ pub reached_beyond : (s : Search) (r : RowValue) → reached s.direction s.range
 reached_beyond s r e = second (not (is_early s.direction (row_side s.range.now r))) (is_beyond s.direction (option_map (row_value_order r) (after_of s))) e
 
 -- the first rows that are found in all shards where the range decides are those of all rows in the range
-first_rows : (s : Search) (shards : List ShardView) → AreDecided shards s → merged s.direction s.take (map (found_by s) shards) ≡ take s.take (sorted_rows s.direction (joined (map (all_found_by (unasked s)) shards)))
-first_rows s shards decided = ap (merged s.direction s.take) (sym (all_alike s shards decided)) ∙ sym (found_merged (unasked s) shards)
+first_rows : (s : Search) (shards : List ShardView) → AreDecided shards s → merged s.direction s.take (map (found_by s) shards) ≡ take s.take (sorted_rows s.direction (joined (map (all_found_by (without_selector s)) shards)))
+first_rows s shards decided = ap (merged s.direction s.take) (sym (all_alike s shards decided)) ∙ sym (found_merged (without_selector s) shards)
 
 -- the page goes on after a row up to which it skips all
-pub passed_page : (shards : List ShardView) (s : Search) (skip ahead beyond count : ℕ) (row : Bor RowValue) → IsIndex s.target → ahead ≡ all_ahead shards s
-    → IsWithin s row.now → (n : ℕ) → beyond ≡ all_ahead shards (beyond_row s row n) → count ≡ ahead - beyond → n ≡ s.take - count → count ≤ skip → HasPageOf shards s skip (beyond_row s row n) (skip - count)
-passed_page shards s skip ahead beyond count row index a within n b c e le =
+pub passed_page : (shards : List ShardView) (s : Search) (skip upcoming beyond count : ℕ) (row : Bor RowValue) → IsIndex s.target → upcoming ≡ count_all_upcoming shards s
+    → IsWithin s row.now → (n : ℕ) → beyond ≡ count_all_upcoming shards (beyond_row s row n) → count ≡ upcoming - beyond → n ≡ s.take - count → count ≤ skip → HasPageOf shards s skip (beyond_row s row n) (skip - count)
+passed_page shards s skip upcoming beyond count row index a within n b c e le =
     let t = beyond_row s row n in
-    let rows = sorted_rows s.direction (joined (map (all_found_by (unasked s)) shards)) in
-    let here : count ≡ all_ahead shards s - all_ahead shards t = omega (arith, a, b, c) in
+    let rows = sorted_rows s.direction (joined (map (all_found_by (without_selector s)) shards)) in
+    let here : count ≡ count_all_upcoming shards s - count_all_upcoming shards t = omega (arith, a, b, c) in
     let shorter : n ≤ s.take = omega (arith, e) in
     let sum : count + (skip - count) ≡ skip = omega (arith, le) in
-    let left : sorted_rows s.direction (joined (map (all_found_by (unasked t)) shards)) ≡ drop count rows =
+    let left : sorted_rows s.direction (joined (map (all_found_by (without_selector t)) shards)) ≡ drop count rows =
     all_passed s.direction s.range.now (after_of s) row.now (reached_beyond s row.now within.begun) within.timely s.take n s.target shards index ∙ ap (λ m. drop m rows) (sym here) in
     record {
       same = refl;
@@ -304,14 +304,14 @@ passed_page shards s skip ahead beyond count row index a within n b c e le =
     }
 
 -- `passed_page`, with the searches after the row and the counts as variables that equal them
-pub counted_page : (shards : List ShardView) (s : Search) (skip ahead beyond count : ℕ) (row : Bor RowValue) → IsIndex s.target → ahead ≡ all_ahead shards s → IsWithin s row.now → (n : ℕ) (t u : Search)
-    → t ≡ beyond_row s row 0 → beyond ≡ all_ahead shards t → count ≡ ahead - beyond → n ≡ s.take - count → count ≤ skip → u ≡ beyond_row s row n → HasPageOf shards s skip u (skip - count)
-counted_page shards s skip ahead beyond count row index a within n t u is b c e le be =
+pub counted_page : (shards : List ShardView) (s : Search) (skip upcoming beyond count : ℕ) (row : Bor RowValue) → IsIndex s.target → upcoming ≡ count_all_upcoming shards s → IsWithin s row.now → (n : ℕ) (t u : Search)
+    → t ≡ beyond_row s row 0 → beyond ≡ count_all_upcoming shards t → count ≡ upcoming - beyond → n ≡ s.take - count → count ≤ skip → u ≡ beyond_row s row n → HasPageOf shards s skip u (skip - count)
+counted_page shards s skip upcoming beyond count row index a within n t u is b c e le be =
     subst (λ (x : Search). HasPageOf shards s skip x (skip - count)) (sym be)
-    (passed_page shards s skip ahead beyond count row index a within n (b ∙ ap (all_ahead shards) is) c e le)
+    (passed_page shards s skip upcoming beyond count row index a within n (b ∙ ap (count_all_upcoming shards) is) c e le)
 
-pub ahead_still : (shards : List ShardView) (s : Search) (row : Bor RowValue) (beyond n : ℕ) (t u : Search) → t ≡ beyond_row s row 0 → beyond ≡ all_ahead shards t → u ≡ beyond_row s row n → beyond ≡ all_ahead shards u
-ahead_still shards s row beyond n t u is b be = b ∙ ap (all_ahead shards) is ∙ sym (ap (all_ahead shards) be)
+pub upcoming_still : (shards : List ShardView) (s : Search) (row : Bor RowValue) (beyond n : ℕ) (t u : Search) → t ≡ beyond_row s row 0 → beyond ≡ count_all_upcoming shards t → u ≡ beyond_row s row n → beyond ≡ count_all_upcoming shards u
+upcoming_still shards s row beyond n t u is b be = b ∙ ap (count_all_upcoming shards) is ∙ sym (ap (count_all_upcoming shards) be)
 
 pub same_page : (shards : List ShardView) (s : Search) (skip : ℕ) → HasPageOf shards s skip s skip
 same_page shards s skip = record { same = refl; take = omega arith; page = λ decided. refl }

@@ -92,7 +92,7 @@ length-push : (hits : List Hit) (hit : Hit) → length (hits ++ hit ∷ []) ≡ 
 length-push [] hit = refl
 length-push (h ∷ hits) hit = let e = length-push hits hit in omega (arith, e)
 
--- a row is looked at, and its hit, if it has one, is put behind the others
+-- a row is looked at, and its hit, if it has one, is put after the others
 pub walk_one : (late holds : RowValue → Bool) (n : ℕ) (total : List RowValue) (hits : List Hit) (hit : Option Hit) (r : RowValue) (rest : List RowValue) → length hits < n → late r ≡ false
     → option_map hit_row hit ≡ (if holds r then Some r else None) → total ≡ hit_rows hits ++ walked late holds (n - length hits) (r ∷ rest)
     → total ≡ hit_rows (hits ++ list_of_option hit) ++ walked late holds (n - length (hits ++ list_of_option hit)) rest

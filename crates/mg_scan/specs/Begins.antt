@@ -1,4 +1,4 @@
--- Where a search begins is a place among rows and among documents: what it passes over comes first, then what it reaches.
+-- Where a search begins is a place among rows and among documents: first come those that it passes over, then those that it reaches.
 -- The proofs of both laws are in specs/, since the code cites them, and code can cite nothing else of its own crate.
 use Rattle.std.proofs.Common.{◌≡◌, ℕ, ◌≤◌, Bool, true, false, not, List, Option, Some, None, option_map, Ordering, Less, Equal, Greater, is_gt, if◌then◌else◌, refl, ap, ap₂, sym, ◌∙◌, arith}
 use Rattle.std.proofs.lemmas.Bool.{and_from, and_parts}
@@ -96,11 +96,11 @@ not_up a false f e = refl
 not_up true true f e = e
 not_up false true f e = absurd (let wrong = f refl in cc)
 
--- a row that a search looks at, or that comes later
+-- the row is at or after the place where a search begins
 abbrev pub reached : Direction → Range → Option RowValue → RowValue → Bool
 reached direction range after r = reaches direction (row_side range r) (option_map (row_value_order r) after)
 
--- what comes after a row that is reached is reached
+-- a row that comes after one that is reached is reached
 reached_rises : (direction : Direction) (range : Range) (after : Option RowValue) (x y : RowValue) → NotAfter direction x y → reached direction range after x ≡ true → reached direction range after y ≡ true
 reached_rises direction range after x y h e =
     let place = row_side range in

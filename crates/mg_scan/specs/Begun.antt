@@ -16,7 +16,7 @@ use Rattle.mg_shard.specs.Walk.{beyond}
 use Rattle.mg_shard.specs.declared.document.Document.{Document}
 use Rattle.mg_value.specs.Value.{Value}
 
--- the documents are those from where the search begins, and each that is served with an `_id` is served with its own
+-- the documents are those from the place where the search begins on; a form with an `_id` has the id of its document there
 pub record AreBegun (s : Search) (ds : KeptDocuments) (documents : List Document) : Type 0 where
   pub own : (id : List ℕ) (form : Value) → form_at ds id ≡ Some form → HasOwnId id form
   pub begun : map kept_entry documents ≡ beyond s.direction (λ e. begin_at s (id_row e.0)) (entries ds)
@@ -32,7 +32,7 @@ abbrev pub IsBegun : Search → ShardView → Unread → Type 0
 IsBegun s shard = IsBegunIn (target_columns s.target shard.definitions) s shard
 
 -- the second is what is left of the first after n rows of an index; of documents none is passed over, so n is 0
-abbrev pub IsBehind : ℕ → Unread → Unread → Type 0
-IsBehind n (left.Rows rows) l = l ≡ left.Rows (drop n rows)
-IsBehind n (left.Documents documents) l = (n ≡ 0) × (l ≡ left.Documents documents)
-IsBehind n left.Nothing l = l ≡ left.Nothing
+abbrev pub IsLeftAfter : ℕ → Unread → Unread → Type 0
+IsLeftAfter n (left.Rows rows) l = l ≡ left.Rows (drop n rows)
+IsLeftAfter n (left.Documents documents) l = (n ≡ 0) × (l ≡ left.Documents documents)
+IsLeftAfter n left.Nothing l = l ≡ left.Nothing

@@ -40,8 +40,8 @@ abbrev pub AreServed : KeptDocuments → List RowValue → Type 0
 AreServed ds rows = AllByRecursion (λ r. is_some (form_at ds r.1) ≡ true) rows
 
 -- the search with a selector that every document matches
-abbrev pub unasked : Search → Search
-unasked s = record s { normal = record { ref_ptr = s.normal.ref_ptr; now = everything } }
+abbrev pub without_selector : Search → Search
+without_selector s = record s { normal = record { ref_ptr = s.normal.ref_ptr; now = everything } }
 
 -- all rows on a search's way, whatever their documents
 abbrev pub rows_on_way : Search → List RowValue → List RowValue
@@ -50,10 +50,10 @@ rows_on_way s rows = walked_all (is_late_row s.direction s.range.now) (λ r. tru
 -- the rows of the leads that are still to come
 abbrev pub lead_rows : Search → Unread → List RowValue
 lead_rows s (left.Rows rows) = rows_on_way s rows
-lead_rows s (left.Documents ds) = walked_documents (unasked s) ds
+lead_rows s (left.Documents ds) = walked_documents (without_selector s) ds
 lead_rows s left.Nothing = []
 
--- what each of these is: a lead of the shard, where what is left is of its served documents
+-- a lead that is still to come is of this shard, if the rows that are left are of documents that it serves, or the documents are its own
 abbrev pub IsLeadUnread : ShardView → Unread → Lead → Type 0
 IsLeadUnread shard (left.Rows rows) l = AreServed shard.documents rows → IsLeadOf shard l
 IsLeadUnread shard (left.Documents ds) l = AreKept shard.documents ds → IsLeadOf shard l
@@ -61,10 +61,10 @@ IsLeadUnread shard left.Nothing l = IsLeadOf shard l
 
 -- a source of all rows in the search's range, whatever their documents
 pub record IsLeadSourceOf (search : Search) (s : ShardView) (source : LeadSource) : Type 0 where
-  pub rows : lead_rows source.search source.left ≡ all_found_by (unasked search) s
+  pub rows : lead_rows source.search source.left ≡ all_found_by (without_selector search) s
   pub leads : (l : Lead) → IsLeadUnread source.shard.now source.left l → IsLeadOf s l
 
 -- a source of all rows in the search's range but the first n, whatever their documents
-pub record IsLeadSourceBehind (n : ℕ) (search : Search) (s : ShardView) (source : LeadSource) : Type 0 where
-  pub rows : lead_rows source.search source.left ≡ drop n (all_found_by (unasked search) s)
+pub record IsLeadSourceAfter (n : ℕ) (search : Search) (s : ShardView) (source : LeadSource) : Type 0 where
+  pub rows : lead_rows source.search source.left ≡ drop n (all_found_by (without_selector search) s)
   pub leads : (l : Lead) → IsLeadUnread source.shard.now source.left l → IsLeadOf s l

@@ -14,5 +14,5 @@ pub mod Begun
 pub mod Decided
 pub mod Lead
 pub mod RangeEnd
-pub mod Ahead
+pub mod Upcoming
 pub mod Passed

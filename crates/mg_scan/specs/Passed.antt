@@ -4,10 +4,10 @@ use Rattle.std.specs.Borrow.{Bor}
 use Rattle.std.specs.List.{sum_by}
 use Rattle.mg_collate.specs.Row.{RowValue}
 use Rattle.mg_merge.specs.Merged.{merged}
-use Rattle.mg_scan.specs.Ahead.{count_ahead}
 use Rattle.mg_scan.specs.Begins.{reached}
 use Rattle.mg_scan.specs.Decided.{IsDecidedIn}
 use Rattle.mg_scan.specs.Search.{after_of, found_by}
+use Rattle.mg_scan.specs.Upcoming.{count_upcoming}
 use Rattle.mg_scan.specs.Walked.{is_late_row}
 use Rattle.mg_scan.specs.declared.search.Search.{Search}
 use Rattle.mg_scan.specs.declared.target.Target.{Target}
@@ -20,18 +20,18 @@ IsIndex AllDocs = ⊥
 IsIndex (Index ddoc name) = Unit {0}
 
 -- how many rows of a shard come after the place where a search begins
-abbrev pub rows_ahead : Search → ShardView → ℕ
-rows_ahead s = count_ahead s.target s.range.now (after_of s) s.direction
+abbrev pub count_upcoming_by : Search → ShardView → ℕ
+count_upcoming_by s = count_upcoming s.target s.range.now (after_of s) s.direction
 
 -- how many rows of all shards come after that place
-abbrev pub all_ahead : List ShardView → Search → ℕ
-all_ahead shards s = sum_by (rows_ahead s) shards
+abbrev pub count_all_upcoming : List ShardView → Search → ℕ
+count_all_upcoming shards s = sum_by (count_upcoming_by s) shards
 
 -- the range decides what a search finds in each shard
 abbrev pub AreDecided : List ShardView → Search → Type 0
 AreDecided shards s = All (IsDecidedIn s.target s.normal.now s.range.now) shards
 
--- the first rows that a search finds in all shards, without as many as the page skips
+-- of the first rows that a search finds in all shards, those after the first `skip`
 abbrev pub page_after : List ShardView → Search → ℕ → List RowValue
 page_after shards s skip = drop skip (merged s.direction s.take (map (found_by s) shards))
 

@@ -11,7 +11,7 @@ use Rattle.mg_scan.specs.declared.search.Search.{Search}
 abbrev pub is_past_at : Search → List RowValue → ℕ → Bool
 is_past_at s rows place = option_map_or (is_late_row s.direction s.range.now) (slice_get rows place) true
 
--- what comes after a row that is past the range is past it too
+-- each row after one that is past the range is past it too
 abbrev pub EndsOnce : Search → List RowValue → Type 0
 EndsOnce s rows = (i j : ℕ) → i ≤ j → is_past_at s rows i ≡ true → is_past_at s rows j ≡ true
 

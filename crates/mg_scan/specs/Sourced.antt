@@ -19,7 +19,7 @@ use Rattle.mg_shard.specs.Rows.{row_key}
 use Rattle.mg_shard.specs.Shard.{ShardView}
 use Rattle.mg_shard.specs.declared.document.Document.{Document}
 
--- the selector holds of a document, which is served
+-- the document is served, and the selector holds of it
 abbrev pub holds_for : NormalForm → Document → Bool
 holds_for normal d = option_map_or (λ form. normal_holds normal (Some form)) (form_of d) false
 
@@ -47,7 +47,7 @@ left_rows s shard (left.Rows rows) = walked_all_by s shard.documents rows
 left_rows s shard (left.Documents ds) = walked_documents s ds
 left_rows s shard left.Nothing = []
 
--- what each of these is: a hit of the shard's documents, where the documents that are left are among these
+-- a hit that is still to come is of this shard's documents, if the documents that are left are kept there
 abbrev pub IsUnread : ShardView → Unread → Hit → Type 0
 IsUnread shard (left.Rows rows) h = IsHitOf shard.documents h
 IsUnread shard (left.Documents ds) h = AreKept shard.documents ds → IsHitOf shard.documents h

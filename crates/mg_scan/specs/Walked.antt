@@ -18,8 +18,8 @@ use Rattle.mg_value.specs.Value.{item, item_list, no_items, text}
 abbrev pub is_beyond : Direction → Option Ordering → Bool
 is_beyond direction order = option_map_or (λ o. is_gt (directed direction o)) order true
 
--- an item on this side of the range, and with this ordering against the row after which a search begins, is reached: the search looks
--- at it, or it comes later
+-- an item on this side of the range, and with this ordering against the row after which a search begins, is reached: it is at or after
+-- the place where the search begins
 abbrev pub reaches : Direction → RangeSide → Option Ordering → Bool
 reaches direction side order = not (is_early direction side) && is_beyond direction order
 
@@ -31,17 +31,17 @@ begin_order direction side order = directed direction (if reaches direction side
 abbrev pub is_late_row : Direction → Range → RowValue → Bool
 is_late_row direction range r = is_late direction (side_of range (item_list r.0))
 
--- the selector holds of the document of an id, which is there and served
+-- there is a served document of this id, and the selector holds of it
 abbrev pub holds_at : NormalForm → KeptDocuments → List ℕ → Bool
 holds_at normal ds id = option_map_or (λ form. normal_holds normal (Some form)) (form_at ds id) false
 
--- of rows in order the first n that hold, up to the first that is late
+-- the first n rows that hold, before the first row that is late; the rows are in order
 abbrev pub walked : (RowValue → Bool) → (RowValue → Bool) → ℕ → List RowValue → List RowValue
 walked late holds zero rows = []
 walked late holds (suc n) [] = []
 walked late holds (suc n) (r ∷ rows) = if late r then [] else if holds r then r ∷ walked late holds n rows else walked late holds (suc n) rows
 
--- of rows in order all that hold, up to the first that is late
+-- all rows that hold, before the first row that is late; the rows are in order
 abbrev pub walked_all : (RowValue → Bool) → (RowValue → Bool) → List RowValue → List RowValue
 walked_all late holds [] = []
 walked_all late holds (r ∷ rows) = if late r then [] else if holds r then r ∷ walked_all late holds rows else walked_all late holds rows
@@ -50,7 +50,7 @@ walked_all late holds (r ∷ rows) = if late r then [] else if holds r then r �
 abbrev pub id_row : List ℕ → RowValue
 id_row id = (item (text id) no_items, id)
 
--- what may be there, as a list
+-- an option as a list of at most one item
 abbrev pub list_of_option : {X : Type 0} → Option X → List X
 list_of_option None = []
 list_of_option (Some x) = x ∷ []

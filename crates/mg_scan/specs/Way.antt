@@ -19,7 +19,7 @@ use Rattle.mg_value.specs.Value.{item_list}
 abbrev pub all_found_by : Search → ShardView → List RowValue
 all_found_by s = all_found_in s.target (search_input s)
 
--- where a search begins, against a row
+-- the place where a search begins, compared to a row
 abbrev pub begin_at : Search → RowValue → Ordering
 begin_at s r = begin_order s.direction (side_of s.range.now (item_list r.0)) (option_map (row_value_order r) (after_of s))
 

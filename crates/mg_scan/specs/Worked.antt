@@ -1,4 +1,4 @@
--- For private clauses: what workers hand over.
+-- For private clauses: what workers find.
 use Rattle.std.specs.Prelude.{◌≡◌, ℕ, List, Option, Some, slice_get}
 use Rattle.std.specs.List.{AllByRecursion}
 use Rattle.std.specs.declared.alloc.Global.{Global}
@@ -7,7 +7,7 @@ use Rattle.mg_scan.specs.Hit.{AreHitsOf, hit_rows}
 use Rattle.mg_scan.specs.Search.{found_by}
 use Rattle.mg_scan.specs.declared.hit.Hit.{Hit}
 use Rattle.mg_scan.specs.declared.search.Search.{Search}
-use Rattle.mg_scan.specs.declared.workers.Done.{Done}
+use Rattle.mg_scan.specs.declared.workers.ShardHits.{ShardHits}
 use Rattle.mg_shard.specs.Shard.{ShardView}
 
 -- the hits are what the search finds in the shard, with their documents
@@ -20,8 +20,8 @@ pub record HitsAnswer (search : Search) (shards : List ShardView) (i : ℕ) (hit
   pub gives : (s : ShardView) → slice_get shards i ≡ Some s → AreHitsFound search s hits
 
 -- each of these has the hits of the shard that it names
-abbrev pub AllDone : Search → List ShardView → List Done → Type 0
-AllDone search shards ds = AllByRecursion (λ d. HitsAnswer search shards d.shard d.hits.items) ds
+abbrev pub AllShardHits : Search → List ShardView → List ShardHits → Type 0
+AllShardHits search shards ds = AllByRecursion (λ d. HitsAnswer search shards d.shard d.hits.items) ds
 
 -- a full slot has the hits of its shard
 abbrev pub AllSlots : Search → List ShardView → List (Option (Vec Hit Global)) → Type 0

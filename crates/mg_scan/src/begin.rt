@@ -1,4 +1,4 @@
-//! Searches as places: where they begin among rows, and among documents, which have their ids as keys.
+//! Where a search begins: among the rows of an index, or among documents, whose keys are their ids.
 use crate::search::{Search, begin_at_id, begin_at_row};
 use mg_collate::Direction;
 use mg_pages::{Identified, Keyed, Probe, Shared, text_hint};

@@ -130,8 +130,8 @@ fn extract<R: Threads + Sync, G: Gate + Sync>(
     extract_by_threads(rt, alloc, shards, definition, workers, gate)
 }
 
-// The shard with the index of these rows.
-fn with_these(
+// The i-th shard with an index of this definition, which has these rows.
+fn index_shard(
     alloc: Global,
     shards: &[Arc<Shard>],
     definition: &Arc<IndexDef>,
@@ -147,7 +147,7 @@ fn with_these(
     Ok(shard.with_rows(alloc, definition, rows?)?)
 }
 
-// Takes out what was extracted from the i-th shard, and leaves a refusal in its place.
+// Takes out the rows of the i-th shard, and leaves an error in their place.
 fn take_rows(
     given: &mut Vec<Result<Pages<RowBytes>, NoMemory>>,
     i: usize,
@@ -162,8 +162,8 @@ fn take_rows(
     replace(&mut given[i], Err(NoMemory))
 }
 
-// The shards, each with the index of these rows. They share the definition.
-fn with_all(
+// The shards, each with an index of this definition, which has the rows given for it. They share the definition.
+fn index_shards(
     alloc: Global,
     shards: &[Arc<Shard>],
     definition: &Arc<IndexDef>,
@@ -178,7 +178,7 @@ fn with_all(
     let mut given = given;
     for i in 0..shards.len() {
         let rows = take_rows(&mut given, i);
-        let shard = with_these(alloc, shards, definition, i, rows)?;
+        let shard = index_shard(alloc, shards, definition, i, rows)?;
         built.push(shard)?;
     }
     Ok(built)
@@ -187,9 +187,9 @@ fn with_all(
 /// Returns the shards, each with an index of this definition, which replaces one of the same design document and name, as
 /// `Shard::with_index` makes them. The result is the same for every number of workers, 1 to 32, and for every gate. One worker starts no
 /// thread. Several workers take a shard each; if there are at least twice as many workers as shards left, as many threads as there are
-/// processors extract the rows of a large shard. The definition is copied once, and the shards share it.
+/// processors extract the rows of a shard of 1,000 or more documents. The definition is copied once, and the shards share it.
 ///
-/// The gate is passed before a shard's first document is read and after its last row is made.
+/// The gate is passed before a shard's first document is read, and after its last row is made unless an allocation fails in that shard.
 /// Errors: `NoMemory` if an allocation fails. Cost: that of `Shard::rows_for` and of `Shard::with_rows` for each shard.
 pub fn build<R: Threads + Sync, G: Gate + Sync>(
     rt: &R,
@@ -204,5 +204,5 @@ pub fn build<R: Threads + Sync, G: Gate + Sync>(
 {
     let given = extract(rt, alloc, shards, definition, workers, gate)?;
     let shared = Arc::new(alloc, definition.copy(alloc)?)?;
-    with_all(alloc, shards, &shared, given)
+    index_shards(alloc, shards, &shared, given)
 }

@@ -5,13 +5,13 @@ pub enum Place {
     Snapshot,
     /// A shard's first row comes next. Shards are counted from 0.
     ShardBegun(usize),
-    /// A shard's last row has come.
+    /// A shard's last row was read, or in a build made.
     ShardDone(usize),
 }
 
 /// Code that a query or a build runs at each `Place`, for tests: a gate may count the places, and may wait there.
 pub trait Gate {
-    /// Passes a place.
+    /// Runs when a query or a build passes this place.
     fn at(&self, place: Place);
 }
 

@@ -64,7 +64,7 @@ impl<'a> HitRow<'a> {
     }
 }
 
-// The order of a row of an index and another.
+// Compares a row of an index to another row.
 #[inline(always)]
 fn compare_row(row: &RowBytes, other: &HitRow<'_>) -> Ordering
     ensures { result ≡ row_value_order row.now (lent_row other.now) }
@@ -75,7 +75,7 @@ fn compare_row(row: &RowBytes, other: &HitRow<'_>) -> Ordering
     }
 }
 
-// The order of the row that an id has among all documents and another.
+// Compares the row that an id has among all documents to another row.
 fn compare_id(id: &str, other: &HitRow<'_>) -> Ordering
     ensures { result ≡ row_value_order (row_of_id id.now) (lent_row other.now) }
 {

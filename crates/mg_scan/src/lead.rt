@@ -14,7 +14,8 @@ use mg_value::NoMemory;
 use std::alloc::Global;
 use std::cmp::Ordering;
 
-/// A row of a shard that serves its document, lent by it. Leads are ordered by key, and at one key by the bytes of the id.
+/// A row that a search found, lent by its shard, whose document is served but not looked up yet. Leads are ordered by key, and at one key
+/// by the bytes of the id.
 #[derive(Clone, Copy, Drop)]
 pub(crate) struct Lead<'a> {
     pub(crate) shard: &'a Shard,
@@ -44,7 +45,7 @@ fn hit_of_lead<'a>(lead: Lead<'a>) -> Option<Hit<'a>>
     })
 }
 
-// The hits of the leads from a place on. Cost: a look-up of a document for each of these.
+// The hits of the leads after the first `skip`. Cost: a look-up of a document for each hit.
 pub(crate) fn hits_after<'a>(
     alloc: Global,
     leads: &[Lead<'a>],

@@ -1,4 +1,4 @@
-//! What a search has still to find in a shard, whatever the documents.
+//! The rows that a search has still to read in a shard, whether their documents match the selector or not.
 ghost use Rattle.mg_scan.specs.RangeEnd.{AreBeforeEnd, EndsOnce, index_rows};
 
 use crate::left::Unread;

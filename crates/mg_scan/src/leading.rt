@@ -1,15 +1,13 @@
-//! Rows of a shard that are found as they are asked for, whatever their documents.
+//! Leads of a shard, found as they are asked for.
 ghost use Rattle.std.specs.Prelude.{◌≡◌, ◌≤◌, ◌∷◌, [], IfNone, IfSome};
-ghost use Rattle.mg_shard.specs.Documents.{KeptDocuments};
-ghost use Rattle.mg_shard.specs.Shard.{ShardView};
 ghost use Rattle.mg_scan.specs.RangeEnd.{AreBeforeEnd, EndsOnce};
-ghost use Rattle.mg_scan.specs.Lead.{AreServed, IsLeadUnread, IsLeadOf, IsLeadSourceBehind, IsLeadSourceOf, lead_row, lead_rows, rows_on_way, unasked};
+ghost use Rattle.mg_scan.specs.Lead.{AreServed, IsLeadUnread, IsLeadOf, IsLeadSourceAfter, IsLeadSourceOf, lead_row, lead_rows, rows_on_way, without_selector};
 ghost use Rattle.mg_scan.specs.Sourced.{AreKept, walked_documents};
 
 use crate::hit_row::HitRow;
 use crate::lead::Lead;
 use crate::lead_source::LeadSource;
-use crate::left::{Unread, left_behind, left_of};
+use crate::left::{Unread, left_after, left_of};
 use crate::range_end::RangeEnd;
 use crate::search::{Search, is_past_id};
 use mg_merge::RowSource;
@@ -66,9 +64,9 @@ fn lead_of_documents<'a>(
     documents: &mut Documents<'a>,
     search: Search<'_>,
 ) -> Option<Lead<'a>>
-    ensures lead { IfSome result (λ l. walked_documents (unasked search.entry) documents.old
-        ≡ lead_row l ∷ walked_documents (unasked search.entry) documents.new) }
-    ensures end { IfNone result (walked_documents (unasked search.entry) documents.old ≡ []) }
+    ensures lead { IfSome result (λ l. walked_documents (without_selector search.entry) documents.old
+        ≡ lead_row l ∷ walked_documents (without_selector search.entry) documents.new) }
+    ensures end { IfNone result (walked_documents (without_selector search.entry) documents.old ≡ []) }
     ensures lent { AreKept shard.now.documents documents.old → IfSome result (IsLeadOf shard.now) }
     ensures left { AreKept shard.now.documents documents.old → AreKept shard.now.documents documents.new }
 {
@@ -99,17 +97,17 @@ pub(crate) fn lead_source_of<'a, 'b>(shard: &'a Shard, search: Search<'b>) -> Le
     }
 }
 
-// What `lead_source_of` gives, after the first rows, and how many were passed over: `count` of an index, 0 of documents.
-// Cost: two look-ups.
-pub(crate) fn lead_source_behind<'a, 'b>(
+// The source that `lead_source_of` returns, without its first rows, and how many rows were passed over: `count` in an index, 0 in all
+// documents. Cost: two look-ups.
+pub(crate) fn lead_source_after<'a, 'b>(
     shard: &'a Shard,
     search: Search<'b>,
     count: usize,
 ) -> (LeadSource<'a, 'b>, usize)
-    ensures source { IsLeadSourceBehind result.1 search.entry shard.now result.0 }
+    ensures source { IsLeadSourceAfter result.1 search.entry shard.now result.0 }
     ensures within { result.1 ≤ count }
 {
-    let (left, passed) = left_behind(left_of(shard, search), count);
+    let (left, passed) = left_after(left_of(shard, search), count);
     let source = LeadSource {
         shard,
         left,

@@ -1,7 +1,7 @@
 //! What a search has still to read in a shard.
-ghost use Rattle.std.specs.Prelude.{◌≡◌, ◌≤◌, option_map};
+ghost use Rattle.std.specs.Prelude.{◌≤◌, option_map};
 ghost use Rattle.mg_index.specs.Catalog.{definition_at};
-ghost use Rattle.mg_scan.specs.Begun.{AreBegun, IsBegun, IsBegunIn, IsBehind};
+ghost use Rattle.mg_scan.specs.Begun.{AreBegun, IsBegun, IsBegunIn, IsLeftAfter};
 
 use crate::begin::Begin;
 use crate::search::Search;
@@ -52,8 +52,8 @@ fn left_in_index<'a>(shard: &'a Shard, ddoc: &str, name: &str, search: Search<'_
 
 // Passes over the first `count` rows of an index. Returns what is left, and how many rows were passed over. Documents are not passed
 // over (0), since some of them may be deleted.
-pub(crate) fn left_behind<'a>(left: Unread<'a>, count: usize) -> (Unread<'a>, usize)
-    ensures behind { IsBehind result.1 left.entry result.0 }
+pub(crate) fn left_after<'a>(left: Unread<'a>, count: usize) -> (Unread<'a>, usize)
+    ensures after { IsLeftAfter result.1 left.entry result.0 }
     ensures within { result.1 ≤ count }
 {
     match left {

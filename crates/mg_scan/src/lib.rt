@@ -1,4 +1,4 @@
-//! Scans: what shards have in an index within a range of keys, and indexes built over shards, by scoped workers.
+//! Searches of all shards, by scoped workers or on the caller's thread; and indexes built over shards.
 #![tactic(auto)]
 
 mod begin;

@@ -1,10 +1,10 @@
 //! A long skip on several shards: of the rows that a page skips, most are counted, and are not read.
 ghost use Rattle.std.specs.Prelude.{◌≡◌, ◌<◌, IfOk, IfSome};
 ghost use Rattle.mg_shard.specs.Shard.{shards_seen};
-ghost use Rattle.mg_scan.specs.Passed.{HasPageOf, IsIndex, IsWithin, all_ahead, beyond_row};
+ghost use Rattle.mg_scan.specs.Passed.{HasPageOf, IsIndex, IsWithin, beyond_row, count_all_upcoming};
 
 use crate::begin::Begin;
-use crate::counting::count_ahead;
+use crate::counting::count_upcoming;
 use crate::scout::{Scout, enter, scout_of};
 use crate::search::{Search, is_past_row, is_reached};
 use crate::target::Target;
@@ -17,15 +17,15 @@ use std::sync::Arc;
 // The first stride is an eighth of each shard's part of the rows that the page skips; each further stride is an eighth of the one before.
 const SHRINK: usize = 8;
 
-// What is left of a search after rows were passed over.
+// A long skip, after some of its rows were passed over.
 #[derive(Clone, Copy)]
-pub(crate) struct Passed<'a> {
-    // The search after the last of these rows.
+pub(crate) struct LongSkip<'a> {
+    // The search, which begins after the rows that were passed over so far.
     pub(crate) search: Search<'a>,
     // How many rows the page still skips.
     pub(crate) skip: usize,
     // How many rows of all shards come after the place where the search begins.
-    pub(crate) ahead: usize,
+    pub(crate) upcoming: usize,
 }
 
 // Passes over most of the first `skip` rows of a search. Returns the search that begins after them, and how many rows its page still
@@ -66,11 +66,11 @@ fn pass_rows<'a>(
 {
     match count_all(shards, search) {
         None => Ok((search, skip)),
-        Some(ahead) => {
-            let all = Passed {
+        Some(upcoming) => {
+            let all = LongSkip {
                 search,
                 skip,
-                ahead,
+                upcoming,
             };
             let passed = pass_rounds(alloc, shards, all, ddoc, name)?;
             Ok((passed.search, passed.skip))
@@ -82,12 +82,12 @@ fn pass_rows<'a>(
 fn pass_rounds<'a>(
     alloc: Global,
     shards: &'a [Arc<Shard>],
-    all: Passed<'a>,
+    all: LongSkip<'a>,
     ddoc: &str,
     name: &str,
-) -> Result<Passed<'a>, NoMemory>
+) -> Result<LongSkip<'a>, NoMemory>
     requires index { IsIndex all.search.target }
-    requires ahead { all.ahead ≡ all_ahead (shards_seen shards.now) all.search }
+    requires upcoming { all.upcoming ≡ count_all_upcoming (shards_seen shards.now) all.search }
     ensures { IfOk result (λ r. HasPageOf (shards_seen shards.now) all.entry.search all.entry.skip
         r.search r.skip) }
 {
@@ -105,17 +105,17 @@ fn pass_rounds<'a>(
 fn pass_round<'a>(
     alloc: Global,
     shards: &'a [Arc<Shard>],
-    passed: Passed<'a>,
+    passed: LongSkip<'a>,
     ddoc: &str,
     name: &str,
     stride: usize,
-) -> Result<Passed<'a>, NoMemory>
+) -> Result<LongSkip<'a>, NoMemory>
     requires index { IsIndex passed.search.target }
-    requires ahead { passed.ahead ≡ all_ahead (shards_seen shards.now) passed.search }
+    requires upcoming { passed.upcoming ≡ count_all_upcoming (shards_seen shards.now) passed.search }
     requires stride { 0 < stride }
     ensures page { IfOk result (λ r. HasPageOf (shards_seen shards.now) passed.entry.search passed.entry.skip
         r.search r.skip) }
-    ensures ahead { IfOk result (λ r. r.ahead ≡ all_ahead (shards_seen shards.now) r.search) }
+    ensures upcoming { IfOk result (λ r. r.upcoming ≡ count_all_upcoming (shards_seen shards.now) r.search) }
 {
     match row_near(alloc, shards, passed, ddoc, name, stride)? {
         None => Ok(passed),
@@ -125,12 +125,12 @@ fn pass_round<'a>(
 
 // How many rows of all shards come after the place where a search begins; `None` if the sum is too large for a `usize`.
 fn count_all(shards: &[Arc<Shard>], search: Search<'_>) -> Option<usize>
-    ensures { IfSome result (λ n. n ≡ all_ahead (shards_seen shards.now) search.entry) }
+    ensures { IfSome result (λ n. n ≡ count_all_upcoming (shards_seen shards.now) search.entry) }
 {
     let mut all = 0usize;
     for i in 0..shards.len() {
         let shard: &Shard = &shards[i];
-        let count = count_ahead(shard, search);
+        let count = count_upcoming(shard, search);
         if count > usize::MAX - all {
             return None;
         }
@@ -141,12 +141,12 @@ fn count_all(shards: &[Arc<Shard>], search: Search<'_>) -> Option<usize>
 
 // Passes over the rows up to and including this one, if it is in the range and after the place where the search begins, and if the
 // page skips them all.
-fn pass_to<'a>(shards: &[Arc<Shard>], passed: Passed<'a>, row: &'a RowBytes) -> Passed<'a>
+fn pass_to<'a>(shards: &[Arc<Shard>], passed: LongSkip<'a>, row: &'a RowBytes) -> LongSkip<'a>
     requires index { IsIndex passed.search.target }
-    requires ahead { passed.ahead ≡ all_ahead (shards_seen shards.now) passed.search }
+    requires upcoming { passed.upcoming ≡ count_all_upcoming (shards_seen shards.now) passed.search }
     ensures page { HasPageOf (shards_seen shards.now) passed.entry.search passed.entry.skip
         result.search result.skip }
-    ensures ahead { result.ahead ≡ all_ahead (shards_seen shards.now) result.search }
+    ensures upcoming { result.upcoming ≡ count_all_upcoming (shards_seen shards.now) result.search }
 {
     if is_reached(passed.search, row) && !is_past_row(passed.search, row) {
         pass_counted(shards, passed, row)
@@ -156,28 +156,28 @@ fn pass_to<'a>(shards: &[Arc<Shard>], passed: Passed<'a>, row: &'a RowBytes) -> 
 }
 
 // Does what `pass_to` does, for a row in the range after the place where the search begins.
-fn pass_counted<'a>(shards: &[Arc<Shard>], passed: Passed<'a>, row: &'a RowBytes) -> Passed<'a>
+fn pass_counted<'a>(shards: &[Arc<Shard>], passed: LongSkip<'a>, row: &'a RowBytes) -> LongSkip<'a>
     requires index { IsIndex passed.search.target }
-    requires ahead { passed.ahead ≡ all_ahead (shards_seen shards.now) passed.search }
+    requires upcoming { passed.upcoming ≡ count_all_upcoming (shards_seen shards.now) passed.search }
     requires within { IsWithin passed.search row.now }
     ensures page { HasPageOf (shards_seen shards.now) passed.entry.search passed.entry.skip
         result.search result.skip }
-    ensures ahead { result.ahead ≡ all_ahead (shards_seen shards.now) result.search }
+    ensures upcoming { result.upcoming ≡ count_all_upcoming (shards_seen shards.now) result.search }
 {
     let beyond = search_after(passed.search, row, 0);
     match count_all(shards, beyond) {
         None => passed,
-        Some(ahead) => {
-            let count = passed.ahead.saturating_sub(ahead);
+        Some(upcoming) => {
+            let count = passed.upcoming.saturating_sub(upcoming);
             if count > passed.skip {
                 return passed;
             }
             let take = passed.search.take.saturating_sub(count);
             let search = search_after(passed.search, row, take);
-            Passed {
+            LongSkip {
                 search,
                 skip: passed.skip - count,
-                ahead,
+                upcoming,
             }
         }
     }
@@ -199,7 +199,7 @@ fn search_after<'a>(search: Search<'a>, row: &'a RowBytes, take: usize) -> Searc
 fn row_near<'a>(
     alloc: Global,
     shards: &'a [Arc<Shard>],
-    passed: Passed<'_>,
+    passed: LongSkip<'_>,
     ddoc: &str,
     name: &str,
     stride: usize,

@@ -12,7 +12,7 @@ ghost use Rattle.mg_scan.specs.Sourced.{IsSourceOf};
 use crate::hit::Hit;
 use crate::lead::hits_after;
 use crate::lead_source::LeadSource;
-use crate::leading::{lead_source_behind, lead_source_of};
+use crate::leading::{lead_source_after, lead_source_of};
 use crate::passing::pass_over;
 use crate::search::Search;
 use crate::source::{HitSource, source_of};
@@ -23,8 +23,8 @@ use std::alloc::Global;
 use std::sync::Arc;
 
 /// The first `take` hits of a search in all shards together, in the order of its direction: rows of the target after `after`, whose key
-/// is in the range and whose document matches the selector. Also returns how many hits were found for them: at most `take`, and one more
-/// for each shard. All is done on the caller's thread.
+/// is in the range and whose document matches the selector. Also returns how many hits were pulled from the shards: at most `take`, and one
+/// more for each shard. All is done on the caller's thread.
 ///
 /// Errors: `NoMemory` if an allocation fails. Cost: in each shard one look-up of where to begin; then for each row that is
 /// read, until those hits are found, a look-up of its document and the selector on it; the merge.
@@ -46,11 +46,12 @@ pub fn pull_lent<'a>(
 
 /// The hits of `pull_lent` without the first `skip`, if the range decides: in each shard the key of a row decides whether the document
 /// matches the selector. Documents are looked up only for the hits that are returned, and the selector is not evaluated. Also returns how
-/// many rows were found for them: at most `take`, and one more for each shard. All is done on the caller's thread.
+/// many rows were pulled from the shards: at most `take`, and one more for each shard. All is done on the caller's thread.
 ///
 /// Errors: `NoMemory` if an allocation fails. Cost: in each shard one look-up of where to begin; then a step for each row that is
 /// read, until `take` are found, and the merge; a look-up of a document for each hit that is returned. The first `skip` rows of an
-/// index are passed over by their counts: with one shard all at once, with several all but a few of each.
+/// index are passed over by their counts: with one shard all at once; with several all but a few of each, by some ten look-ups in each
+/// shard for each factor of 8 in `skip`. With several, all are read if `skip` is below 16 times the number of shards.
 pub fn pull_rows<'a>(
     alloc: Global,
     shards: &'a [Arc<Shard>],
@@ -126,7 +127,7 @@ fn pull_rows_of_one<'a>(
     ensures pulled { IfOk result (λ made. made.1 ≤ search.entry.take + length shards.now) }
 {
     let shard: &Shard = &shards[0];
-    let (source, passed) = lead_source_behind(shard, search, skip);
+    let (source, passed) = lead_source_after(shard, search, skip);
     let mut sources = Vec::with_capacity(alloc, 1)?;
     sources.push(source)?;
     let wanted = search.take.saturating_sub(passed);

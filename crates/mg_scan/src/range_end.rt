@@ -7,15 +7,15 @@ use crate::search::{Search, is_past_row};
 use mg_rows::RowBytes;
 use mg_shard::Rows;
 
-// If fewer rows than these come before the last row of a run, that row is not compared ahead of them, since it saves too little.
+// If fewer than this many rows of a run come before its last row, the last row is not compared first: that would save too little.
 const FEW: usize = 3;
 
 /// What is known of where a range ends among rows that are read in order.
 #[derive(Clone, Copy)]
 pub(crate) struct RangeEnd {
-    /// How many of the next rows are known to come before it.
+    /// How many of the next rows are known to come before the end of the range.
     pub(crate) sure: usize,
-    /// Whether it is known to come within the run that is being read.
+    /// Whether the range is known to end within the run that is being read.
     pub(crate) in_run: bool,
 }
 

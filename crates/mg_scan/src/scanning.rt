@@ -27,9 +27,9 @@ use std::thread::Threads;
 /// in the range and whose document matches the selector. They do not depend on the number of workers, 1 to 32, nor on the gate. One
 /// worker, or one shard, starts no thread.
 ///
-/// The gate is passed before a shard's first row is read and after its last.
+/// The gate is passed before a shard's first row is read, and after its last row unless an allocation fails in that shard.
 /// Errors: `NoMemory` if an allocation fails. Cost: in each shard one look-up of where to begin, then for each row that is
-/// read a look-up of its document and the selector on it; the hits, which are lent.
+/// read a look-up of its document and the selector on it; memory for the lists of hits, which lend the documents.
 pub fn scan_lent<'a, R: Threads + Sync, G: Gate + Sync>(
     rt: &R,
     alloc: Global,

@@ -30,7 +30,7 @@ pub(crate) fn scout_of<'a>(
     Some(Scout { row, rows })
 }
 
-// Puts a scout among others, of which the one whose row comes first is at the end.
+// Puts a scout into a list of scouts, which is in the reverse order of their rows: the one whose row comes first is at the end.
 pub(crate) fn enter<'a>(
     scouts: &mut Vec<Scout<'a>>,
     scout: Scout<'a>,
@@ -41,7 +41,7 @@ pub(crate) fn enter<'a>(
     Ok(())
 }
 
-// Where the scout of a row belongs among others, by binary search.
+// Where a scout at this row belongs in the list, by binary search.
 fn place_of(scouts: &[Scout<'_>], row: &RowBytes, direction: Direction) -> usize
     ensures { result ≤ length scouts.now }
 {

@@ -29,7 +29,7 @@ pub struct Search<'a> {
     pub range: &'a RowRange<'a>,
     /// The row after which the search begins, if one is named.
     pub after: Option<&'a RowBytes>,
-    /// How many rows are taken at most.
+    /// How many hits the search finds at most.
     pub take: usize,
     /// The direction in which rows are listed.
     pub direction: Direction,
@@ -45,7 +45,7 @@ pub(crate) fn bytes_of(alloc: Global, after: Option<&Row>) -> Result<Option<RowB
     }
 }
 
-// Whether a key on this side of the range comes before it in the direction.
+// Whether a key on this side of the range comes before the range in the direction.
 fn is_early(direction: Direction, side: RangeSide) -> bool
     ensures { result ≡ stands_early direction side }
 {
@@ -56,7 +56,7 @@ fn is_early(direction: Direction, side: RangeSide) -> bool
     }
 }
 
-// Whether a key on this side of the range comes after it in the direction.
+// Whether a key on this side of the range comes after the range in the direction.
 fn is_late(direction: Direction, side: RangeSide) -> bool
     ensures { result ≡ stands_late direction side }
 {
@@ -78,7 +78,7 @@ fn is_beyond(direction: Direction, order: Option<Ordering>) -> bool
     }
 }
 
-// Compares the place where a search begins to an item.
+// Compares the place where a search begins to an item, which is at or after that place if `is_reached`.
 #[inline(always)]
 fn begin(direction: Direction, is_reached: bool) -> Ordering
     ensures { result ≡ directed direction (if is_reached then Less else Greater) }
@@ -111,8 +111,8 @@ fn id_order(id: &str, after: Option<&RowBytes>) -> Option<Ordering>
     }
 }
 
-// Whether a row is one that a search looks at, or comes later. Cost: a comparison of bytes with the end of the range, and one with
-// the row after which the search begins, if there is one.
+// Whether a row is at or after the place where a search begins. Cost: a comparison of bytes with the beginning of the range, and one
+// with the row after which the search begins, if there is one.
 #[inline(always)]
 pub(crate) fn is_reached(search: Search<'_>, row: &RowBytes) -> bool
     ensures { result ≡ reached search.entry.direction search.entry.range.now (after_of search.entry) row.now }
@@ -121,8 +121,7 @@ pub(crate) fn is_reached(search: Search<'_>, row: &RowBytes) -> bool
     !is_early && is_beyond(search.direction, row_order(row, search.after))
 }
 
-// Compares the place where the search begins to a row. Cost: a comparison of bytes with the end of the range, and one with the row
-// after which it begins, if there is one.
+// Compares the place where the search begins to a row. Cost: that of `is_reached`.
 #[inline(always)]
 pub(crate) fn begin_at_row(search: Search<'_>, row: &RowBytes) -> Ordering
     ensures { result ≡ begin_at search.entry row.now }

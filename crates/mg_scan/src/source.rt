@@ -35,7 +35,7 @@ impl<'a, 'b> RowSource<Hit<'a>> for HitSource<'a, 'b> {
     }
 }
 
-// The next hit among rows of an index, and the rows after it.
+// Reads rows of an index up to the next hit, and returns the hit.
 fn next_of_rows<'a>(shard: &'a Shard, rows: &mut Rows<'a>, search: Search<'_>) -> Option<Hit<'a>>
     ensures hit { IfSome result (λ h. walked_all_by search.entry shard.now.documents rows.old
         ≡ hit_row h ∷ walked_all_by search.entry shard.now.documents rows.new) }
@@ -54,7 +54,7 @@ fn next_of_rows<'a>(shard: &'a Shard, rows: &mut Rows<'a>, search: Search<'_>) -
     None
 }
 
-// The next hit among documents, and the documents after it.
+// Reads documents up to the next hit, and returns the hit.
 fn next_of_documents<'a>(documents: &mut Documents<'a>, search: Search<'_>) -> Option<Hit<'a>>
     ensures hit { IfSome result (λ h. walked_documents search.entry documents.old
         ≡ hit_row h ∷ walked_documents search.entry documents.new) }

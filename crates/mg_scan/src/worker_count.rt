@@ -6,7 +6,7 @@ use std::marker::Model;
 #[derive(Clone, Copy, Debug)]
 pub struct Workers {
     count: usize,
-    is_most: bool,
+    is_maximum: bool,
 }
 
 impl Model for Workers {
@@ -18,11 +18,11 @@ impl Model for Workers {
 
     ghost coded = { coded× coded_ℕ coded_bool };
 
-    ghost view = { λ w. (w.count, w.is_most) };
+    ghost view = { λ w. (w.count, w.is_maximum) };
 
     ghost invariant = { λ w. (1 ≤ w.count) × (w.count ≤ 32) };
 
-    ghost inverse = { λ n. record { count = n.0; is_most = n.1 } };
+    ghost inverse = { λ n. record { count = n.0; is_maximum = n.1 } };
 }
 
 impl Workers {
@@ -33,7 +33,7 @@ impl Workers {
     {
         Workers {
             count,
-            is_most: true,
+            is_maximum: true,
         }
     }
 
@@ -44,7 +44,7 @@ impl Workers {
     {
         Workers {
             count,
-            is_most: false,
+            is_maximum: false,
         }
     }
 
@@ -60,7 +60,7 @@ impl Workers {
     pub fn is_alone(self, is_small: bool) -> bool
         ensures { result ≡ (self.1 && is_small) }
     {
-        self.is_most && is_small
+        self.is_maximum && is_small
     }
 
     /// How many workers do the work, given whether it is small.

@@ -2,7 +2,7 @@
 ghost use Rattle.std.specs.Prelude.{◌≡◌, ◌<◌, List, length, vec_len, All, IfOk, IfSome};
 ghost use Rattle.std.specs.List.{AllZip};
 ghost use Rattle.mg_shard.specs.Shard.{ShardView, shards_seen};
-ghost use Rattle.mg_scan.specs.Worked.{AllDone, AllSlots, HitsAnswer, AreHitsFound};
+ghost use Rattle.mg_scan.specs.Worked.{AllShardHits, AllSlots, HitsAnswer, AreHitsFound};
 
 use crate::gate::{Gate, Place};
 use crate::hit::Hit;
@@ -16,12 +16,12 @@ use std::sync::atomic::{AtomicU64, Ordering};
 
 /// The hits of one shard.
 #[derive(Drop)]
-pub(crate) struct Done<'a> {
+pub(crate) struct ShardHits<'a> {
     pub(crate) shard: usize,
     pub(crate) hits: Vec<Hit<'a>>,
 }
 
-// Searches the i-th shard. Passes the gate before and after.
+// Searches the i-th shard. Passes the gate before it, and after it if memory suffices.
 fn search_shard<'a, G: Gate>(
     alloc: Global,
     shards: &'a [Arc<Shard>],
@@ -39,15 +39,15 @@ fn search_shard<'a, G: Gate>(
     Ok(hits)
 }
 
-/// Claims shards and searches them, until no shard is left. Returns the hits of each.
+/// Claims shards and searches them, until no shard is left. Returns the hits of each shard that it claimed.
 pub(crate) fn search_claimed<'a, G: Gate>(
     alloc: Global,
     shards: &'a [Arc<Shard>],
     search: Search<'_>,
     next: &AtomicU64,
     gate: &G,
-) -> Result<Vec<Done<'a>>, NoMemory>
-    ensures { IfOk result (λ v. AllDone search.entry (shards_seen shards.now) v.items) }
+) -> Result<Vec<ShardHits<'a>>, NoMemory>
+    ensures { IfOk result (λ v. AllShardHits search.entry (shards_seen shards.now) v.items) }
 {
     let mut all = Vec::new(alloc);
     for _turn in 0..shards.len() {
@@ -57,19 +57,19 @@ pub(crate) fn search_claimed<'a, G: Gate>(
         }
         let shard = claimed as usize;
         let hits = search_shard(alloc, shards, search, shard, gate)?;
-        all.push(Done { shard, hits })?;
+        all.push(ShardHits { shard, hits })?;
     }
     Ok(all)
 }
 
 // Puts each list of hits into the slot of its shard. If a slot is filled twice, both lists have the same rows.
-fn put_in_slots<'a>(slots: &mut Vec<Option<Vec<Hit<'a>>>>, given: Vec<Done<'a>>)
-    ensures slots { (search : Search) (shards : List ShardView) → AllDone search shards given.entry.items
+fn put_in_slots<'a>(slots: &mut Vec<Option<Vec<Hit<'a>>>>, given: Vec<ShardHits<'a>>)
+    ensures slots { (search : Search) (shards : List ShardView) → AllShardHits search shards given.entry.items
         → AllSlots search shards slots.old.items → AllSlots search shards slots.new.items }
     ensures len { vec_len slots.new ≡ vec_len slots.old }
 {
     let mut given = given;
-    while let Some(Done { shard, hits }) = given.pop() {
+    while let Some(ShardHits { shard, hits }) = given.pop() {
         if shard < slots.len() {
             slots[shard] = Some(hits);
         }
@@ -92,11 +92,11 @@ fn empty_slots<'a>(alloc: Global, count: usize) -> Result<Vec<Option<Vec<Hit<'a>
 /// Puts the hits that the workers found into slots, one for each shard. Errors: `NoMemory` if it, or a worker, was refused memory.
 pub(crate) fn fill_slots<'a>(
     alloc: Global,
-    given: Vec<Result<Vec<Done<'a>>, NoMemory>>,
+    given: Vec<Result<Vec<ShardHits<'a>>, NoMemory>>,
     shards: &[Arc<Shard>],
     search: Search<'_>,
 ) -> Result<Vec<Option<Vec<Hit<'a>>>>, NoMemory>
-    requires { All (λ r. IfOk r (λ v. AllDone search (shards_seen shards.now) v.items)) given.items }
+    requires { All (λ r. IfOk r (λ v. AllShardHits search (shards_seen shards.now) v.items)) given.items }
     ensures slots { IfOk result (λ v. AllSlots search.entry (shards_seen shards.now) v.items) }
     ensures len { IfOk result (λ v. vec_len v ≡ length shards.now) }
 {

@@ -15,10 +15,11 @@ use Rattle.mg_revtree.specs.Revision.{revision_text}
 use Rattle.mg_value.specs.Value.{Value, null, flag, whole, text, list, object, Members, no_members, member, no_items, item, get_member, member_of, put, with_member}
 use Rattle.mg_value.specs.View.{items_of}
 use Rattle.mg_shard.specs.Documents.{Kept, kept_entry, form_at, form_of, id_bytes, kept_of, shown}
-use Rattle.mg_shard.specs.Own.{HasOwnId, IsServedOwn, all_columns, has_own_id}
+use Rattle.mg_shard.specs.Own.{HasOwnId, IsServedOwn, all_columns, form_in, has_own_id}
 use Rattle.mg_shard.specs.Rows.{row_key}
 use Rattle.mg_shard.specs.declared.document.Document.{Document}
 use Rattle.mg_shard.specs.declared.served.Served.{Served}
+use Rattle.mg_shard.specs.declared.served.Served.TheVariants.{Deleted, WithId, WithoutId}
 use Rattle.mg_shard.proofs.Shown.{bytes_cmp, bytes_exact}
 use Rattle.mg_shard.proofs.Standing.{tied}
 
@@ -49,17 +50,31 @@ own_with id (object ms) = λ part h. same_part (text id) part (get_member (codes
 pub own_leaf : (id : List ℕ) (l : Leaf) (form : Value) → form ≡ served_form id l → HasOwnId id form
 own_leaf id l form e = subst (λ (v : Value). HasOwnId id v) (sym e) (own_with id (with_member (codes "_rev") (text (revision_text l.rev)) l.body))
 
+-- ---- what is made of it
+
+found_part : (id : List ℕ) (o : Option Value) → ((part : Value) → option_and_then (part_of []) o ≡ Some part → part ≡ text id) → is_some o ≡ true → o ≡ Some (text id)
+found_part id None own e = absurd cc
+found_part id (Some part) own e = ap Some (own part refl)
+
+pub own_found_in : (id : List ℕ) (form : Value) → HasOwnId id form → is_some (member_of (codes "_id") form) ≡ true → member_of (codes "_id") form ≡ Some (text id)
+own_found_in id null own e = absurd cc
+own_found_in id (flag b) own e = absurd cc
+own_found_in id (whole z) own e = absurd cc
+own_found_in id (text s) own e = absurd cc
+own_found_in id (list vs) own e = absurd cc
+own_found_in id (object ms) own e = found_part id (get_member (codes "_id") ms) own e
+
+pub none_found : (o : Option Value) → is_some o ≡ false → o ≡ None
+none_found None e = refl
+none_found (Some v) e = absurd cc
+
 some_is : {X : Type 0} (x y : X) → Some x ≡ Some y → x ≡ y
 some_is x y e = cc
 
--- so is what is made of it
-pub own_made : (id : List ℕ) (o : Option Value) (form : Value) (made : Served) → IfSome o (λ f. (l : Leaf) × (f ≡ served_form id l)) → o ≡ Some form → made.form ≡ form → IsServedOwn id (Some made)
-own_made id None form made h is same = absurd cc
-own_made id (Some f) form made h is same =
-    λ s e. subst (λ (x : Served). HasOwnId id x.form) (some_is made s e) (own_leaf id h.0 made.form (same ∙ sym (some_is f form is) ∙ h.1))
-
-pub none_made : (id : List ℕ) → IsServedOwn id None
-none_made id = λ s is. absurd cc
+-- the form of a leaf has this `_id`, if any
+pub own_of_leaf : (id : List ℕ) (o : Option Value) (form : Value) → IfSome o (λ f. (l : Leaf) × (f ≡ served_form id l)) → o ≡ Some form → HasOwnId id form
+own_of_leaf id None form h is = absurd cc
+own_of_leaf id (Some f) form h is = own_leaf id h.0 form (sym (some_is f form is) ∙ h.1)
 
 -- ---- its `_id`
 
@@ -75,49 +90,55 @@ key-member (text s) = refl
 key-member (list vs) = refl
 key-member (object ms) = one_part (get_member (codes "_id") ms)
 
--- what is found at `_id`, where something is
-found_own : (id : List ℕ) (o : Option Value) → ((part : Value) → option_and_then (part_of []) o ≡ Some part → part ≡ text id) → is_some o ≡ true
-    → Some (item (text id) no_items) ≡ option_map (λ part. item part no_items) o
-found_own id None own e = absurd cc
-found_own id (Some part) own e = ap (λ v. Some (item v no_items)) (sym (own part refl))
+member_key : (form : Value) (o : Option Value) → member_of (codes "_id") form ≡ o → option_map (λ part. item part no_items) o ≡ row_key all_columns form
+member_key form o e = ap (option_map (λ part. item part no_items)) (sym e) ∙ sym (key-member form)
 
-found_none : (o : Option Value) → is_some o ≡ false → None ≡ option_map (λ part. item part no_items) o
-found_none None e = refl
-found_none (Some part) e = absurd cc
+served_own : (id : List ℕ) (s : Served) → IsServedOwn id s → has_own_id s ≡ true → Some (item (text id) no_items) ≡ option_and_then (row_key all_columns) (form_in s)
+served_own id Deleted own e = absurd cc
+served_own id (WithId form) own e = member_key form (Some (text id)) own
+served_own id (WithoutId form) own e = absurd cc
 
-member_own : (id : List ℕ) (form : Value) → HasOwnId id form → is_some (member_of (codes "_id") form) ≡ true → Some (item (text id) no_items) ≡ row_key all_columns form
-member_own id null own e = absurd cc
-member_own id (flag b) own e = absurd cc
-member_own id (whole z) own e = absurd cc
-member_own id (text s) own e = absurd cc
-member_own id (list vs) own e = absurd cc
-member_own id (object ms) own e = found_own id (get_member (codes "_id") ms) own e ∙ sym (key-member (object ms))
-
-member_none : (form : Value) → is_some (member_of (codes "_id") form) ≡ false → None ≡ row_key all_columns form
-member_none form e = found_none (member_of (codes "_id") form) e ∙ sym (key-member form)
-
-served_own : (id : List ℕ) (o : Option Served) → IsServedOwn id o → has_own_id o ≡ true → Some (item (text id) no_items) ≡ option_and_then (row_key all_columns) (option_map (λ s. s.form) o)
-served_own id None own e = absurd cc
-served_own id (Some s) own e = member_own id s.form (own s refl) (sym s.has_member ∙ e)
-
-served_none : (o : Option Served) → has_own_id o ≡ false → None ≡ option_and_then (row_key all_columns) (option_map (λ s. s.form) o)
-served_none None e = refl
-served_none (Some s) e = member_none s.form (sym s.has_member ∙ e)
+served_none : (id : List ℕ) (s : Served) → IsServedOwn id s → has_own_id s ≡ false → None ≡ option_and_then (row_key all_columns) (form_in s)
+served_none id Deleted own e = refl
+served_none id (WithId form) own e = absurd cc
+served_none id (WithoutId form) own e = member_key form None own
 
 -- the key of a document among all documents, where it has one
 pub key_own : (d : Document) → has_own_id d.served ≡ true → Some (item (text (id_bytes d)) no_items) ≡ option_and_then (row_key all_columns) (form_of d)
 key_own d e = served_own (id_bytes d) d.served d.own_id e
 
 pub key_none : (d : Document) → has_own_id d.served ≡ false → None ≡ option_and_then (row_key all_columns) (form_of d)
-key_none d e = served_none d.served e
+key_none d e = served_none (id_bytes d) d.served d.own_id e
 
 -- ---- the documents of a shard
 
-own_served : (id : List ℕ) (served : Option Served) (form : Value) → IsServedOwn id served → option_map (λ s. s.form) served ≡ Some form → HasOwnId id form
-own_served id None form own e = absurd cc
-own_served id (Some s) form own e = let same : s.form ≡ form = cc in subst (λ (v : Value). HasOwnId id v) same (own s refl)
+-- a form with this `_id`, or with none, has its own
+part_none : (id : List ℕ) (o : Option Value) (part : Value) → o ≡ None → option_and_then (part_of []) o ≡ Some part → part ≡ text id
+part_none id None part e f = absurd cc
+part_none id (Some v) part e f = absurd cc
 
-own_document : (d : Document) (form : Value) → form_of d ≡ Some form → HasOwnId (id_bytes d) form
+own_with_id : (id : List ℕ) (form : Value) → member_of (codes "_id") form ≡ Some (text id) → HasOwnId id form
+own_with_id id null e = λ part h. absurd cc
+own_with_id id (flag b) e = λ part h. absurd cc
+own_with_id id (whole z) e = λ part h. absurd cc
+own_with_id id (text s) e = λ part h. absurd cc
+own_with_id id (list vs) e = λ part h. absurd cc
+own_with_id id (object ms) e = λ part h. same_part (text id) part (get_member (codes "_id") ms) e h
+
+own_without_id : (id : List ℕ) (form : Value) → member_of (codes "_id") form ≡ None → HasOwnId id form
+own_without_id id null e = λ part h. absurd cc
+own_without_id id (flag b) e = λ part h. absurd cc
+own_without_id id (whole z) e = λ part h. absurd cc
+own_without_id id (text s) e = λ part h. absurd cc
+own_without_id id (list vs) e = λ part h. absurd cc
+own_without_id id (object ms) e = λ part h. part_none id (get_member (codes "_id") ms) part e h
+
+own_served : (id : List ℕ) (s : Served) (form : Value) → IsServedOwn id s → form_in s ≡ Some form → HasOwnId id form
+own_served id Deleted form own e = absurd cc
+own_served id (WithId f) form own e = subst (λ (v : Value). HasOwnId id v) (some_is f form e) (own_with_id id f own)
+own_served id (WithoutId f) form own e = subst (λ (v : Value). HasOwnId id v) (some_is f form e) (own_without_id id f own)
+
+pub own_document : (d : Document) (form : Value) → form_of d ≡ Some form → HasOwnId (id_bytes d) form
 own_document d form e = own_served (id_bytes d) d.served form d.own_id e
 
 own_step : (q : List ℕ) (d : Document) (form : Value) (o : Option Kept) (b : Bool) → is_eq (bytes_cmp q (id_bytes d)) ≡ b → (option_and_then (λ k. k.1) o ≡ Some form → HasOwnId q form)

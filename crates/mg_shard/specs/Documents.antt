@@ -10,6 +10,7 @@ use Rattle.mg_revtree.specs.History.{Paths}
 use Rattle.mg_revtree.specs.Tree.{Tree, StandsFor}
 use Rattle.mg_doc.specs.Served.{served_of}
 use Rattle.mg_shard.specs.Histories.{Histories, ServedDocument}
+use Rattle.mg_shard.specs.Own.{form_in}
 use Rattle.mg_shard.specs.declared.document.Document.{Document}
 
 -- a document as it is kept: its revision tree, and the form in which it is served
@@ -55,7 +56,7 @@ id_bytes d = d.id
 
 -- the form in which a document is served
 abbrev pub form_of : Document → Option Value
-form_of d = option_map (λ s. s.form) d.served
+form_of d = form_in d.served
 
 -- the document as it is kept
 abbrev pub kept_of : Document → Kept

@@ -1,12 +1,12 @@
 -- Documents are served with their own ids: the rows of all documents by id are those of the one column `_id`.
-use Rattle.std.specs.Prelude.{◌≡◌, ℕ, Bool, false, List, [], ◌∷◌, Option, Some, codes}
-use Rattle.std.specs.Coded.{Coded-set, Π_prop, →_prop}
-use Rattle.std.specs.Option.{option_map_or}
-use Rattle.mg_value.specs.Value.{Value, text}
+use Rattle.std.specs.Prelude.{◌≡◌, ⊤, ℕ, Bool, true, false, List, [], ◌∷◌, Option, Some, None, codes}
+use Rattle.std.specs.Coded.{Coded-set, coded_option, Unit-prop}
+use Rattle.mg_value.specs.Value.{Value, member_of, text}
 use Rattle.mg_value.specs.Code.{value_code}
 use Rattle.mg_index.specs.Definition.{Steps}
 use Rattle.mg_path.specs.Part.{part_of}
 use Rattle.mg_shard.specs.declared.served.Served.{Served}
+use Rattle.mg_shard.specs.declared.served.Served.TheVariants.{Deleted, WithId, WithoutId}
 
 -- the columns of the list of all documents: `_id` alone
 abbrev pub all_columns : List Steps
@@ -18,13 +18,25 @@ HasOwnId id form = (part : Value) → part_of (codes "_id" ∷ []) form ≡ Some
 
 -- ---- of the code's documents
 
--- if there is a form with an `_id`, that is this id
-abbrev pub IsServedOwn : List ℕ → Option Served → Type 0
-IsServedOwn id served = (s : Served) → served ≡ Some s → HasOwnId id s.form
+-- the form in which a document is served, if it is
+abbrev pub form_in : Served → Option Value
+form_in Deleted = None
+form_in (WithId form) = Some form
+form_in (WithoutId form) = Some form
 
-pub IsServedOwn-prop : (id : List ℕ) (served : Option Served) → IsProp (IsServedOwn id served)
-IsServedOwn-prop id served = Π_prop (λ s. →_prop (Π_prop (λ part. →_prop (Coded-set value_code part (text id)))))
+-- whether a document is served with an `_id`
+abbrev pub has_own_id : Served → Bool
+has_own_id Deleted = false
+has_own_id (WithId form) = true
+has_own_id (WithoutId form) = false
 
--- whether there is a form, and it has an `_id`
-abbrev pub has_own_id : Option Served → Bool
-has_own_id served = option_map_or (λ s. s.has_id) served false
+-- a document that is served with an `_id` is served with this one
+abbrev pub IsServedOwn : List ℕ → Served → Type 0
+IsServedOwn id Deleted = ⊤
+IsServedOwn id (WithId form) = member_of (codes "_id") form ≡ Some (text id)
+IsServedOwn id (WithoutId form) = member_of (codes "_id") form ≡ None
+
+pub IsServedOwn-prop : (id : List ℕ) (served : Served) → IsProp (IsServedOwn id served)
+IsServedOwn-prop id Deleted = Unit-prop
+IsServedOwn-prop id (WithId form) = Coded-set (coded_option value_code) (member_of (codes "_id") form) (Some (text id))
+IsServedOwn-prop id (WithoutId form) = Coded-set (coded_option value_code) (member_of (codes "_id") form) None

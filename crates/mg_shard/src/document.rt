@@ -1,9 +1,9 @@
 //! Documents as they are kept.
-ghost use Rattle.std.specs.Prelude.{◌≡◌, option_map, IfOk};
+ghost use Rattle.std.specs.Prelude.{◌≡◌, IfOk};
 ghost use Rattle.mg_revtree.specs.History.{Paths};
 ghost use Rattle.mg_revtree.specs.Tree.{StandsFor};
 ghost use Rattle.mg_doc.specs.Served.{served_of};
-ghost use Rattle.mg_shard.specs.Own.{IsServedOwn, IsServedOwn-prop};
+ghost use Rattle.mg_shard.specs.Own.{form_in, IsServedOwn, IsServedOwn-prop};
 
 use crate::document_id::DocumentId;
 use crate::served::Served;
@@ -19,7 +19,7 @@ use std::alloc::Global;
 pub struct Document {
     pub(crate) id: DocumentId,
     pub(crate) tree: RevTree,
-    pub(crate) served: Option<Served>,
+    pub(crate) served: Served,
     ghost own_id: { IsServedOwn id served } by { IsServedOwn-prop id served },
 }
 
@@ -33,18 +33,17 @@ impl Identified for Document {
     }
 }
 
-// The form in which the document with this id is served, with its text; `None` if the document is deleted. The winner's body moves
-// into the form's block, as for `served_packed`.
-fn served_in(alloc: Global, id: &str, tree: &mut RevTree) -> Result<Option<Served>, NoMemory>
+// The form in which the document with this id is served, with its text. The winner's body moves into the form's block, as for
+// `served_packed`.
+fn served_in(alloc: Global, id: &str, tree: &mut RevTree) -> Result<Served, NoMemory>
     ensures own { IfOk result (λ served. IsServedOwn id.now served) }
     ensures served { IfOk result
-        (λ served. (h : Paths) → StandsFor tree.old h
-        → option_map (λ s. s.form) served ≡ served_of id.now h) }
+        (λ served. (h : Paths) → StandsFor tree.old h → form_in served ≡ served_of id.now h) }
     ensures tree { tree.new ≡ tree.old }
 {
     match served_packed(alloc, id, tree)? {
-        Some(form) => Ok(Some(Served::of(form))),
-        None => Ok(None),
+        Some(form) => Ok(Served::of(form)),
+        None => Ok(Served::Deleted),
     }
 }
 
@@ -57,7 +56,7 @@ impl Document {
     ghost use Rattle.mg_doc.specs.Served.{served_of};
     ghost use Rattle.mg_shard.specs.Documents.{form_of, id_bytes, kept_of};
     ghost use Rattle.mg_shard.specs.Rows.{row_key};
-    ghost use Rattle.mg_shard.specs.Own.{all_columns, has_own_id};
+    ghost use Rattle.mg_shard.specs.Own.{all_columns};
 
     /// The document with this id and this revision tree. The winner's body moves into the block of the form in which the document
     /// is served, as for `served_packed`.
@@ -102,10 +101,7 @@ impl Document {
     pub fn written(&self) -> Option<&Written>
         ensures { option_map (λ v. v.now) result ≡ form_of self.now }
     {
-        match &self.served {
-            Some(served) => Some(served.form.written()),
-            None => None,
-        }
+        self.served.written()
     }
 
     /// The compact text of the form in which it is served, if it is not deleted. The text was made when the document was last edited.
@@ -113,19 +109,9 @@ impl Document {
     pub fn text(&self) -> Option<&[u8]>
         ensures { option_map (λ t. t.now) result ≡ option_map compact (form_of self.now) }
     {
-        match &self.served {
-            Some(served) => Some(served.form.written().text()),
+        match self.written() {
+            Some(form) => Some(form.text()),
             None => None,
-        }
-    }
-
-    // Whether the form in which it is served has a member `_id`.
-    fn has_id(&self) -> bool
-        ensures { result ≡ has_own_id self.now.served }
-    {
-        match &self.served {
-            Some(served) => served.has_id,
-            None => false,
         }
     }
 
@@ -136,6 +122,6 @@ impl Document {
             ≡ option_and_then (row_key all_columns) (form_of self.now) }
         ensures own { IfSome result (λ id. id.now ≡ id_bytes self.now) }
     {
-        if self.has_id() { Some(self.id()) } else { None }
+        if self.served.has_id() { Some(self.id()) } else { None }
     }
 }

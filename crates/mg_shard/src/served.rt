@@ -1,24 +1,51 @@
 //! The form in which a document is served.
-ghost use Rattle.std.specs.Prelude.{◌≡◌, codes, is_some};
-ghost use Rattle.mg_value.specs.Value.{member_of};
+ghost use Rattle.std.specs.Prelude.{◌≡◌, ℕ, List, Some, option_map};
+ghost use Rattle.mg_shard.specs.Own.{form_in, has_own_id, HasOwnId, IsServedOwn};
 
+use mg_packed::Written;
 use mg_revtree::Form;
 
-/// The form in which a document is served, in one block with its compact text.
+/// The form in which a document is served, in one block with its compact text. A form that has a member `_id` is told apart, so that
+/// no search among all documents looks for it. Every document has one of these, so its size counts.
 #[derive(Drop)]
-pub(crate) struct Served {
-    pub(crate) form: Form,
-    // Whether the form has a member `_id`, so that no search among all documents looks for it.
-    pub(crate) has_id: bool,
-    ghost has_member: { has_id ≡ is_some (member_of (codes "_id") form) },
+pub(crate) enum Served {
+    Deleted,
+    WithId(Form),
+    WithoutId(Form),
 }
 
+const _: () = prove!(size_of::<Served>() == 16);
+
 impl Served {
-    /// A form, of which it is known whether it has an `_id`. Takes no memory. Cost: a look-up of a member.
+    /// The form of a document that is not deleted. Takes no memory. Cost: a look-up of a member.
     pub(crate) fn of(form: Form) -> Served
-        ensures { result.form ≡ form }
+        ensures form { form_in result ≡ Some form }
+        ensures own { (id : List ℕ) → HasOwnId id form → IsServedOwn id result }
     {
-        let has_id = form.written().part().member("_id").is_some();
-        Served { form, has_id }
+        if form.written().part().member("_id").is_some() {
+            Served::WithId(form)
+        } else {
+            Served::WithoutId(form)
+        }
+    }
+
+    /// The block of the form, if the document is not deleted. Takes no memory.
+    pub(crate) fn written(&self) -> Option<&Written>
+        ensures { option_map (λ form. form.now) result ≡ form_in self.now }
+    {
+        match self {
+            Served::Deleted => None,
+            Served::WithId(form) | Served::WithoutId(form) => Some(form.written()),
+        }
+    }
+
+    /// Whether the form has a member `_id`. Takes no memory.
+    pub(crate) fn has_id(&self) -> bool
+        ensures { result ≡ has_own_id self.now }
+    {
+        match self {
+            Served::WithId(_) => true,
+            Served::Deleted | Served::WithoutId(_) => false,
+        }
     }
 }

@@ -1,4 +1,4 @@
--- For private clauses: what is known of every `Json` that the code holds, and the tokens that are written for it.
+-- What is known of every `Json` that the code holds, and, for private clauses, the tokens that are written for it.
 use Rattle.std.specs.Prelude.{◌≡◌, ℕ, List, FitsSigned, ⊤}
 use Rattle.std.specs.Int.{w64}
 use Rattle.std.specs.Ordering.{nat_cmp}

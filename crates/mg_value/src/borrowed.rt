@@ -1,5 +1,5 @@
-// The fast path of `read`, over a parse tree that borrows its strings. It gives up if any number is not an
-// `i64`.
+// The fast path of `read`, over a parse tree that borrows its strings. It gives up (`None`) if the text is not JSON, a
+// number is not an `i64`, or memory ran out.
 ghost use Rattle.std.specs.Prelude.{◌≡◌, ◌<◌, ◌==◌, true, false, length, slice_index, Some, IsTrue, IfSome, option_and_then};
 ghost use Rattle.json.specs.Value.{value_view, items_view as tree_items, members_view as tree_members};
 ghost use Rattle.serde_json.specs.Find.{as_i64};
@@ -18,25 +18,28 @@ use std::collections::BTreeMap;
 /// How deep arrays and objects may nest: the limit of `serde_json`.
 pub const MAX_DEPTH: usize = 127;
 
-/// The longest text, in bytes, that is read in a buffer's room. A longer one has room of its own, which its read frees.
+/// The longest text, in bytes, that is read with the memory of a `ReadBuffer`. A longer text is read with memory that
+/// is freed after the read, so that one large text does not hold memory from then on.
 pub const LONGEST_KEPT: usize = 65_536;
 
-/// Memory that reading needs besides the value, kept from one text to the next: a table of 16 KiB, which is
-/// cleared once, and as many bytes as the longest text that was read with it, up to 64 KiB.
+/// Memory that reading needs besides the value, kept from one text to the next: a table of 16 KiB, which is cleared
+/// when the buffer is made, and room for as many bytes as the longest text so far of at most `LONGEST_KEPT` bytes has.
+/// The room grows by doubling, so it takes less than 128 KiB.
 #[derive(Drop)]
 pub struct ReadBuffer {
     scratch: Scratch,
 }
 
 impl ReadBuffer {
-    /// A new buffer, without room for strings. Takes no memory.
+    /// A new buffer. It clears its table of 16 KiB, which is part of the buffer itself, and allocates nothing.
     pub fn new(alloc: Global) -> ReadBuffer {
         ReadBuffer {
             scratch: Scratch::new(alloc),
         }
     }
 
-    /// The memory that `read_tree` reads a text of at most `LONGEST_KEPT` bytes in.
+    /// The memory for `read_tree`. The buffer keeps as much as the longest text needed, so lend it only for texts of at
+    /// most `LONGEST_KEPT` bytes.
     pub fn scratch(&mut self) -> &mut Scratch {
         &mut self.scratch
     }
@@ -61,8 +64,10 @@ fn whole_in(alloc: Global, text: &str, scratch: &mut Scratch) -> Option<Json>
     whole(alloc, &tree)
 }
 
-/// The parse tree of a JSON text, which borrows its strings; `None` if the text is not JSON, nests more than 127
-/// deep, or memory ran out. Cost: the length of the text.
+/// The parse tree of a JSON text; `None` if the text is not JSON, nests more than 127 deep, or memory ran out. A number
+/// stays text, and its size is not checked. A string is borrowed from the text, or from `scratch` if it has an escape.
+///
+/// Cost: the length of the text. `scratch` grows to hold as many bytes as the text has.
 pub fn read_tree<'a>(alloc: Global, text: &'a str, scratch: &'a mut Scratch) -> Option<Tree<'a>>
     ensures { IfSome result (λ tree. (v : Value) → IsWhole (value_view tree) v → Reads text.now v) }
 {
@@ -120,7 +125,8 @@ fn whole_members(alloc: Global, members: &[(&str, Tree<'_>)]) -> Option<BTreeMap
     Some(copies)
 }
 
-/// The number of a JSON numeral; `None` if it is not an `i64`. Cost: its length.
+/// The number that a JSON numeral stands for; `None` if it is not an `i64`: `1.0`, `1e2` and `-0` are not. The text must
+/// be a numeral and nothing more: bytes after the numeral are ignored. Cost: the length of the text.
 pub fn whole_number(text: &str) -> Option<i64>
     ensures { IfSome result (λ z. whole_number_of text.now ≡ Some z) }
 {

@@ -16,11 +16,12 @@ use std::collections::BTreeMap;
 /// Arrays and objects may nest 127 deep, as in `serde_json`. Of members with the same name in an
 /// object the last one counts: `{"a":1.5,"a":1}` is `{"a":1}`.
 ///
-/// Errors: `NotJson` where the bytes are not such a text, or a number is too large for a 64-bit float;
-/// `NotWhole` where they are, but a number of the value is not an `i64` (`1.5`, `1.0`, `1e2`, `-0` and
-/// `9223372036854775808` are not); `NoMemory` if an allocation fails. Bytes that are not UTF-8, and
-/// the empty text, are `NotJson` even where there is no memory.
-/// Cost: the length of the text, and for each object its members times the logarithm of their count.
+/// Errors: `NotJson` if the bytes are not such a text, or a number is too large for a 64-bit float;
+/// `NotWhole` if they are such a text, but a number of the value is not an `i64` (`1.5`, `1.0`, `1e2`,
+/// `-0` and `9223372036854775808` are not); `NoMemory` if an allocation fails. Bytes that are not UTF-8,
+/// and the empty text, are `NotJson` even where there is no memory.
+/// Cost: the length of the text, and for each object its members times the logarithm of their count. A
+/// text in UTF-8 that is refused is read twice.
 pub fn read(alloc: Global, bytes: &[u8]) -> Result<Json, ReadError>
     ensures ok { IfOk result (λ v. Reads bytes.now (view v)) }
     ensures not_json { result ≡ Err ReadError.NotJson → (d : Data) → ¬ IsText bytes.now d }
@@ -35,7 +36,8 @@ pub fn read(alloc: Global, bytes: &[u8]) -> Result<Json, ReadError>
 
 /// Reads a JSON text as `read` does, with a buffer that is kept from text to text.
 ///
-/// Errors: those of `read`. Cost: that of `read`, without the clearing of a table of 16 KiB for each text.
+/// Errors: those of `read`. Cost: that of `read`; but where `read` clears a table of 16 KiB for each text, this does
+/// so only for a text that has more than `LONGEST_KEPT` bytes, or is read twice.
 pub fn read_in(alloc: Global, bytes: &[u8], buffer: &mut ReadBuffer) -> Result<Json, ReadError>
     ensures ok { IfOk result (λ v. Reads bytes.now (view v)) }
     ensures not_json { result ≡ Err ReadError.NotJson → (d : Data) → ¬ IsText bytes.now d }

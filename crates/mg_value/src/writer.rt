@@ -10,7 +10,7 @@ use json::Writer;
 use std::alloc::{AllocError, Global};
 use std::collections::BTreeMap;
 
-// The first size of the buffer, in bytes: the text of most documents fits.
+// The first size of the buffer, in bytes.
 const FIRST_ROOM: usize = 256;
 
 /// Writes the value as compact JSON text (RFC 8259). `read` gives the value back, where it nests at

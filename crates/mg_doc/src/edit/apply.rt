@@ -109,9 +109,10 @@ impl ReadyEdit {
     /// Applies the edit to the tree that was looked at, or to a copy of it, and returns the revision that the edit brings. Does not
     /// look again.
     ///
-    /// Errors: `Conflict` if the made revision is already known; else `NoMemory` if an allocation fails. An error leaves the tree as
-    /// it was. Cost: that of `RevTree::extend` or `RevTree::merge`, and the length of the body's text if the revision's id has to be
-    /// made here: it was not made ahead, or it was made for a first revision and a deleted winner is extended.
+    /// Errors: `Conflict` if the made revision is already known; `NoMemory` as for `RevTree::merge`. If the revision's id has to be made
+    /// here, lack of memory for it hides the `Conflict`. An error leaves the tree as it was. Cost: that of `RevTree::extend` or
+    /// `RevTree::merge`, and the length of the body's text if the id has to be made here: it was not made ahead, or it was made for a
+    /// first revision and a deleted winner is extended.
     pub fn bring(self, alloc: Global, tree: &mut RevTree) -> Result<Rev, EditError>
         requires { (h : Paths) → StandsFor tree.old h → IsReady h self }
         ensures applied { (h : Paths) → StandsFor tree.old h → Applied h self result tree.new }
@@ -197,7 +198,7 @@ fn base_unnamed(tree: &RevTree) -> Result<Option<&Rev>, Refused>
 }
 
 // A copy of the base that is extended if no revision is named.
-fn copied_base(alloc: Global, tree: &RevTree) -> Result<Option<Rev>, EditError>
+fn copy_base(alloc: Global, tree: &RevTree) -> Result<Option<Rev>, EditError>
     ensures { (h : Paths) → StandsFor tree.now h → CopyIs (base_found h None) result }
 {
     match base_unnamed(tree)? {
@@ -224,14 +225,14 @@ fn extend(
     match named {
         Some(rev) => extend_over(alloc, tree, Some(rev), deleted, body, ahead),
         None => {
-            let base = copied_base(alloc, tree)?;
+            let base = copy_base(alloc, tree)?;
             let ahead = over_nothing(ahead, base.as_ref());
             extend_over(alloc, tree, base.as_ref(), deleted, body, ahead)
         }
     }
 }
 
-// The id that was made ahead for a first revision; `None` if a base is extended, since the digest of a revision over it is another.
+// The id that was made ahead for a first revision; `None` if a base is extended, since a revision over the base has another id.
 fn over_nothing(ahead: Option<String>, base: Option<&Rev>) -> Option<String>
     ensures { IfSome result (λ id. (ahead ≡ Some id) × (option_copied base.entry ≡ None)) }
 {

@@ -1,4 +1,4 @@
-ghost use Rattle.std.specs.Prelude.{◌≡◌, ◌+◌, ◌<◌, ◌≤◌, ◌++◌, ◌*◌, ◌||◌, List, [], IfOk, IfSome, OnErr, OnOk, is_some, length, map, nat_le, option_copied, option_map, string_bytes};
+ghost use Rattle.std.specs.Prelude.{◌≡◌, ◌+◌, ◌<◌, ◌≤◌, ◌++◌, ◌*◌, List, [], IfOk, IfSome, OnErr, OnOk, is_some, length, map, nat_le, string_bytes};
 ghost use Rattle.mg_revtree.specs.Revision.{run_from};
 ghost use Rattle.mg_revtree.specs.History.{Link, are_held, fit, links};
 ghost use Rattle.mg_revtree.specs.Tree.{AreNodes, AreSorted, find};
@@ -16,7 +16,7 @@ use std::marker::Model;
 const FEW: usize = 64;
 
 // The newer list may also hold up to about ROOTS times the square root of the number of older revisions. With more ROOTS, a copy
-// costs more, and a line of edits in one bulk costs less.
+// costs more, and many edits of one document in one bulk cost less.
 const ROOTS: usize = 4;
 
 // Whether `number` is at most the square root of `square`.
@@ -80,7 +80,7 @@ impl KnownLinks {
         self.look_up_parent(pos, id.as_bytes()).is_some()
     }
 
-    /// Whether no known revision gets another parent from a run, which is given by its start and its ids, newest first.
+    /// Whether a run, given by its start and its ids, newest first, gives no known revision a parent other than the known one.
     /// Cost: the length of the run times the logarithm of the known revisions.
     pub fn fits(&self, start: u32, ids: &[String]) -> bool
         ensures { (ls : List Link) → AreNodes self.now ls

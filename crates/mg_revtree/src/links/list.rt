@@ -95,7 +95,7 @@ impl Links {
 
     /// Adds a run, given by its start and its ids, newest first. If memory runs out, nothing changes. Cost: the length of the
     /// run times the logarithm of the revisions, and one pass over the run and the nodes above its lowest unknown revision.
-    /// There are no such nodes where the run extends the line with the highest positions.
+    /// There are no such nodes if the run extends the branch with the highest positions.
     pub fn join(&mut self, start: u32, ids: &[String]) -> Result<(), NoMemory>
         requires { length ids.now ≤ start + 1 }
         ensures nodes { OnOk result ((ls : List Link) → AreNodes self.old ls

@@ -8,8 +8,8 @@ use std::alloc::Global;
 use std::marker::Model;
 use std::sync::Arc;
 
-/// Links that the copies of a tree share, and that never change. Contracts see the list of them. `None` is the empty list,
-/// which then takes no memory.
+/// Links that the copies of a tree share, and that never change. Contracts see the list of them. The empty list is `None` and
+/// takes no memory.
 #[derive(Drop)]
 pub struct Older {
     links: Option<Arc<Links>>,
@@ -69,7 +69,7 @@ impl Older {
         }
     }
 
-    /// Another reference to the links. Takes no memory.
+    /// Another reference to the links. Takes no memory. Errors: `NoMemory` if there are too many references.
     pub fn share(&self) -> Result<Older, NoMemory>
         ensures { IfOk result (λ older. older ≡ self.now) }
     {

@@ -1,5 +1,5 @@
-ghost use Rattle.std.specs.Prelude.{◌≡◌, ◌-◌, ◌<◌, ◌≤◌, [], ◌∷◌, IfOk, None, length, true};
-ghost use Rattle.mg_revtree.specs.Nodes.{AreWithin, link_in, links_in, text_of_part};
+ghost use Rattle.std.specs.Prelude.{◌≡◌, ◌-◌, ◌<◌, [], ◌∷◌, IfOk, None, length, true};
+ghost use Rattle.mg_revtree.specs.Nodes.{AreWithin, links_in, text_of_part};
 ghost use Rattle.mg_revtree.specs.Pair.{pair_links};
 
 use crate::links::node::Node;

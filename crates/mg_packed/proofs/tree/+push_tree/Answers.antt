@@ -51,11 +51,11 @@ pub push_tree-returns-in-Object : goal.push_tree-returns-in-Object
 push_tree-returns-in-Object t c =
     let ts = c.deref-in-Object.result.now in
     let seen : value_view c.args.tree.now ≡ json.object (tree_members ts) = ap value_view c.in-Object.is ∙ view-Object c.in-Object.members ∙ ap (λ x. json.object (tree_members x)) (sym c.deref-in-Object.ensures.value) in
-    weaker _ (IsPushed (value_view c.args.tree.now) c.args.out.now.items c.push_members.new.out.items) c.push_members.result
+    weaker _ (IsPushed (value_view c.args.tree.now) c.args.out.now.items c.push_object.new.out.items) c.push_object.result
     (λ w.
     let m = w.1 in
     let r = members_whole m.0 w.0 m.3 in
-    (object w.0, (parsed.object r.0, ap of_json seen ∙ ap (option_map parsed.object) (m.1 r.0 r.1), ap (option_map object) r.2), members_stored m.0 w.0 m.2 m.3, w.2)) c.push_members.ensures
+    (object w.0, (parsed.object r.0, ap of_json seen ∙ ap (option_map parsed.object) (m.1 r.0 r.1), ap (option_map object) r.2), members_stored m.0 w.0 m.2 m.3, w.2)) c.push_object.ensures
 
 pub push_array-returns : goal.push_array-returns
 push_array-returns t c =
@@ -63,8 +63,8 @@ push_array-returns t c =
     weaker _ _ c.push_items.result
     (λ w. (w.0, w.1, table_pushed c.args.out.now.items _ _ 5 c.in_ok-as_word.field-0 (item_entries w.0) (c.in_ok-as_word.ensures ∙ sym (length-items_match ts w.0 w.1)) c.in_ok-table.ensures.front w.2)) c.push_items.ensures
 
-pub push_members-returns : goal.push_members-returns
-push_members-returns t c =
+pub push_object-returns : goal.push_object-returns
+push_object-returns t c =
     let es = c.in_ok-sorted.sorted.entries in
     both_weaker _ _ _ c.push_sorted.result
     (λ a w. (

@@ -11,8 +11,8 @@ decreases-push_tree l = 4 * l.depth + 2
 abbrev pub decreases-push_array : goal.decreases-push_array
 decreases-push_array l = 4 * l.depth + 1
 
-abbrev pub decreases-push_members : goal.decreases-push_members
-decreases-push_members l = 4 * l.depth + 1
+abbrev pub decreases-push_object : goal.decreases-push_object
+decreases-push_object l = 4 * l.depth + 1
 
 abbrev pub decreases-push_items : goal.decreases-push_items
 decreases-push_items l = 4 * l.depth + 4

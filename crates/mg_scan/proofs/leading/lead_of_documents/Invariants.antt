@@ -1,5 +1,5 @@
 use Rattle.std.proofs.Common.{◌≡◌, length}
-use Rattle.mg_scan.specs.Lead.{unasked}
+use Rattle.mg_scan.specs.Lead.{without_selector}
 use Rattle.mg_scan.specs.Sourced.{AreKept, walked_documents}
 use Rattle.mg_scan.proofs.leading.lead_of_documents.Given as goal
 
@@ -7,7 +7,7 @@ use Rattle.mg_scan.proofs.leading.lead_of_documents.Given as goal
 abbrev pub invariant-loop-document : goal.invariant-loop-document
 invariant-loop-document l = record {
   left : AreKept l.shard.documents l.fn.documents → AreKept l.shard.documents l.documents;
-  rows : walked_documents (unasked l.search) l.fn.documents ≡ walked_documents (unasked l.search) l.documents;
+  rows : walked_documents (without_selector l.search) l.fn.documents ≡ walked_documents (without_selector l.search) l.documents;
 }
 
 abbrev pub decreases-loop-document : goal.decreases-loop-document

@@ -1,5 +1,5 @@
 use Rattle.std.proofs.Common.{arith}
-use Rattle.mg_scan.proofs.PassedOver.{ahead_still, counted_page, same_page}
+use Rattle.mg_scan.proofs.PassedOver.{counted_page, same_page, upcoming_still}
 use Rattle.mg_scan.proofs.passing.pass_counted.Goals as goal
 use Rattle.mg_shard.specs.Shard.{shards_seen}
 
@@ -11,8 +11,8 @@ returns-then-count-passed-clause-page c = same_page (shards_seen c.args.shards.n
 
 pub returns-else-count-passed-clause-page : goal.returns-else-count-passed-clause-page
 returns-else-count-passed-clause-page c =
-    counted_page (shards_seen c.args.shards.now) c.args.passed.search c.args.passed.skip c.args.passed.ahead c.in-Some.ahead c.saturating_sub-count.result c.args.row c.requires.index c.requires.ahead c.requires.within
+    counted_page (shards_seen c.args.shards.now) c.args.passed.search c.args.passed.skip c.args.passed.upcoming c.in-Some.upcoming c.saturating_sub-count.result c.args.row c.requires.index c.requires.upcoming c.requires.within
     c.saturating_sub-take.result _ _ c.search_after-beyond.ensures c.in-Some.ensures c.saturating_sub-count.ensures c.saturating_sub-take.ensures (omega arith) c.search_after-search.ensures
 
-pub returns-else-count-passed-clause-ahead : goal.returns-else-count-passed-clause-ahead
-returns-else-count-passed-clause-ahead c = ahead_still (shards_seen c.args.shards.now) c.args.passed.search c.args.row c.in-Some.ahead c.saturating_sub-take.result _ _ c.search_after-beyond.ensures c.in-Some.ensures c.search_after-search.ensures
+pub returns-else-count-passed-clause-upcoming : goal.returns-else-count-passed-clause-upcoming
+returns-else-count-passed-clause-upcoming c = upcoming_still (shards_seen c.args.shards.now) c.args.passed.search c.args.row c.in-Some.upcoming c.saturating_sub-take.result _ _ c.search_after-beyond.ensures c.in-Some.ensures c.search_after-search.ensures

@@ -5,7 +5,7 @@ use Rattle.mg_shard.specs.Shard.{shards_seen}
 pub loop-stride-init : goal.loop-stride-init
 loop-stride-init c = record {
   page = same_page (shards_seen c.args.shards.now) c.args.all.search c.args.all.skip;
-  ahead = c.requires.ahead;
+  upcoming = c.requires.upcoming;
   index = c.requires.index;
 }
 
@@ -15,6 +15,6 @@ loop-stride-preserved c =
     let after = c.in_ok-next.next in
     record {
       page = pages_on (shards_seen c.args.shards.now) c.args.all.search before.search after.search c.args.all.skip before.skip after.skip c.loop-stride.invariant.page c.in_ok-next.ensures.page;
-      ahead = c.in_ok-next.ensures.ahead;
+      upcoming = c.in_ok-next.ensures.upcoming;
       index = index_still before.search after.search c.in_ok-next.ensures.page.same c.loop-stride.invariant.index;
     }

@@ -1,14 +1,14 @@
 use Rattle.std.proofs.Common.{◌≡◌, List, vec_len}
 use Rattle.mg_shard.specs.Shard.{ShardView}
-use Rattle.mg_scan.specs.Worked.{AllDone, AllSlots}
+use Rattle.mg_scan.specs.Worked.{AllShardHits, AllSlots}
 use Rattle.mg_scan.specs.declared.search.Search.{Search}
 use Rattle.mg_scan.proofs.workers.put_in_slots.Given as goal
 
 -- what is left and the slots so far, for each search and shards of which what was given is
 abbrev pub invariant-loop-shard : goal.invariant-loop-shard
 invariant-loop-shard l =
-    ((search : Search) (shards : List ShardView) → AllDone search shards l.fn.given.items → AllSlots search shards l.fn.slots.items
-    → AllDone search shards l.given.items × AllSlots search shards l.slots.items)
+    ((search : Search) (shards : List ShardView) → AllShardHits search shards l.fn.given.items → AllSlots search shards l.fn.slots.items
+    → AllShardHits search shards l.given.items × AllSlots search shards l.slots.items)
     × (vec_len l.slots ≡ vec_len l.fn.slots)
 
 abbrev pub decreases-loop-shard : goal.decreases-loop-shard

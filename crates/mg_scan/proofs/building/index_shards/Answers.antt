@@ -3,7 +3,7 @@ use Rattle.std.specs.Arc.{arc_value}
 use Rattle.mg_scan.specs.Built.{with_index}
 use Rattle.mg_shard.specs.Shard.{shards_seen}
 use Rattle.mg_scan.proofs.Builds.{built-more}
-use Rattle.mg_scan.proofs.building.with_all.Goals as goal
+use Rattle.mg_scan.proofs.building.index_shards.Goals as goal
 
 pub loop-i-preserved : goal.loop-i-preserved
 loop-i-preserved c =

@@ -2,9 +2,9 @@ use Rattle.std.proofs.Common.{drop, ap, ◌∙◌}
 use Rattle.mg_scan.specs.Found.{target_columns}
 use Rattle.mg_scan.specs.RangeEnd.{index_rows}
 use Rattle.mg_scan.proofs.Begun.{begun_leads}
-use Rattle.mg_scan.proofs.Behind.{behind_led, behind_rows}
-use Rattle.mg_scan.proofs.Ends.{before_none, begun_ends, behind_ends}
-use Rattle.mg_scan.proofs.leading.lead_source_behind.Goals as goal
+use Rattle.mg_scan.proofs.AfterFirst.{led_left_after, rows_left_after}
+use Rattle.mg_scan.proofs.Ends.{before_none, begun_ends, left_ends_after}
+use Rattle.mg_scan.proofs.leading.lead_source_after.Goals as goal
 
 pub invariant_of-source : goal.invariant_of-source
 invariant_of-source c =
@@ -12,10 +12,10 @@ invariant_of-source c =
     let shard = c.args.shard.now in
     let at = target_columns s.target shard.definitions in
     let all = c.left_of.result in
-    let left = c.left_behind-left.result.0 in
-    let n = c.left_behind-left.result.1 in
+    let left = c.left_after-left.result.0 in
+    let n = c.left_after-left.result.1 in
     record {
-      ordered = behind_ends s n all left c.left_behind-left.ensures.behind (begun_ends at s shard all c.left_of.ensures);
+      ordered = left_ends_after s n all left c.left_after-left.ensures.after (begun_ends at s shard all c.left_of.ensures);
       sure = before_none s (index_rows left) c.unknown.result.sure c.unknown.ensures;
     }
 
@@ -25,9 +25,9 @@ returns-clause-source c =
     let shard = c.args.shard.now in
     let at = target_columns s.target shard.definitions in
     let all = c.left_of.result in
-    let left = c.left_behind-left.result.0 in
-    let n = c.left_behind-left.result.1 in
+    let left = c.left_after-left.result.0 in
+    let n = c.left_after-left.result.1 in
     record {
-      rows = behind_rows at s shard n all left c.left_of.ensures c.left_behind-left.ensures.behind ∙ ap (drop n) (begun_leads at s shard all c.left_of.ensures);
-      leads = behind_led at s shard n all left c.left_of.ensures c.left_behind-left.ensures.behind;
+      rows = rows_left_after at s shard n all left c.left_of.ensures c.left_after-left.ensures.after ∙ ap (drop n) (begun_leads at s shard all c.left_of.ensures);
+      leads = led_left_after at s shard n all left c.left_of.ensures c.left_after-left.ensures.after;
     }

@@ -1,4 +1,4 @@
--- Rows of one shard behind the first so many: what is found there, and the merge of that alone.
+-- Rows of one shard after the first n: what is found there, and the merge of that alone.
 use Rattle.std.proofs.Common.{◌≡◌, ℕ, zero, suc, ◌+◌, ◌-◌, ◌≤◌, Bool, true, false, List, [], ◌∷◌, Option, All, append-nil, drop, get_or, if◌then◌else◌, length, map, take, refl, ap, sym, ◌∙◌, subst, arith}
 use Rattle.std.proofs.Math.Seq.{take-nil}
 use Rattle.std.proofs.lemmas.List.{drop-drop}
@@ -16,9 +16,9 @@ use Rattle.mg_collate.specs.declared.direction.Direction.{Direction}
 use Rattle.mg_index.specs.Definition.{Steps}
 use Rattle.mg_merge.specs.Merged.{merged}
 use Rattle.mg_merge.specs.Pulled.{IsGivenBy}
-use Rattle.mg_scan.specs.Begun.{IsBegunIn, IsBehind}
+use Rattle.mg_scan.specs.Begun.{IsBegunIn, IsLeftAfter}
 use Rattle.mg_scan.specs.Decided.{IsDecidedIn}
-use Rattle.mg_scan.specs.Lead.{AreLeadsIn, IsLeadIn, IsLeadUnread, IsLeadOf, IsLeadSourceBehind, lead_rows, unasked}
+use Rattle.mg_scan.specs.Lead.{AreLeadsIn, IsLeadIn, IsLeadUnread, IsLeadOf, IsLeadSourceAfter, lead_rows, without_selector}
 use Rattle.mg_scan.specs.Search.{search_input, found_by}
 use Rattle.mg_scan.specs.Way.{all_found_by}
 use Rattle.mg_scan.specs.Walked.{is_late_row, walked_all}
@@ -35,7 +35,7 @@ use Rattle.mg_scan.proofs.Sources.{InOneOf, all_given, found_in_order, found_mer
 use Rattle.mg_scan.proofs.Walking.{LateLast, late_rows}
 use Rattle.mg_shard.specs.Shard.{ShardView, shards_seen}
 
--- ---- lists behind their first
+-- ---- lists without their first items
 
 all_dropped : {X : Type 0} (P : X → Type 0) (n : ℕ) (xs : List X) → AllByRecursion P xs → AllByRecursion P (drop n xs)
 all_dropped P zero xs h = h
@@ -61,7 +61,7 @@ sorted_risen order (x ∷ xs) h = sorted_least order x xs h.0 ∙ ap (λ ys. x �
 merged_one : (direction : Direction) (count : ℕ) (xs : List RowValue) → Rises (directed_order direction) xs → merged direction count (xs ∷ []) ≡ take count xs
 merged_one direction count xs h = ap (λ ys. take count (sorted (directed_order direction) ys)) (append-nil xs) ∙ ap (take count) (sorted_risen (directed_order direction) xs h)
 
--- ---- what is left of a search behind the first rows
+-- ---- what is left of a search after the first rows
 
 none_on_way : (late : RowValue → Bool) (n : ℕ) (rows : List RowValue) → AllByRecursion (λ r. late r ≡ true) rows → walked_all late (λ r. true) (drop n rows) ≡ []
 none_on_way late zero [] h = refl
@@ -69,38 +69,38 @@ none_on_way late zero (r ∷ rows) h = ap (λ b. if b then [] else r ∷ walked_
 none_on_way late (suc n) [] h = refl
 none_on_way late (suc n) (r ∷ rows) h = none_on_way late n rows h.1
 
-behind_step : (late : RowValue → Bool) (n : ℕ) (r : RowValue) (rows : List RowValue) (b : Bool) → late r ≡ b → (late r ≡ true → AllByRecursion (λ x. late x ≡ true) rows)
+after_step : (late : RowValue → Bool) (n : ℕ) (r : RowValue) (rows : List RowValue) (b : Bool) → late r ≡ b → (late r ≡ true → AllByRecursion (λ x. late x ≡ true) rows)
     → walked_all late (λ x. true) (drop n rows) ≡ drop n (walked_all late (λ x. true) rows)
     → walked_all late (λ x. true) (drop n rows) ≡ drop (suc n) (if b then [] else r ∷ walked_all late (λ x. true) rows)
-behind_step late n r rows true e last more = none_on_way late n rows (last e)
-behind_step late n r rows false e last more = more
+after_step late n r rows true e last more = none_on_way late n rows (last e)
+after_step late n r rows false e last more = more
 
-on_way_behind : (late : RowValue → Bool) (n : ℕ) (rows : List RowValue) → LateLast late rows → walked_all late (λ x. true) (drop n rows) ≡ drop n (walked_all late (λ x. true) rows)
-on_way_behind late zero rows h = refl
-on_way_behind late (suc n) [] h = refl
-on_way_behind late (suc n) (r ∷ rows) h = behind_step late n r rows (late r) refl h.0 (on_way_behind late n rows h.1)
+on_way_after : (late : RowValue → Bool) (n : ℕ) (rows : List RowValue) → LateLast late rows → walked_all late (λ x. true) (drop n rows) ≡ drop n (walked_all late (λ x. true) rows)
+on_way_after late zero rows h = refl
+on_way_after late (suc n) [] h = refl
+on_way_after late (suc n) (r ∷ rows) h = after_step late n r rows (late r) refl h.0 (on_way_after late n rows h.1)
 
-nothing_behind : (n : ℕ) → ◌≡◌ {A = List RowValue} [] (drop n [])
-nothing_behind zero = refl
-nothing_behind (suc n) = refl
+nothing_after : (n : ℕ) → ◌≡◌ {A = List RowValue} [] (drop n [])
+nothing_after zero = refl
+nothing_after (suc n) = refl
 
--- behind the first rows that are read are those behind the first that are found
-pub behind_rows : (at : Option (List Steps)) (s : Search) (shard : ShardView) (n : ℕ) (l m : Unread) → IsBegunIn at s shard l → IsBehind n l m → lead_rows s m ≡ drop n (lead_rows s l)
-behind_rows at s shard n (left.Rows rows) m b e =
+-- the rows after the first n that are read are those after the first n that are found
+pub rows_left_after : (at : Option (List Steps)) (s : Search) (shard : ShardView) (n : ℕ) (l m : Unread) → IsBegunIn at s shard l → IsLeftAfter n l m → lead_rows s m ≡ drop n (lead_rows s l)
+rows_left_after at s shard n (left.Rows rows) m b e =
     let ds = shard.documents in
     ap (lead_rows s) e
-    ∙ on_way_behind (is_late_row s.direction s.range.now) n rows (late_rows (search_input s b.0) ds rows (all_forms ds) b.2)
-behind_rows at s shard n (left.Documents documents) m b e =
+    ∙ on_way_after (is_late_row s.direction s.range.now) n rows (late_rows (search_input s b.0) ds rows (all_forms ds) b.2)
+rows_left_after at s shard n (left.Documents documents) m b e =
     ap (lead_rows s) e.1 ∙ sym (ap (λ k. drop k (lead_rows s (left.Documents documents))) e.0)
-behind_rows at s shard n left.Nothing m b e = ap (lead_rows s) e ∙ nothing_behind n
+rows_left_after at s shard n left.Nothing m b e = ap (lead_rows s) e ∙ nothing_after n
 
-pub behind_led : (at : Option (List Steps)) (s : Search) (shard : ShardView) (n : ℕ) (l m : Unread) → IsBegunIn at s shard l → IsBehind n l m → (lead : Lead) → IsLeadUnread shard m lead → IsLeadOf shard lead
-behind_led at s shard n (left.Rows rows) m b e lead lent =
+pub led_left_after : (at : Option (List Steps)) (s : Search) (shard : ShardView) (n : ℕ) (l m : Unread) → IsBegunIn at s shard l → IsLeftAfter n l m → (lead : Lead) → IsLeadUnread shard m lead → IsLeadOf shard lead
+led_left_after at s shard n (left.Rows rows) m b e lead lent =
     let served = served_begun s shard.documents b.0 rows b.2 in
     let kept = all_dropped _ n rows served in
     subst (λ (x : Unread). IsLeadUnread shard x lead) e lent kept
-behind_led at s shard n (left.Documents documents) m b e lead lent = begun_led at s shard (left.Documents documents) b lead (subst (λ (x : Unread). IsLeadUnread shard x lead) e.1 lent)
-behind_led at s shard n left.Nothing m b e lead lent = begun_led at s shard left.Nothing b lead (subst (λ (x : Unread). IsLeadUnread shard x lead) e lent)
+led_left_after at s shard n (left.Documents documents) m b e lead lent = begun_led at s shard (left.Documents documents) b lead (subst (λ (x : Unread). IsLeadUnread shard x lead) e.1 lent)
+led_left_after at s shard n left.Nothing m b e lead lent = begun_led at s shard left.Nothing b lead (subst (λ (x : Unread). IsLeadUnread shard x lead) e lent)
 
 -- ---- one shard
 
@@ -109,12 +109,12 @@ one_seen [] a shard one is e = absurd (omega (arith, one))
 one_seen (x ∷ []) a shard one is e = ap (λ y. arc_value y ∷ []) (sym is) ∙ ap (λ y. y ∷ []) (sym e)
 one_seen (x ∷ y ∷ shards) a shard one is e = absurd (omega (arith, one))
 
-module _ (s : Search) (n : ℕ) (shard : ShardView) (source : LeadSource) (is : IsLeadSourceBehind n s shard source) where
+module _ (s : Search) (n : ℕ) (shard : ShardView) (source : LeadSource) (is : IsLeadSourceAfter n s shard source) where
   abbrev all : List RowValue
-  all = all_found_by (unasked s) shard
+  all = all_found_by (without_selector s) shard
 
   all_rises : Rises (directed_order s.direction) all
-  all_rises = rises (directed_order s.direction) (directed_total s.direction) all (found_in_order (unasked s) shard)
+  all_rises = rises (directed_order s.direction) (directed_total s.direction) all (found_in_order (without_selector s) shard)
 
   rest_rises : Rises (directed_order s.direction) (lead_rests source)
   rest_rises = subst (Rises (directed_order s.direction)) (sym is.rows) (rises_dropped (directed_order s.direction) n all all_rises)
@@ -123,7 +123,7 @@ module _ (s : Search) (n : ℕ) (shard : ShardView) (source : LeadSource) (is : 
   one_in_order =
       All-from_recursion (IsInOrder s.direction) (lead_rests source ∷ []) (in_order (directed_order s.direction) (directed_total s.direction) (lead_rests source) rest_rises, tt)
 
-  -- the merge of what is behind the first rows is that of all behind them
+  -- the merge of the rows after the first n is the merge of all, without its first n
   pub one_merged : (skip wanted : ℕ) → n ≤ skip → wanted ≡ s.take - n → All (IsDecidedIn s.target s.normal.now s.range.now) (shard ∷ [])
       → drop (skip - n) (merged s.direction wanted (map lead_rests (source ∷ []))) ≡ drop skip (merged s.direction s.take (map (found_by s) (shard ∷ [])))
   one_merged skip wanted within w decided =
@@ -133,10 +133,10 @@ module _ (s : Search) (n : ℕ) (shard : ShardView) (source : LeadSource) (is : 
       merged_one s.direction wanted (lead_rests source) rest_rises ∙ ap (take wanted) is.rows ∙ ap (λ k. take k (drop n all)) w ∙ sym (drop_taken n s.take all) in
       let there : merged s.direction s.take (map (found_by s) (shard ∷ [])) ≡ take s.take all =
       ap (merged s.direction s.take) (sym (all_alike s (shard ∷ []) decided))
-      ∙ sym (found_merged (unasked s) (shard ∷ [])) ∙ merged_one s.direction s.take all all_rises in
+      ∙ sym (found_merged (without_selector s) (shard ∷ [])) ∙ merged_one s.direction s.take all all_rises in
       ap (drop more) here ∙ drop-drop more n (take s.take all) ∙ ap (λ k. drop k (take s.take all)) sum ∙ ap (drop skip) (sym there)
 
   pub one_given : (leads : List Lead) → All (IsGivenBy (λ x. IsLeadUnread x.shard.now x.left) (source ∷ [])) leads → AreLeadsIn (shard ∷ []) leads
   one_given leads given =
       all_weaker (InOneOf IsLeadOf (shard ∷ [])) (IsLeadIn (shard ∷ [])) (λ lead here. record { place = here.0; shard = here.1; there = here.2; lead = here.3 }) leads
-      (all_given (IsLeadSourceBehind n s) (λ x. IsLeadUnread x.shard.now x.left) IsLeadOf (λ t x here. here.leads) (shard ∷ []) (source ∷ []) (is, tt) leads given)
+      (all_given (IsLeadSourceAfter n s) (λ x. IsLeadUnread x.shard.now x.left) IsLeadOf (λ t x here. here.leads) (shard ∷ []) (source ∷ []) (is, tt) leads given)

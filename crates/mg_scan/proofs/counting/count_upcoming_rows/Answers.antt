@@ -1,7 +1,7 @@
 use Rattle.std.proofs.Common.{length}
 use Rattle.mg_scan.specs.Way.{begin_at}
 use Rattle.mg_scan.proofs.AddedUp.{counts, counts_none}
-use Rattle.mg_scan.proofs.counting.count_rows_ahead.Goals as goal
+use Rattle.mg_scan.proofs.counting.count_upcoming_rows.Goals as goal
 use Rattle.mg_shard.specs.Shard.{rows_at}
 use Rattle.mg_shard.specs.Walk.{beyond}
 

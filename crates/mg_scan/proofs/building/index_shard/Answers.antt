@@ -1,6 +1,6 @@
 use Rattle.std.specs.Arc.{arc_value}
 use Rattle.mg_scan.proofs.Builds.{built_at, shard_at}
-use Rattle.mg_scan.proofs.building.with_these.Goals as goal
+use Rattle.mg_scan.proofs.building.index_shard.Goals as goal
 
 pub returns : goal.returns
 returns c =

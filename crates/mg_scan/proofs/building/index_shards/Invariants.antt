@@ -3,7 +3,7 @@ use Rattle.std.specs.Arc.{arc_value}
 use Rattle.mg_scan.specs.Built.{with_index}
 use Rattle.mg_scan.specs.Building.{AreRowsAt}
 use Rattle.mg_shard.specs.Shard.{shards_seen}
-use Rattle.mg_scan.proofs.building.with_all.Given as goal
+use Rattle.mg_scan.proofs.building.index_shards.Given as goal
 
 -- what is left of the rows, and the shards so far
 abbrev pub invariant-loop-i : goal.invariant-loop-i
