@@ -1,5 +1,5 @@
--- Bookmarks of a page, as in CouchDB's `_find`: a JSON array that says what a page ended with, spelled in the URL-safe base64 of
--- RFC 4648 without padding. What the array holds is this project's own choice.
+-- Bookmarks, as in CouchDB's `_find`: a JSON array that says with which row a page ended, spelled in the URL-safe base64 of RFC 4648
+-- without padding. What the array holds is this project's own choice.
 use Rattle.std.specs.Prelude.{◌≡◌, ◌≢◌, ℕ, ◌≤◌, List, [], codes, Option, Some, None, unwrap_or}
 use Rattle.std.specs.Str.{IsUtf8}
 use Rattle.base64.specs.GeneralPurpose.{encode_of}
@@ -23,11 +23,11 @@ abbrev pub ddoc_value : Option (List ℕ) → Value
 ddoc_value None = null
 ddoc_value (Some s) = text s
 
--- the array that is spelled
+-- the array of the five parts
 abbrev pub place_value : Place → Value
 place_value p = list (item (ddoc_value p.ddoc) (item (text p.name) (item (text (direction_word p.direction)) (item (list p.key) (item (text p.id) no_items)))))
 
--- the spelling of a bookmark
+-- the spelling of a place: its bookmark
 abbrev pub spelled : Place → List ℕ
 spelled p = encode_of url_safe_no_pad (compact (place_value p))
 

@@ -10,6 +10,6 @@ pub record IsDecoded (t bytes : List ℕ) : Type 0 where
   pub encoded : t ≡ encode_of url_safe_no_pad bytes
   pub only : (b : List ℕ) → IsBytes b → t ≡ encode_of url_safe_no_pad b → b ≡ bytes
 
--- an array of five
+-- an array of five values
 abbrev pub five : Value → Value → Value → Value → Value → Value
 five a b c d e = list (item a (item b (item c (item d (item e no_items)))))

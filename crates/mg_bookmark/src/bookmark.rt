@@ -2,7 +2,7 @@ ghost use Rattle.std.specs.Prelude.{◌≡◌, ◌↔◌, codes, None, Some, Ok,
 
 use crate::error::BookmarkError;
 use crate::parts::{BookmarkParts, RowKey};
-use crate::spelling::spelled_by;
+use crate::spelling::read_spelling;
 use mg_collate::Direction;
 use mg_value::{Json, NoMemory};
 use std::alloc::Global;
@@ -55,7 +55,7 @@ impl Bookmark {
     /// beginning, gives `None`.
     ///
     /// Errors: `Invalid` for any other text, such as another spelling of the same array, or an array
-    /// that nests deeper than JSON may be read (127); `NoMemory` if an allocation fails.
+    /// that nests deeper than 127, which is how deep JSON is read; `NoMemory` if an allocation fails.
     /// Cost: the length of the text.
     pub fn decode(alloc: Global, text: &str) -> Result<Option<Bookmark>, BookmarkError>
         ensures none { (result ≡ Ok None) ↔ (text.now ≡ codes "nil") }
@@ -68,7 +68,7 @@ impl Bookmark {
     {
         match text {
             "nil" => Ok(None),
-            _ => Ok(Some(spelled_by(alloc, text)?)),
+            _ => Ok(Some(read_spelling(alloc, text)?)),
         }
     }
 }

@@ -38,7 +38,7 @@ pub struct BookmarkParts<'a> {
 
 impl BookmarkParts<'_> {
     /// The text that a client gets for a page that ended with this row, as `Bookmark::encode` gives it
-    /// for a bookmark of these parts. Parts are copied only into the text.
+    /// for a bookmark of these parts. No `Bookmark` is made.
     ///
     /// Errors: `NoMemory` if an allocation fails. Cost: the size of the key.
     pub fn spell(&self, alloc: Global) -> Result<String, NoMemory>
@@ -48,7 +48,7 @@ impl BookmarkParts<'_> {
         Ok(URL_SAFE_NO_PAD.encode(alloc, &text)?)
     }
 
-    // The compact text of the bookmark's array.
+    // The compact text of the array of the five parts.
     pub(crate) fn array_text(&self, alloc: Global) -> Result<Vec<u8>, NoMemory>
         ensures { IfOk result (λ b. b.items ≡ compact (place_value (place_at self.now))) }
     {

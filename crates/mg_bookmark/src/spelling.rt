@@ -18,7 +18,7 @@ use mg_value::{Json, NoMemory, ReadError, read};
 use std::alloc::Global;
 
 // The bookmark that the text spells. Its array is written again, to refuse other spellings of the same array.
-pub(crate) fn spelled_by(alloc: Global, text: &str) -> Result<Bookmark, BookmarkError>
+pub(crate) fn read_spelling(alloc: Global, text: &str) -> Result<Bookmark, BookmarkError>
     ensures ok { IfOk result (λ b. Spells text.now (bookmark_place b)) }
     ensures invalid { result ≡ Err BookmarkError.Invalid → (p : Place) → ¬ Spells text.now p }
 {

@@ -31,7 +31,7 @@ merged direction count lists = take count (sorted_rows direction (joined lists))
 abbrev pub order_by : {X : Type 0} → (X → RowValue) → Direction → X → X → Ordering
 order_by row direction a b = directed_order direction (row a) (row b)
 
--- no item comes after one whose row the direction lists later
+-- the items are in the direction's order of their rows
 abbrev pub IsInOrderBy : {X : Type 0} → (X → RowValue) → Direction → List X → Type 0
 IsInOrderBy row direction = IsSorted (order_by row direction)
 

@@ -35,7 +35,7 @@ pub record AreFrom {S T : Type 0} (gives : S → T → Type 0) (start : List S) 
   pub fronts : (k : ℕ) → k < length heads → IfSome (get_or heads k None) (IsGivenBy gives start)
   pub later : (k : ℕ) → k < length sources → (d : S) (x : T) → gives (get_or sources k d) x → IsGivenBy gives start x
 
--- a merge is under way: the head of each source was pulled, what remains of it is in order, and a winner tree has the source that begins first
+-- a merge is under way: the head of each source was pulled, what remains of each is in order, and a winner tree has the first source
 pub record IsUnderWay {T : Type 0} (row : T → RowValue) (direction : Direction) (heads : List (Option T)) (rests : List (List RowValue)) (winners : List ℕ) : Type 0 where
   pub size : length heads ≡ length rests
   pub order : All (IsInOrder direction) (all_remaining (map (option_map row) heads) rests)

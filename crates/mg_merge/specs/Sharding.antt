@@ -10,7 +10,7 @@ use Rattle.mg_collate.specs.Sorted.{sorted_rows}
 abbrev pub Document : Type 0
 Document = List ℕ × Value
 
--- the rows of documents in a direction's order; `rows` gives the rows of each document
+-- the rows of all these documents in a direction's order; `rows` gives the rows of each document
 abbrev pub rows_of : Direction → (Document → List RowValue) → List Document → List RowValue
 rows_of direction rows documents = sorted_rows direction (flat_map rows documents)
 

@@ -17,7 +17,7 @@ pub(crate) trait Begins<T: Ranked> {
     fn count(&self) -> usize
         ensures { result ≡ length (lists self.now) };
 
-    // Compares the first rows of two lists, in the direction's order; a list at its end is after all others.
+    // Compares the first items of two lists by their rows, in the direction's order; an empty list is after all others.
     fn begin(&self, list: usize, other: usize, direction: Direction) -> Ordering
         requires list { list < length (lists self.now) }
         requires other { other < length (lists self.now) }
@@ -50,7 +50,7 @@ impl<T: Ranked> Begins<T> for Vec<Option<T>> {
     }
 }
 
-// Compares the first items of two lists, in the direction's order; `None` is after all others.
+// Compares two first items by their rows, in the direction's order; `None`, for an empty list, is after all others.
 fn begin<T: Ranked>(item: Option<&T>, other: Option<&T>, direction: Direction) -> Ordering
     ensures { result ≡ begin_order (order_by T.row_of direction)
         (lent_first item.entry) (lent_first other.entry) }

@@ -11,8 +11,8 @@ use crate::ranked::Ranked;
 use mg_collate::Direction;
 
 /// It does not matter which shard has a document, nor how many rows the document has: the lists of all
-/// shards, joined and sorted, are the sorted rows of all documents, with no row lost or repeated.
-/// So a merge of the lists gives the first rows of all documents.
+/// shards, joined and sorted, are the sorted rows of all documents, with no row lost or repeated. So a
+/// merge of the lists gives the first rows of all documents.
 pub fn any_sharding()
     ensures joined_and_sorted { (direction : Direction) (rows : Document → List RowValue)
         (documents : List Document) (shards : List (List Document))
@@ -26,8 +26,8 @@ pub fn any_sharding()
         ≡ take count (rows_of direction rows documents) }
 {}
 
-/// Lists that are in order may be cut at the count before they are merged: they stay in order, and
-/// the merge gives the same rows. So a shard need not hand over more rows than a page has.
+/// Lists that are in order may be cut to their first `count` rows before they are merged: they stay in
+/// order, and the merge gives the same rows. So a shard need not hand over more rows than a page has.
 pub fn cut_lists()
     ensures in_order { (direction : Direction) (count : ℕ) (lists : List (List RowValue))
         → All (IsInOrder direction) lists

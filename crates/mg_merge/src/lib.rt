@@ -1,4 +1,4 @@
-//! The ordered merge of rows: the first rows of all lists, as CouchDB's coordinator merges the lists of its
+//! The ordered merge: the first rows of all lists together, as CouchDB's coordinator merges the lists of its
 //! shards.
 #![tactic(auto)]
 

@@ -45,8 +45,8 @@ pub fn merge(
 ///
 /// Errors: `NoMemory` if an allocation fails.
 /// Cost: one comparison less than there are lists, and for each item of the result at most the logarithm of
-/// the number of lists to base 2, rounded up. No row is copied. Takes memory for the result, however large
-/// `take` is, and for a slice and two numbers for each list.
+/// the number of lists to base 2, rounded up. No row is copied. Memory: an item and a reference for each item
+/// of the result, even if `take` is larger, and a slice and three numbers for each list.
 pub fn merge_all<T: Ranked + Copy>(
     alloc: Global,
     lists: &[Vec<T>],

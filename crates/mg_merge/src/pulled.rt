@@ -15,9 +15,9 @@ use std::alloc::Global;
 // The first capacity of the result.
 const FIRST_ROOM: usize = 64;
 
-/// Merges the sources. Returns their first `take` items by row in the direction (fewer only if the sources
-/// have fewer; none lost or repeated), and how many items were pulled: at most `take`, and one more for each
-/// source. Each source must be in that order, or empty.
+/// Merges the sources. Returns their first `take` items in the direction's order of their rows (fewer only if
+/// the sources have fewer; none lost or repeated), and how many items were pulled: at most `take`, and one
+/// more for each source. Each source must be in that order; it may be empty.
 ///
 /// Errors: `NoMemory` if an allocation fails.
 /// Cost: what the sources need for the items that are pulled; one comparison less than there are sources, and
@@ -38,12 +38,12 @@ pub fn merge_pulled<T: Ranked + Copy, S: RowSource<T>>(
 {
     let mut heads = first_heads(alloc, sources)?;
     let mut winners = Winners::new(alloc, &heads, direction)?;
-    let items = merge_ahead(alloc, &mut heads, sources, &mut winners, direction, take)?;
+    let items = merge_heads(alloc, &mut heads, sources, &mut winners, direction, take)?;
     let pulled = (items.len() + count_heads(&heads)) as u64;
     Ok((items, pulled))
 }
 
-// Pulls the first item of each source; `None` for a source that has nothing.
+// Pulls the first item of each source; `None` for a source that is empty.
 fn first_heads<T: Ranked + Copy, S: RowSource<T>>(
     alloc: Global,
     sources: &mut [S],
@@ -62,7 +62,7 @@ fn first_heads<T: Ranked + Copy, S: RowSource<T>>(
 }
 
 // Takes the first `take` items. `heads` has the first item of each source already.
-fn merge_ahead<T: Ranked + Copy, S: RowSource<T>>(
+fn merge_heads<T: Ranked + Copy, S: RowSource<T>>(
     alloc: Global,
     heads: &mut Vec<Option<T>>,
     sources: &mut [S],
@@ -129,7 +129,7 @@ fn pull_first<T: Ranked + Copy, S: RowSource<T>>(
     Some(item)
 }
 
-// How many items were pulled but not taken.
+// How many heads there are: items that were pulled but not taken.
 fn count_heads<T: Ranked + Copy>(heads: &[Option<T>]) -> usize
     ensures count { result ≡ length (joined (firsts_of heads.now)) }
     ensures within { result ≤ length heads.now }

@@ -3,7 +3,7 @@ ghost use Rattle.mg_collate.specs.Row.{RowValue};
 
 use crate::ranked::Ranked;
 
-/// A source of items in a direction's order of their rows. It finds each item only when it is asked for it.
+/// A source of items in a direction's order of their rows. It looks for an item only when it is asked for the next one.
 pub trait RowSource<T: Ranked> {
     // the rows that are still to come
     ghost rest: { Self → List RowValue };

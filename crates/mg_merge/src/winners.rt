@@ -3,7 +3,7 @@
 //! Of n lists, place n + k has the number k, and each place j from 1 to n - 1 has the winner of the places 2 j
 //! and 2 j + 1: the number of the list that begins first. Place 1 has the winner of all. After one list has
 //! changed, only the places above it are decided again. A sorted queue would need more comparisons at the
-//! beginning, and would move numbers.
+//! beginning, and would move its entries.
 ghost use Rattle.std.specs.Prelude.{◌≡◌, ◌+◌, ◌*◌, ◌<◌, ◌≤◌, ℕ, get_or, length, IfOk, IfSome, IfNone};
 ghost use Rattle.mg_merge.specs.Merged.{order_by};
 ghost use Rattle.mg_merge.specs.Rests.{turn_order};

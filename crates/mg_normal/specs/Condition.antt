@@ -12,7 +12,7 @@ mutual
   pub data Condition : Type 0 where
     -- all of the conditions
     all_of : Conditions → Condition
-    -- some of the conditions; an empty list holds
+    -- at least one of the conditions; an empty list holds
     any_of : Conditions → Condition
     -- the condition on the part at the steps
     within : List (List ℕ) → Condition → Condition

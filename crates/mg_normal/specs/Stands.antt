@@ -1,4 +1,4 @@
--- For private clauses: the atoms of a condition and what else it asks, and which condition stands for a selector.
+-- For private clauses: the atoms of a condition, what else it asks, and which condition says what a selector says.
 use Rattle.std.specs.Prelude.{◌≡◌, ℕ, Bool, List, [], ◌∷◌, ◌++◌, Option, Some, None, option_map, ⊤}
 use Rattle.mg_value.specs.Value.{Value}
 use Rattle.mg_selector.specs.Meaning.{holds_in}
@@ -20,7 +20,7 @@ abbrev mutual
   conditions_atoms no_conditions steps = []
   conditions_atoms (condition f fs) steps = condition_atoms f steps ++ conditions_atoms fs steps
 
--- all of the conditions as one condition, if there are any
+-- the conditions as one condition that asks all of them, if there are any
 abbrev pub all_left : Conditions → Option Condition
 all_left no_conditions = None
 all_left (condition f fs) = Some (all_of (condition f fs))
@@ -43,7 +43,7 @@ abbrev mutual
   rests_of no_conditions = no_conditions
   rests_of (condition f fs) = with_left (rest_of f) (rests_of fs)
 
--- the condition holds exactly of these parts, and asks these atoms at given steps
+-- the condition holds of exactly the parts that `holds` accepts, and has these atoms for the given steps
 abbrev pub Says : (Option Value → Bool) → (List (List ℕ) → List Atom) → Condition → Type 0
 Says holds atoms f = ((x : Option Value) → condition_holds f x ≡ holds x) × ((steps : List (List ℕ)) → condition_atoms f steps ≡ atoms steps)
 
@@ -53,6 +53,6 @@ AllSay no_arms sense no_conditions = ⊤
 AllSay (arm s ss) sense (condition f fs) = Says (holds_in s sense) (atoms_in s sense) f × AllSay ss sense fs
 AllSay ss sense fs = ⊥
 
--- no atoms at any steps
+-- no atoms, whatever the steps
 abbrev pub no_atoms : List (List ℕ) → List Atom
 no_atoms steps = []

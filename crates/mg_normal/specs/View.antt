@@ -29,7 +29,7 @@ condition_of = fold-Condition ConditionValue condition_step
 abbrev pub conditions_view : List Condition → Conditions
 conditions_view fs = conditions_of (map condition_of fs)
 
--- the sense that an atom's mark names
+-- the sense of an atom, by its field `negated`
 abbrev pub sense_of : Bool → Sense
 sense_of false = Plain
 sense_of true = Negated

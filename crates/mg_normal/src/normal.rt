@@ -14,8 +14,8 @@ use mg_value::{Json, LentValue, NoMemory};
 use std::alloc::Global;
 use std::marker::Model;
 
-/// A selector in its normal form: its negations are pushed inwards until each negates an operator,
-/// and the conditions that every match has to meet, the atoms, are kept apart from the rest.
+/// A selector in its normal form: its negations are pushed inwards until each negates an operator. The
+/// atoms, which are the conditions that every match has to meet, are kept apart from the rest.
 ///
 /// A negated operator is not the complement: on a missing part neither holds, except for `$exists`.
 /// An empty list of arms holds in both senses.
@@ -54,7 +54,7 @@ impl Normal {
         Ok(Normal { atoms, rest })
     }
 
-    /// Whether the selector holds of the document. No memory is taken.
+    /// Whether the selector holds of the document. Takes no memory.
     ///
     /// Cost: each operator once, with the way to its part, which for an atom begins at the top of the
     /// document; inside `$elemMatch` and `$allMatch` once for each element that they look at.
@@ -65,8 +65,7 @@ impl Normal {
         self.holds_of(value)
     }
 
-    /// Whether the selector holds of the lent document, as for `holds`. No memory is taken. Cost: as for
-    /// `holds`.
+    /// Whether the selector holds of the lent document, as for `holds`. Takes no memory. Cost: as for `holds`.
     #[inline]
     pub fn holds_of<L: LentValue>(&self, value: L) -> bool
         ensures { result ≡ normal_holds self.now (Some (L.value value)) }
@@ -77,17 +76,17 @@ impl Normal {
     /// The conditions that every match has to meet, in reading order: the operators that are reached
     /// through paths, `$not`, and lists of which all arms have to hold. Those lists are an object, `$and`
     /// and `$nor` in the plain sense, and `$or` in the negated sense. An object of one member counts as
-    /// that member in both senses. Operators inside `$elemMatch` and `$allMatch` are left out. No memory
-    /// is taken.
+    /// that member in both senses. Operators inside `$elemMatch` and `$allMatch` are left out, since
+    /// `$elemMatch` and `$allMatch` are atoms themselves.
     ///
-    /// Cost: constant.
+    /// Takes no memory. Cost: constant.
     pub fn atoms(&self) -> &[Atom]
         ensures { atoms_view result.now ≡ self.now.atoms }
     {
         &self.atoms
     }
 
-    /// Whether the selector asks anything besides its atoms. No memory is taken. Cost: constant.
+    /// Whether the selector asks anything besides its atoms. Takes no memory. Cost: constant.
     pub fn has_rest(&self) -> bool
         ensures { result ≡ is_some self.now.rest }
     {

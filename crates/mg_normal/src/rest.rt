@@ -11,7 +11,7 @@ use std::alloc::Global;
 
 // Makes an atom of each operator that a condition requires in every case, and returns what else the condition requires,
 // if anything. The condition is about the part of the document at `steps`. On success `steps` is as it was; after
-// an error, `atoms` and `steps` may have some items more.
+// an error, `atoms` and `steps` may have more items than before.
 #[cycle(take_atoms)]
 pub(crate) fn take_atoms(
     alloc: Global,

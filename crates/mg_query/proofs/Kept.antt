@@ -11,7 +11,7 @@ use Rattle.mg_doc.specs.Served.{served_of}
 use Rattle.mg_revtree.specs.History.{Paths}
 use Rattle.mg_revtree.specs.Tree.{StandsFor}
 use Rattle.mg_shard.specs.Dealt.{Placing, histories_on}
-use Rattle.mg_shard.specs.Documents.{Kept, KeptDocuments, StandFor, StandsAt}
+use Rattle.mg_shard.specs.Documents.{KeptDocument, KeptDocuments, StandFor, StandsAt}
 use Rattle.mg_shard.specs.Histories.{Histories}
 use Rattle.mg_shard.proofs.Dealing.{get-kept}
 use Rattle.mg_shard.proofs.Shown.{bytes_cmp}
@@ -68,11 +68,11 @@ had : {X : Type 0} (b : Bool) (o : Option X) (x : X) → cond b o None ≡ Some 
 had true o x e = e
 had false o x e = absurd cc
 
-stands_at : (id : List ℕ) (kept : Kept) (o : Option Paths) → StandsAt id (Some kept) o → (h : Paths) × (o ≡ Some h) × StandsFor kept.0 h × (kept.1 ≡ served_of id h)
+stands_at : (id : List ℕ) (kept : KeptDocument) (o : Option Paths) → StandsAt id (Some kept) o → (h : Paths) × (o ≡ Some h) × StandsFor kept.0 h × (kept.1 ≡ served_of id h)
 stands_at id kept None s = absurd s
 stands_at id kept (Some h) s = (h, refl, s.0, s.1)
 
-pub kept_history : (place : Placing) (n i : ℕ) (hs : Histories) (id : List ℕ) (ds : KeptDocuments) (kept : Kept) → StandFor ds (histories_on place n i hs) → get ds id ≡ Some kept
+pub kept_history : (place : Placing) (n i : ℕ) (hs : Histories) (id : List ℕ) (ds : KeptDocuments) (kept : KeptDocument) → StandFor ds (histories_on place n i hs) → get ds id ≡ Some kept
     → (h : Paths) × (get hs id ≡ Some h) × StandsFor kept.0 h × (kept.1 ≡ served_of id h)
 kept_history place n i hs id ds kept stands e =
     let on = histories_on place n i hs in

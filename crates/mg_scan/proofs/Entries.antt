@@ -17,7 +17,7 @@ use Rattle.mg_path.specs.Part.{part_of}
 use Rattle.mg_scan.specs.Way.{entry_rows}
 use Rattle.mg_scan.specs.Walked.{id_row}
 use Rattle.mg_scan.specs.Begins.{id_rows}
-use Rattle.mg_shard.specs.Documents.{Kept, KeptDocuments, doc_entry, docs_of, form_at}
+use Rattle.mg_shard.specs.Documents.{KeptDocument, KeptDocuments, doc_entry, docs_of, form_at}
 use Rattle.mg_shard.specs.Histories.{ServedDocument}
 use Rattle.mg_shard.specs.Own.{HasOwnId, all_columns}
 use Rattle.mg_shard.specs.Rows.{row_of, rows_of}
@@ -29,7 +29,7 @@ use Rattle.mg_value.specs.Value.{Value, no_items, item, text}
 use Rattle.mg_value.specs.View.{items_of}
 
 abbrev pub Entry : Type 0
-Entry = List ℕ × Kept
+Entry = List ℕ × KeptDocument
 
 -- ---- each entry is what is kept of its id
 
@@ -72,10 +72,10 @@ pub all_kept : (ds : KeptDocuments) → AllByRecursion (λ e. get ds e.0 ≡ Som
 all_kept ds =
     all_through (λ e. find bytes_cmp e.0 (entries ds) ≡ Some e.1) (λ e. get ds e.0 ≡ Some e.1) (λ e h. get-entries ds e.0 ∙ h) (entries ds) (all_found (entries ds) (entries_sorted ds))
 
-served_step : (ds : KeptDocuments) (id : List ℕ) (k : Kept) (o : Option Value) (rest : List ServedDocument) → k.1 ≡ o → get ds id ≡ Some k → AllByRecursion (λ d. form_at ds d.0 ≡ Some d.1) rest
+served_step : (ds : KeptDocuments) (id : List ℕ) (k : KeptDocument) (o : Option Value) (rest : List ServedDocument) → k.1 ≡ o → get ds id ≡ Some k → AllByRecursion (λ d. form_at ds d.0 ≡ Some d.1) rest
     → AllByRecursion (λ d. form_at ds d.0 ≡ Some d.1) (cons_option (option_map (λ form. (id, form)) o) rest)
 served_step ds id k None rest e h all = all
-served_step ds id k (Some form) rest e h all = (ap (option_and_then (λ (x : Kept). x.1)) h ∙ e, all)
+served_step ds id k (Some form) rest e h all = (ap (option_and_then (λ (x : KeptDocument). x.1)) h ∙ e, all)
 
 served_forms : (ds : KeptDocuments) (es : List Entry) → AllByRecursion (λ e. get ds e.0 ≡ Some e.1) es → AllByRecursion (λ d. form_at ds d.0 ≡ Some d.1) (filter_map doc_entry es)
 served_forms ds [] h = tt
@@ -105,7 +105,7 @@ own_form id None r own e = absurd cc
 own_form id (Some form) r own e = own_part id (part_of (codes "_id" ∷ []) form) r (own form refl) e
 
 pub own_row : (ds : KeptDocuments) (e : Entry) → ((id : List ℕ) (form : Value) → form_at ds id ≡ Some form → HasOwnId id form) → get ds e.0 ≡ Some e.1 → IsOwnRow e
-own_row ds e own is = λ r h. own_form e.0 e.1.1 r (λ form f. own e.0 form (ap (option_and_then (λ (x : Kept). x.1)) is ∙ f)) h
+own_row ds e own is = λ r h. own_form e.0 e.1.1 r (λ form f. own e.0 form (ap (option_and_then (λ (x : KeptDocument). x.1)) is ∙ f)) h
 
 pub own_rows : (ds : KeptDocuments) → ((id : List ℕ) (form : Value) → form_at ds id ≡ Some form → HasOwnId id form) → AllByRecursion IsOwnRow (entries ds)
 own_rows ds own = all_through (λ e. get ds e.0 ≡ Some e.1) IsOwnRow (λ e h. own_row ds e own h) (entries ds) (all_kept ds)

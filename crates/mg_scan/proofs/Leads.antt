@@ -22,7 +22,7 @@ use Rattle.mg_scan.specs.declared.search.Search.{Search}
 use Rattle.mg_scan.proofs.Decided.{all_alike}
 use Rattle.mg_scan.proofs.Sources.{InOneOf, all_given, sources_in_order, sources_merged, sources_size}
 use Rattle.mg_scan.proofs.Steps.{rows-push}
-use Rattle.mg_shard.specs.Documents.{Kept, KeptDocuments, form_at, form_of, id_bytes, kept_of}
+use Rattle.mg_shard.specs.Documents.{KeptDocument, KeptDocuments, form_at, form_of, id_bytes, kept_of}
 use Rattle.mg_shard.specs.Own.{all_columns}
 use Rattle.mg_shard.specs.Rows.{row_key}
 use Rattle.mg_shard.specs.Shard.{ShardView}
@@ -46,7 +46,7 @@ form_there (Some form) key e = refl
 
 -- a document that is kept and has a key is served
 pub keyed_served : (ds : KeptDocuments) (d : Document) (key : Items) → get ds (id_bytes d) ≡ Some (kept_of d) → Some key ≡ option_and_then (row_key all_columns) (form_of d) → is_some (form_at ds (id_bytes d)) ≡ true
-keyed_served ds d key kept e = ap (λ (o : Option Kept). is_some (option_and_then (λ (k : Kept). k.1) o)) kept ∙ form_there (form_of d) key e
+keyed_served ds d key kept e = ap (λ (o : Option KeptDocument). is_some (option_and_then (λ (k : KeptDocument). k.1) o)) kept ∙ form_there (form_of d) key e
 
 -- what holds of it where a fact does
 pub lead_where : {P : Type 0} (lead : Option Lead) (Q : Lead → Type 0) → (P → IfSome lead Q) → IfSome lead (λ x. P → Q x)

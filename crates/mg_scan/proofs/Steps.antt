@@ -11,7 +11,7 @@ use Rattle.mg_normal.specs.Normal.{NormalForm, normal_holds}
 use Rattle.std.specs.FinMap.{get}
 use Rattle.std.specs.Option.{option_and_then, option_map_or}
 use Rattle.mg_scan.specs.declared.hit.Hit.{Hit}
-use Rattle.mg_shard.specs.Documents.{Kept, KeptDocuments, kept_entry, form_of, id_bytes, kept_of}
+use Rattle.mg_shard.specs.Documents.{KeptDocument, KeptDocuments, kept_entry, form_of, id_bytes, kept_of}
 use Rattle.mg_shard.specs.Own.{all_columns}
 use Rattle.mg_shard.specs.Rows.{row_key, row_of}
 use Rattle.mg_shard.specs.declared.document.Document.{Document}
@@ -132,7 +132,7 @@ rows_some d ds key e = ap (λ o. cons_option o (entry_rows (map kept_entry ds)))
 -- whether the selector holds of it
 pub holds_of : (normal : NormalForm) (ds : KeptDocuments) (d : Document) → get ds (id_bytes d) ≡ Some (kept_of d)
     → option_map_or (λ form. normal_holds normal (Some form)) (form_of d) false ≡ holds_at normal ds (id_bytes d)
-holds_of normal ds d e = ap (λ o. option_map_or (λ form. normal_holds normal (Some form)) (option_and_then (λ (k : Kept). k.1) o) false) (sym e)
+holds_of normal ds d e = ap (λ o. option_map_or (λ form. normal_holds normal (Some form)) (option_and_then (λ (k : KeptDocument). k.1) o) false) (sym e)
 
 -- the hit of a document, by the id and the row that it has
 pub held : (normal : NormalForm) (ds : KeptDocuments) (d : Document) (id : List ℕ) (r : RowValue) → id ≡ id_bytes d → get ds (id_bytes d) ≡ Some (kept_of d)

@@ -8,7 +8,7 @@ use Rattle.mg_selector.specs.Selector.{Selector, members, every, some, none, opp
 use Rattle.mg_selector.specs.contracts.json_type.JsonType as json_type
 use Rattle.mg_selector.specs.declared.json_type.JsonType.{JsonType}
 
--- an instruction: push an operator with an argument (by number), push a `$type`, wrap in a path, or another one (by number)
+-- an instruction: push an operator (by number) with its argument, push a `$type`, wrap in a path, or another instruction (by number)
 abbrev pub Instruction : Type 0
 Instruction = ((ℕ × Value) ⊎ JsonType) ⊎ (List (List ℕ) ⊎ ℕ)
 

@@ -7,7 +7,7 @@ use Rattle.mg_collate.specs.Order.{value_order}
 use Rattle.mg_selector.specs.declared.json_type.JsonType.{JsonType}
 use Rattle.mg_selector.specs.declared.json_type.JsonType.TheVariants as json_type
 
--- the two values are the same in the collation order
+-- the two values are equal in the collation order
 abbrev pub are_equal : Value → Value → Bool
 are_equal v w = is_eq (value_order v w)
 
@@ -44,12 +44,12 @@ has_type json_type.Array (list vs) = true
 has_type json_type.Object (object ms) = true
 has_type t v = false
 
--- some item of an array equals an argument, or any other value equals one
+-- an argument equals some item of an array, or, if the value is not an array, the value
 abbrev pub meets_some : Items → Value → Bool
 meets_some ws (list vs) = some_item (is_among ws) vs
 meets_some ws v = is_among ws v
 
--- an array of that length
+-- an array of n items
 abbrev pub has_size : ℕ → Value → Bool
 has_size n (list vs) = length (item_list vs) == n
 has_size n v = false
@@ -64,7 +64,7 @@ abbrev pub equals_only : Items → Value → Bool
 equals_only (item w no_items) v = are_equal v w
 equals_only ws v = false
 
--- an array that has every argument as an element, of which there is at least one, or that equals the only argument
+-- an array that has every argument as an element, or that equals the only argument; false without arguments
 abbrev pub contains_all : Items → Value → Bool
 contains_all ws (list vs) = every_of_some (is_among vs) ws || equals_only ws (list vs)
 contains_all ws v = false

@@ -17,12 +17,12 @@ abbrev pub flip : Sense → Sense
 flip Plain = Negated
 flip Negated = Plain
 
--- the answer, turned in the negated sense
+-- the answer in a sense: negated in the negated sense
 abbrev pub in_sense : Sense → Bool → Bool
 in_sense Plain b = b
 in_sense Negated b = not b
 
--- the answer of an operator that asks `entry` of a part that is there
+-- whether an operator holds of a part in a sense, if `entry` says of which values it holds in the plain one; false of a missing part
 abbrev pub on_part : (Value → Bool) → Sense → Option Value → Bool
 on_part entry sense None = false
 on_part entry sense (Some v) = in_sense sense (entry v)
@@ -57,7 +57,7 @@ abbrev mutual
   some_arm no_arms sense x = false
   some_arm (arm s ss) sense x = holds_in s sense x || some_arm ss sense x
 
-  -- the operator holds; inside an element the sense is plain again
+  -- the operator holds, in the sense, of the part; inside an element the sense is plain again
   pub operator_holds : Operator → Sense → Option Value → Bool
   operator_holds (less w) sense x = on_part (λ v. is_lt (value_order v w)) sense x
   operator_holds (at_most w) sense x = on_part (λ v. is_le (value_order v w)) sense x

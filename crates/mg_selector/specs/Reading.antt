@@ -25,7 +25,7 @@ abbrev pub ReadsAs : {X Y : Type 0} → (X → Y) → Result X SelError → Resu
 ReadsAs seen (Ok x) r = r ≡ Ok (seen x)
 ReadsAs seen (Err e) r = Fails e r
 
--- the argument of a path, where `inner` is its reading as a selector: an object with members is a selector, all else is compared
+-- the argument of a path, where `inner` is its reading as a selector: an object with members is a selector; `$eq` takes any other value
 abbrev pub argument : Value → Result Selector SelError → Result Selector SelError
 argument (object (member k v ms)) inner = inner
 argument v inner = Ok (asks (equal v))

@@ -7,7 +7,7 @@ use mg_collate::compare_of;
 use mg_value::{Json, Kind, LentValue};
 use std::num::NonZeroI64;
 
-/// Whether some item of an array equals an argument, or any other value equals one.
+/// Whether an argument equals some item of an array, or, if the value is not an array, the value.
 pub(crate) fn meets_some<L: LentValue>(arguments: &[Json], value: L) -> bool
     ensures { result ≡ meets_some (items_view arguments.now) (L.value value) }
 {
@@ -37,8 +37,8 @@ pub(crate) fn has_remainder<L: LentValue>(divisor: NonZeroI64, remainder: i64, v
     }
 }
 
-/// Whether the value is an array that has every argument, of which there is at least one, or that equals the
-/// only argument.
+/// Whether the value is an array that has every argument as an item, or that equals the only argument; false
+/// without arguments.
 pub(crate) fn contains_all<L: LentValue>(arguments: &[Json], value: L) -> bool
     ensures { result ≡ contains_all (items_view arguments.now) (L.value value) }
 {
@@ -76,7 +76,7 @@ fn some_is_among<L: LentValue>(items: &[Json], values: L::List) -> bool
     false
 }
 
-// Whether each value is among the items, and there is at least one value.
+// Whether each value equals some item, and there is at least one value.
 fn each_is_among<L: LentValue>(items: L::List, values: &[Json]) -> bool
     ensures { result ≡ every_of_some (is_among (L.items items)) (items_view values.now) }
 {

@@ -17,7 +17,7 @@ impl JsonType {
     ghost use Rattle.mg_selector.specs.Entry.{has_type};
     ghost use Rattle.mg_selector.specs.Argument.{type_named};
 
-    /// The type of this name.
+    /// The type with this name in `$type`, such as `array`; `None` for any other text. Takes no memory.
     pub fn named(name: &str) -> Option<JsonType>
         ensures { result ≡ type_named name.now }
     {
@@ -32,7 +32,7 @@ impl JsonType {
         }
     }
 
-    /// Whether the value is of this type.
+    /// Whether the value is of this type. Takes no memory. Cost: constant.
     pub fn is_of<L: LentValue>(self, value: L) -> bool
         ensures { result ≡ has_type self (L.value value) }
     {

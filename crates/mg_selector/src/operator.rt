@@ -39,8 +39,8 @@ pub enum Op {
     /// `$mod`: a number whose remainder by the first value is the second. The remainder has the number's own
     /// sign.
     Mod(NonZeroI64, i64),
-    /// `$all`: an array that has every argument, of which there is at least one, or that equals the only
-    /// argument.
+    /// `$all`: an array that has every argument as an item, or that equals the only argument; never without
+    /// arguments.
     All(Vec<Json>),
     /// `$elemMatch`: an array with an element that the selector holds of.
     ElemMatch(Box<Sel>),
@@ -53,7 +53,10 @@ impl Op {
     ghost use Rattle.mg_selector.specs.View.{operator_of};
 
     /// Whether the operator holds of the part in the sense. On a missing part only `$exists` can hold,
-    /// in either sense. No memory is taken.
+    /// in either sense.
+    ///
+    /// Takes no memory. Cost: a comparison with each argument; for `$in`, `$nin` and `$all` on an array, with each
+    /// argument for each item; for `$elemMatch` and `$allMatch`, the selector once for each element.
     #[inline]
     pub fn holds_in(&self, sense: Sense, part: Option<&Json>) -> bool
         ensures { result ≡ operator_holds (operator_of self.now) sense
@@ -62,7 +65,8 @@ impl Op {
         self.holds_of(sense, part)
     }
 
-    /// Whether the operator holds of the lent part in the sense, as for `holds_in`. No memory is taken.
+    /// Whether the operator holds of the lent part in the sense, as for `holds_in`. Takes no memory. Cost: as for
+    /// `holds_in`.
     #[inline]
     pub fn holds_of<L: LentValue>(&self, sense: Sense, part: Option<L>) -> bool
         ensures { result ≡ operator_holds (operator_of self.now) sense (option_map L.value part) }

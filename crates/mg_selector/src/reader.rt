@@ -102,7 +102,7 @@ fn read_inner(alloc: Global, value: &Json) -> Result<Box<Sel>, SelError>
     Ok(Box::new(alloc, read_object(alloc, value)?)?)
 }
 
-// The path is read before its argument.
+// The path is read before its argument, so a fault of the path comes first.
 #[cycle(reading)]
 fn read_path(alloc: Global, name: &str, value: &Json) -> Result<Sel, SelError>
     ensures { ReadsAs selector_of result (path_named name.now (view value.now) (of_object (view value.now))) }

@@ -57,7 +57,7 @@ impl Sel {
         }
     }
 
-    /// Whether the selector holds of the document. No memory is taken.
+    /// Whether the selector holds of the document. Takes no memory.
     ///
     /// Cost: each operator once, with the way to its part; inside `$elemMatch` and `$allMatch` once for
     /// each element that they look at. Source: the operators of CouchDB's `_find`.
@@ -68,8 +68,7 @@ impl Sel {
         self.holds_of(value)
     }
 
-    /// Whether the selector holds of the lent document, as for `holds`. No memory is taken. Cost: as for
-    /// `holds`.
+    /// Whether the selector holds of the lent document, as for `holds`. Takes no memory. Cost: as for `holds`.
     #[inline]
     pub fn holds_of<L: LentValue>(&self, value: L) -> bool
         ensures { result ≡ holds_in (selector_of self.now) Sense.Plain (Some (L.value value)) }
@@ -85,7 +84,7 @@ impl Sel {
     }
 }
 
-// After an allocation failed: the fault of the value, or `NoMemory` if it has none.
+// The error to return after an allocation failed: the fault of the value, or `NoMemory` if it has none.
 fn fault_or_no_memory(value: &Json) -> SelError
     ensures { result ≡ unwrap_or (result_err (reading (view value.now))) SelError.NoMemory }
 {

@@ -273,8 +273,3 @@ above_those d (x ∷ xs) h = (h.0, above_those d xs h.1)
 pub catalog_ascends : (xs : List Index) → IsCatalog (definitions_of xs) → Ascends index_order xs
 catalog_ascends [] c = tt
 catalog_ascends (x ∷ xs) c = (above_those x.0 xs c.0, catalog_ascends xs c.1)
-
--- what is made of what may be there
-pub twice_mapped : {A B C : Type 0} (f : A → B) (g : B → C) (o : Option A) → option_map (λ x. g (f x)) o ≡ option_map g (option_map f o)
-twice_mapped f g None = refl
-twice_mapped f g (Some x) = refl

@@ -12,7 +12,7 @@ use Rattle.mg_doc.specs.declared.error.Refused.{Refused}
 use Rattle.mg_revtree.specs.Revision.{Revision}
 use Rattle.mg_revtree.specs.History.{Paths}
 use Rattle.mg_shard.specs.Dealt.{AreDealt, Placing, ShardsStandFor, histories_on, kept_at}
-use Rattle.mg_shard.specs.Documents.{Kept, StandFor, StandsAt}
+use Rattle.mg_shard.specs.Documents.{KeptDocument, StandFor, StandsAt}
 use Rattle.mg_shard.specs.Edits.{after_edit, id_in, outcome_in}
 use Rattle.mg_shard.specs.Histories.{Histories, history_at}
 use Rattle.mg_shard.specs.Shard.{ShardView}
@@ -78,7 +78,7 @@ same_history place n i hs id at = ap (λ (o : Option Paths). unwrap_or o []) (hi
 pub same_outcome : (place : Placing) (n i : ℕ) (hs : Histories) (e : Edit) → place (id_in e) n ≡ i → outcome_in (histories_on place n i hs) e ≡ outcome_in hs e
 same_outcome place n i hs e at = ap (λ (h : Paths). outcome_of h e) (same_history place n i hs (id_in e) at)
 
-none_there : (id : List ℕ) (k : Option Kept) (o : Option Paths) → k ≡ None → o ≡ None → StandsAt id k o
+none_there : (id : List ℕ) (k : Option KeptDocument) (o : Option Paths) → k ≡ None → o ≡ None → StandsAt id k o
 none_there id None None e f = tt
 none_there id None (Some h) e f = absurd cc
 none_there id (Some d) o e f = absurd cc

@@ -14,7 +14,7 @@ use Rattle.mg_revtree.specs.History.{Leaf}
 use Rattle.mg_revtree.specs.Revision.{revision_text}
 use Rattle.mg_value.specs.Value.{Value, null, flag, whole, text, list, object, Members, no_members, member, no_items, item, get_member, member_of, put, with_member}
 use Rattle.mg_value.specs.View.{items_of}
-use Rattle.mg_shard.specs.Documents.{Kept, kept_entry, form_at, form_of, id_bytes, kept_of, shown}
+use Rattle.mg_shard.specs.Documents.{KeptDocument, kept_entry, form_at, form_of, id_bytes, kept_of, shown}
 use Rattle.mg_shard.specs.Own.{HasOwnId, IsServedOwn, all_columns, form_in, has_own_id}
 use Rattle.mg_shard.specs.Rows.{row_key}
 use Rattle.mg_shard.specs.declared.document.Document.{Document}
@@ -141,7 +141,7 @@ own_served id (WithoutId f) form own e = subst (λ (v : Value). HasOwnId id v) (
 pub own_document : (d : Document) (form : Value) → form_of d ≡ Some form → HasOwnId (id_bytes d) form
 own_document d form e = own_served (id_bytes d) d.served form d.own_id e
 
-own_step : (q : List ℕ) (d : Document) (form : Value) (o : Option Kept) (b : Bool) → is_eq (bytes_cmp q (id_bytes d)) ≡ b → (option_and_then (λ k. k.1) o ≡ Some form → HasOwnId q form)
+own_step : (q : List ℕ) (d : Document) (form : Value) (o : Option KeptDocument) (b : Bool) → is_eq (bytes_cmp q (id_bytes d)) ≡ b → (option_and_then (λ k. k.1) o ≡ Some form → HasOwnId q form)
     → option_and_then (λ k. k.1) (cond b (Some (kept_of d)) o) ≡ Some form → HasOwnId q form
 own_step q d form o true is rest e = subst (λ (i : List ℕ). HasOwnId i form) (sym (bytes_exact q (id_bytes d) (tied (bytes_cmp q (id_bytes d)) is))) (own_document d form e)
 own_step q d form o false is rest e = rest e
@@ -152,7 +152,7 @@ own_found q (d ∷ ds) form e = own_step q d form (find bytes_cmp q (map kept_en
 
 -- a document that is served with an `_id` is served with its own
 pub own_shown : (q : List ℕ) (ds : List Document) (form : Value) → form_at (shown ds) q ≡ Some form → HasOwnId q form
-own_shown q ds form e = own_found q ds form (ap (option_and_then (λ (k : Kept). k.1)) (sym (get-from_entries nat_list_cmp_total (map kept_entry ds) q)) ∙ e)
+own_shown q ds form e = own_found q ds form (ap (option_and_then (λ (k : KeptDocument). k.1)) (sym (get-from_entries nat_list_cmp_total (map kept_entry ds) q)) ∙ e)
 
 -- ---- what is found under an id has it
 

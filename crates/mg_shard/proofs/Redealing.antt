@@ -17,7 +17,7 @@ use Rattle.mg_pages.specs.Identified.{id_order}
 use Rattle.mg_pages.specs.Order.{Ascends, inserted}
 use Rattle.mg_revtree.specs.History.{Paths}
 use Rattle.mg_shard.specs.Dealt.{Placing, ShardsStandFor, histories_on}
-use Rattle.mg_shard.specs.Documents.{Kept, KeptDocuments, StandsAt, kept_entry, id_bytes, kept_of, shown}
+use Rattle.mg_shard.specs.Documents.{KeptDocument, KeptDocuments, StandsAt, kept_entry, id_bytes, kept_of, shown}
 use Rattle.mg_shard.specs.Histories.{Histories}
 use Rattle.mg_shard.specs.Redealt.{AreMade, ArePlaces, AreRedealt, IsMade, IsPlace, KeepsThose, documents_in, kept_in, last_kept}
 use Rattle.mg_shard.specs.Shard.{ShardView, shards_seen}
@@ -43,7 +43,7 @@ kept-more (x ∷ from) ds id = ap (λ o. option_or o (get x id)) (kept-more from
 
 -- ---- documents that are lent
 
-first_of_both : (e : Bool) (v : Kept) (o p : Option Kept) → option_or (cond e (Some v) o) p ≡ cond e (Some v) (option_or o p)
+first_of_both : (e : Bool) (v : KeptDocument) (o p : Option KeptDocument) → option_or (cond e (Some v) o) p ≡ cond e (Some v) (option_or o p)
 first_of_both true v o p = refl
 first_of_both false v o p = refl
 
@@ -51,14 +51,14 @@ first_of_both false v o p = refl
 pub last_more : (ds : List Document) (d : Document) (q : List ℕ) → last_kept (ds ++ d ∷ []) q ≡ cond (eq_by_cmp bytes_cmp q (id_bytes d)) (Some (kept_of d)) (last_kept ds q)
 last_more [] d q = refl
 last_more (x ∷ ds) d q =
-    let other : Option Kept = cond (eq_by_cmp bytes_cmp q (id_bytes x)) (Some (kept_of x)) None in
+    let other : Option KeptDocument = cond (eq_by_cmp bytes_cmp q (id_bytes x)) (Some (kept_of x)) None in
     ap (λ o. option_or o other) (last_more ds d q) ∙ first_of_both (eq_by_cmp bytes_cmp q (id_bytes d)) (kept_of d) (last_kept ds q) other
 
 absent_above : (d : Document) (ds : List Document) → AllByRecursion (λ y. id_order id_bytes d y ≡ Less) ds → find bytes_cmp (id_bytes d) (map kept_entry ds) ≡ None
 absent_above d [] h = refl
 absent_above d (x ∷ ds) h = ap (λ r. cond (is_eq r) (Some (kept_of x)) (find bytes_cmp (id_bytes d) (map kept_entry ds))) h.0 ∙ absent_above d ds h.1
 
-left_step : (e : Bool) (v : Kept) (o p : Option Kept) → (e ≡ true → o ≡ None) → option_or o (cond e (Some v) p) ≡ option_or (cond e (Some v) o) p
+left_step : (e : Bool) (v : KeptDocument) (o p : Option KeptDocument) → (e ≡ true → o ≡ None) → option_or o (cond e (Some v) p) ≡ option_or (cond e (Some v) o) p
 left_step true v o p none = ap (λ x. option_or x (Some v)) (none refl)
 left_step false v o p none = refl
 
@@ -77,11 +77,11 @@ left_less d rest all q h =
     ∙ ap (λ x. option_or x (last_kept all q)) (sym (shown_get (d ∷ rest) q))
 
 -- where none is left, all are lent
-pub none_left : (rest : List Document) (o : Option Kept) (q : List ℕ) → rest ≡ [] → option_or (get (shown rest) q) o ≡ o
+pub none_left : (rest : List Document) (o : Option KeptDocument) (q : List ℕ) → rest ≡ [] → option_or (get (shown rest) q) o ≡ o
 none_left rest o q none = ap (λ (ds : List Document). option_or (get (shown ds) q) o) none ∙ ap (λ k. option_or k o) (get-empty bytes_cmp q)
 
 -- the documents of one more shard
-pub one_shard : (from : List KeptDocuments) (ds : KeptDocuments) (q : List ℕ) (before after : Option Kept)
+pub one_shard : (from : List KeptDocuments) (ds : KeptDocuments) (q : List ℕ) (before after : Option KeptDocument)
     → before ≡ kept_in from q → after ≡ option_or (get ds q) before → after ≡ kept_in (from ++ ds ∷ []) q
 one_shard from ds q before after was is = is ∙ ap (option_or (get ds q)) was ∙ sym (kept-more from ds q)
 
@@ -116,17 +116,17 @@ take_one [] k x l e = absurd (omega (arith, l))
 take_one (y ∷ xs) zero x l e = ap (λ z. z ∷ []) (sym e)
 take_one (y ∷ xs) (suc k) x l e = ap (λ zs. y ∷ zs) (take_one xs k x (omega (arith, l)) e)
 
-some_kept : (d : Kept) → None ≡ Some d → ⊥
+some_kept : (d : KeptDocument) → None ≡ Some d → ⊥
 some_kept d e = cc
 
 -- what is kept is placed on one of the shards
-pub kept_placed : (place : Placing) (n : ℕ) (ds : List Document) (places : List ℕ) (q : List ℕ) (d : Kept) → ArePlaces place n ds places → last_kept ds q ≡ Some d → place q n < n
+pub kept_placed : (place : Placing) (n : ℕ) (ds : List Document) (places : List ℕ) (q : List ℕ) (d : KeptDocument) → ArePlaces place n ds places → last_kept ds q ≡ Some d → place q n < n
 kept_placed place n [] places q d h e = absurd (some_kept d e)
 kept_placed place n (x ∷ ds) [] q d h e = absurd h
 kept_placed place n (x ∷ ds) (p ∷ places) q d h e =
     go (λ y is. kept_placed place n ds places q y h.1 is) (last_kept ds q) refl (eq_by_cmp bytes_cmp q (id_bytes x)) refl
   where
-    go : ((y : Kept) → last_kept ds q ≡ Some y → place q n < n) → (o : Option Kept) → last_kept ds q ≡ o → (b : Bool) → eq_by_cmp bytes_cmp q (id_bytes x) ≡ b → place q n < n
+    go : ((y : KeptDocument) → last_kept ds q ≡ Some y → place q n < n) → (o : Option KeptDocument) → last_kept ds q ≡ o → (b : Bool) → eq_by_cmp bytes_cmp q (id_bytes x) ≡ b → place q n < n
     go more (Some y) is b tie = more y is
     go more None is true tie = subst (λ i. i < n) (h.0.0 ∙ ap (λ z. place z n) (sym (same_id q (id_bytes x) tie))) h.0.1
     go more None is false tie =
@@ -135,11 +135,11 @@ kept_placed place n (x ∷ ds) (p ∷ places) q d h e =
 
 -- ---- the documents of one place
 
-here_step : (e p : Bool) (v : Kept) (o : Option Kept) → (e ≡ true → p ≡ true) → cond e (Some v) (cond p o None) ≡ cond p (cond e (Some v) o) None
+here_step : (e p : Bool) (v : KeptDocument) (o : Option KeptDocument) → (e ≡ true → p ≡ true) → cond e (Some v) (cond p o None) ≡ cond p (cond e (Some v) o) None
 here_step true p v o is = sym (ap (λ b. cond b (Some v) None) (is refl))
 here_step false p v o is = refl
 
-other_step : (e p : Bool) (v : Kept) (o : Option Kept) → (e ≡ true → p ≡ false) → cond p o None ≡ cond p (cond e (Some v) o) None
+other_step : (e p : Bool) (v : KeptDocument) (o : Option KeptDocument) → (e ≡ true → p ≡ false) → cond p o None ≡ cond p (cond e (Some v) o) None
 other_step true p v o is = ap (λ b. cond b o None) (is refl) ∙ sym (ap (λ b. cond b (Some v) None) (is refl))
 other_step false p v o is = refl
 
@@ -148,7 +148,7 @@ abbrev pub KeepsSoFar : List Document → List ℕ → ℕ → ℕ → KeptDocum
 KeepsSoFar ds places i k to =
     (place : Placing) (n : ℕ) → ArePlaces place n ds places → (id : List ℕ) → get to id ≡ cond (eqb (place id n) i) (last_kept (take k ds) id) None
 
-cond_none : (b : Bool) → ◌≡◌ {A = Option Kept} (cond b None None) None
+cond_none : (b : Bool) → ◌≡◌ {A = Option KeptDocument} (cond b None None) None
 cond_none true = refl
 cond_none false = refl
 
@@ -237,12 +237,12 @@ made_definitions ds places definitions shards made k d l = (made k (slice_index_
 
 -- ---- what the shards stand for
 
-none_stands : (id : List ℕ) (k : Option Kept) (o : Option Paths) → o ≡ None → StandsAt id k o → k ≡ None
+none_stands : (id : List ℕ) (k : Option KeptDocument) (o : Option Paths) → o ≡ None → StandsAt id k o → k ≡ None
 none_stands id None o e st = refl
 none_stands id (Some d) None e st = absurd st
 none_stands id (Some d) (Some h) e st = absurd cc
 
-some_stands : (id : List ℕ) (k : Option Kept) (o : Option Paths) (h : Paths) → o ≡ Some h → StandsAt id k o → (d : Kept) × (k ≡ Some d)
+some_stands : (id : List ℕ) (k : Option KeptDocument) (o : Option Paths) (h : Paths) → o ≡ Some h → StandsAt id k o → (d : KeptDocument) × (k ≡ Some d)
 some_stands id None None h e st = absurd cc
 some_stands id None (Some g) h e st = absurd st
 some_stands id (Some d) o h e st = (d, refl)
@@ -272,10 +272,10 @@ kept_once (s ∷ shards) (suc p) id h =
 -- what any of the shards keeps of an id stands for its history
 kept_stands : (place : Placing) (shards : List ShardView) (hs : Histories) (id : List ℕ) → ShardsStandFor place shards hs → StandsAt id (kept_in (documents_in shards) id) (get hs id)
 kept_stands place shards hs id st =
-    subst (λ (k : Option Kept). StandsAt id k (get hs id))
+    subst (λ (k : Option KeptDocument). StandsAt id k (get hs id))
     (sym (kept_once shards (place id (length shards)) id (kept_nowhere_else place shards hs id st))) (stands_at place shards hs id st)
 
-either_stands : (b : Bool) (id : List ℕ) (k : Option Kept) (o : Option Paths) → StandsAt id k o → StandsAt id (cond b k None) (cond b o None)
+either_stands : (b : Bool) (id : List ℕ) (k : Option KeptDocument) (o : Option Paths) → StandsAt id k o → StandsAt id (cond b k None) (cond b o None)
 either_stands true id k o st = st
 either_stands false id k o st = tt
 
@@ -294,7 +294,7 @@ redealt_stand before place shards new hs r st =
           let at : slice_get (documents_in new) i ≡ Some s.documents = slice_get-map (λ (s : ShardView). s.documents) new i ∙ ap (option_map (λ (s : ShardView). s.documents)) is in
           let kept : get s.documents id ≡ cond b (kept_in (documents_in shards) id) None =
           r.each i s.documents at id ∙ ap (λ m. cond (eqb (place id m) i) (kept_in (documents_in shards) id) None) long in
-          subst (λ (k : Option Kept). StandsAt id k (get (histories_on place n i hs) id)) (sym kept)
+          subst (λ (k : Option KeptDocument). StandsAt id k (get (histories_on place n i hs) id)) (sym kept)
           (subst (λ (o : Option Paths). StandsAt id (cond b (kept_in (documents_in shards) id) None) o) (sym (get-kept hs (λ id. eqb (place id n) i) id))
           (either_stands b id (kept_in (documents_in shards) id) (get hs id) (kept_stands before shards hs id st)));
     }

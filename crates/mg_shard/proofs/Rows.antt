@@ -16,7 +16,7 @@ use Rattle.mg_collate.proofs.Sorting.{NoneBelow, Rises, permutation_sorted, rise
 use Rattle.mg_collate.proofs.Ties.{same_rows}
 use Rattle.mg_index.specs.Definition.{Steps}
 use Rattle.mg_pages.specs.Order.{Ascends, above, below, inserted, removed}
-use Rattle.mg_shard.specs.Documents.{Kept, KeptDocuments, doc_entry, docs_of}
+use Rattle.mg_shard.specs.Documents.{KeptDocument, KeptDocuments, doc_entry, docs_of}
 use Rattle.mg_shard.specs.Histories.{ServedDocument}
 use Rattle.mg_shard.specs.Mended.{own_row, with_row, without_row}
 use Rattle.mg_shard.specs.Rows.{row_key, row_of, rows_of}
@@ -108,12 +108,12 @@ ascends_rises (r ∷ rows) h = (none_below r rows h.0, ascends_rises rows h.1)
 -- ---- the rows of documents
 
 -- the row of what is kept of an id, if it has one
-abbrev pub row_at : List Steps → List ℕ → Option Kept → Option RowValue
+abbrev pub row_at : List Steps → List ℕ → Option KeptDocument → Option RowValue
 row_at columns id None = None
 row_at columns id (Some d) = option_and_then (row_of columns) (doc_entry (id, d))
 
 -- the rows of documents, in the order of the ids
-abbrev entry_rows : List Steps → List (List ℕ × Kept) → List RowValue
+abbrev entry_rows : List Steps → List (List ℕ × KeptDocument) → List RowValue
 entry_rows columns es = filter_map (row_of columns) (filter_map doc_entry es)
 
 count-option : (z : RowValue) (o : Option RowValue) (rows : List RowValue) → count z (cons_option o rows) ≡ count_one z o + count z rows
@@ -125,13 +125,13 @@ count-entry : (columns : List Steps) (z : RowValue) (o : Option ServedDocument) 
 count-entry columns z None ds = omega arith
 count-entry columns z (Some d) ds = count-option z (row_of columns d) (filter_map (row_of columns) ds)
 
-find_step : (r : Ordering) (b : Bool) (v : Kept) (o : Option Kept) → T (is_lt r && b) → (T b → o ≡ None) → cond (is_eq r) (Some v) o ≡ None
+find_step : (r : Ordering) (b : Bool) (v : KeptDocument) (o : Option KeptDocument) → T (is_lt r && b) → (T b → o ≡ None) → cond (is_eq r) (Some v) o ≡ None
 find_step Less b v o h rest = rest h
 find_step Equal b v o h rest = absurd h
 find_step Greater b v o h rest = absurd h
 
 -- an id below all others is none of them
-find_below : (id : List ℕ) (es : List (List ℕ × Kept)) → T (below_all bytes_cmp id es) → find bytes_cmp id es ≡ None
+find_below : (id : List ℕ) (es : List (List ℕ × KeptDocument)) → T (below_all bytes_cmp id es) → find bytes_cmp id es ≡ None
 find_below id [] h = refl
 find_below id (e ∷ es) h = find_step (bytes_cmp id e.0) (below_all bytes_cmp id es) e.1 (find bytes_cmp id es) h (find_below id es)
 
@@ -152,11 +152,11 @@ other_form columns z id None apart = refl
 other_form columns z id (Some form) apart = other_key z id (row_key columns form) apart
 
 -- a row of another id is not there
-other_id : (columns : List Steps) (z : RowValue) (id : List ℕ) (o : Option Kept) → eq_by_cmp bytes_cmp z.1 id ≡ false → count_one z (row_at columns id o) ≡ 0
+other_id : (columns : List Steps) (z : RowValue) (id : List ℕ) (o : Option KeptDocument) → eq_by_cmp bytes_cmp z.1 id ≡ false → count_one z (row_at columns id o) ≡ 0
 other_id columns z id None apart = refl
 other_id columns z id (Some d) apart = other_form columns z id d.1 apart
 
-one_entry : (columns : List Steps) (z : RowValue) (e : List ℕ × Kept) (es : List (List ℕ × Kept)) (b : Bool) → eq_by_cmp bytes_cmp z.1 e.0 ≡ b → T (below_all bytes_cmp e.0 es)
+one_entry : (columns : List Steps) (z : RowValue) (e : List ℕ × KeptDocument) (es : List (List ℕ × KeptDocument)) (b : Bool) → eq_by_cmp bytes_cmp z.1 e.0 ≡ b → T (below_all bytes_cmp e.0 es)
     → count z (entry_rows columns es) ≡ count_one z (row_at columns z.1 (find bytes_cmp z.1 es))
     → count_one z (row_at columns e.0 (Some e.1)) + count z (entry_rows columns es) ≡ count_one z (row_at columns z.1 (cond b (Some e.1) (find bytes_cmp z.1 es)))
 one_entry columns z e es true is below rest =
@@ -175,7 +175,7 @@ second : (a b : Bool) → T (a && b) → T b
 second true b p = p
 second false b p = absurd p
 
-count-entries : (columns : List Steps) (z : RowValue) (es : List (List ℕ × Kept)) → T (is_sorted bytes_cmp es) → count z (entry_rows columns es) ≡ count_one z (row_at columns z.1 (find bytes_cmp z.1 es))
+count-entries : (columns : List Steps) (z : RowValue) (es : List (List ℕ × KeptDocument)) → T (is_sorted bytes_cmp es) → count z (entry_rows columns es) ≡ count_one z (row_at columns z.1 (find bytes_cmp z.1 es))
 count-entries columns z [] h = refl
 count-entries columns z (e ∷ es) h =
     count-entry columns z (doc_entry e) (filter_map doc_entry es)
@@ -220,7 +220,7 @@ unchanged true c n e f = absurd (omega (arith, e))
 unchanged false true n e f = absurd (omega (arith, f))
 unchanged false false n e f = refl
 
-mended_at : (columns : List Steps) (z : RowValue) (id : List ℕ) (k : Kept) (d o : Option Kept) (b : Bool) → eq_by_cmp bytes_cmp z.1 id ≡ b → (b ≡ true → o ≡ d)
+mended_at : (columns : List Steps) (z : RowValue) (id : List ℕ) (k : KeptDocument) (d o : Option KeptDocument) (b : Bool) → eq_by_cmp bytes_cmp z.1 id ≡ b → (b ≡ true → o ≡ d)
     → cond (is_row z (row_at columns id (Some k))) 1 (cond (is_row z (row_at columns id d)) 0 (count_one z (row_at columns z.1 o)))
     ≡ count_one z (row_at columns z.1 (cond b (Some k) o))
 mended_at columns z id k d o true is same =
@@ -234,7 +234,7 @@ mended_at columns z id k d o false is same =
     (sym (count_one-is z (row_at columns id (Some k))) ∙ other_id columns z id (Some k) is) (sym (count_one-is z (row_at columns id d)) ∙ other_id columns z id d is)
 
 -- where a document changes, the row that it had gives way to the one that it has
-pub rows_mended : (columns : List Steps) (ds : KeptDocuments) (id : List ℕ) (k : Kept) (rows new : List RowValue) → rows ≡ rows_of columns (docs_of ds) → Rises row_value_order new
+pub rows_mended : (columns : List Steps) (ds : KeptDocuments) (id : List ℕ) (k : KeptDocument) (rows new : List RowValue) → rows ≡ rows_of columns (docs_of ds) → Rises row_value_order new
     → new ≡ with_row (row_at columns id (Some k)) (without_row (row_at columns id (get ds id)) rows) → new ≡ rows_of columns (docs_of (insert ds id k))
 rows_mended columns ds id k rows new were rises is =
     same_list row_value_order row_value_order_total same_rows new (rows_of columns (docs_of (insert ds id k))) rises
@@ -247,7 +247,7 @@ rows_mended columns ds id k rows new were rises is =
     ∙ ap (λ o. count_one z (row_at columns z.1 o)) (sym (get-insert nat_list_cmp_total ds id k z.1))
     ∙ sym (count-rows columns z (insert ds id k)))
 
-left_at : (columns : List Steps) (z : RowValue) (id : List ℕ) (k : Kept) (d o : Option Kept) (b : Bool) → eq_by_cmp bytes_cmp z.1 id ≡ b → (b ≡ true → o ≡ d)
+left_at : (columns : List Steps) (z : RowValue) (id : List ℕ) (k : KeptDocument) (d o : Option KeptDocument) (b : Bool) → eq_by_cmp bytes_cmp z.1 id ≡ b → (b ≡ true → o ≡ d)
     → row_at columns id d ≡ row_at columns id (Some k) → count_one z (row_at columns z.1 o) ≡ count_one z (row_at columns z.1 (cond b (Some k) o))
 left_at columns z id k d o true is same kept =
     let here : z.1 ≡ id = same_id z.1 id is in
@@ -255,7 +255,7 @@ left_at columns z id k d o true is same kept =
 left_at columns z id k d o false is same kept = refl
 
 -- where a document changes and its row does not, the rows are left
-pub rows_left : (columns : List Steps) (ds : KeptDocuments) (id : List ℕ) (k : Kept) (rows : List RowValue) → rows ≡ rows_of columns (docs_of ds)
+pub rows_left : (columns : List Steps) (ds : KeptDocuments) (id : List ℕ) (k : KeptDocument) (rows : List RowValue) → rows ≡ rows_of columns (docs_of ds)
     → row_at columns id (get ds id) ≡ row_at columns id (Some k) → rows ≡ rows_of columns (docs_of (insert ds id k))
 rows_left columns ds id k rows were kept =
     were ∙ same_list row_value_order row_value_order_total same_rows (rows_of columns (docs_of ds)) (rows_of columns (docs_of (insert ds id k)))
@@ -284,18 +284,8 @@ sorted_is rows all rises same =
     same_list row_value_order row_value_order_total same_rows rows (sorted row_value_order all) rises (rises_sorted row_value_order row_value_order_total all)
     (λ z. same z ∙ sym (times_permutation row_value_order z all (sorted row_value_order all) (permutation_sorted row_value_order all)))
 
--- to sort what is sorted changes nothing
-pub sorted_again : (rows : List RowValue) → sorted row_value_order (sorted row_value_order rows) ≡ sorted row_value_order rows
-sorted_again rows = sym (sorted_is (sorted row_value_order rows) (sorted row_value_order rows) (rises_sorted row_value_order row_value_order_total rows) (λ z. refl))
-
-pub rows_once : (columns : List Steps) (z : RowValue) (ds : KeptDocuments) → count z (rows_of columns (docs_of ds)) ≤ 1
-rows_once columns z ds =
-    let unsorted = filter_map (row_of columns) (docs_of ds) in
-    let same : count z (rows_of columns (docs_of ds)) ≡ count z unsorted = times_permutation row_value_order z unsorted (rows_of columns (docs_of ds)) (permutation_sorted row_value_order unsorted) in
-    let few = at_most_once columns z ds in omega (arith, same, few)
-
 -- the row of the form that is kept
-pub own_at : (columns : List Steps) (id : List ℕ) (o : Option Kept) → own_row columns id (option_and_then (λ d. d.1) o) ≡ row_at columns id o
+pub own_at : (columns : List Steps) (id : List ℕ) (o : Option KeptDocument) → own_row columns id (option_and_then (λ d. d.1) o) ≡ row_at columns id o
 own_at columns id None = refl
 own_at columns id (Some d) = refl
 

@@ -10,7 +10,7 @@ use Rattle.std.specs.FinMap.Entries.{below_all, where_key, find-where_key}
 use Rattle.std.specs.FinMap.{IsAntisymmetric, entries, entries-from_sorted, find, from_sorted, get, get-from_entries, get-from_sorted, get-insert, insert, is_sorted, nat_cmp-IsAntisymmetric, same_map, slice_cmp-IsAntisymmetric}
 use Rattle.mg_pages.specs.Identified.{id_against, id_order}
 use Rattle.mg_pages.specs.Order.{Ascends, above, below, first_of_list, found, inserted}
-use Rattle.mg_shard.specs.Documents.{Kept, doc_entry, docs_of, kept_entry, id_bytes, kept_of, served_docs, shown}
+use Rattle.mg_shard.specs.Documents.{KeptDocument, doc_entry, docs_of, kept_entry, id_bytes, kept_of, served_docs, shown}
 use Rattle.mg_shard.specs.declared.document.Document.{Document}
 
 abbrev pub bytes_cmp : List ℕ → List ℕ → Ordering
@@ -21,7 +21,7 @@ bytes_exact = slice_cmp-IsAntisymmetric nat_cmp-IsAntisymmetric
 
 -- ---- look-ups
 
-found_step : (b : Bool) (d : Document) (ds : List Document) (o : Option Kept) → option_map kept_of (first_of_list ds) ≡ o
+found_step : (b : Bool) (d : Document) (ds : List Document) (o : Option KeptDocument) → option_map kept_of (first_of_list ds) ≡ o
     → option_map kept_of (first_of_list (cond b (d ∷ ds) ds)) ≡ cond b (Some (kept_of d)) o
 found_step true d ds o e = refl
 found_step false d ds o e = e
@@ -40,7 +40,7 @@ option_or-none : {X : Type 0} (o : Option X) → option_or o None ≡ o
 option_or-none None = refl
 option_or-none (Some x) = refl
 
-found_first : (b : Bool) (v : Kept) (o p : Option Kept) → cond b (Some v) (option_or o p) ≡ option_or (cond b (Some v) o) p
+found_first : (b : Bool) (v : KeptDocument) (o p : Option KeptDocument) → cond b (Some v) (option_or o p) ≡ option_or (cond b (Some v) o) p
 found_first true v o p = refl
 found_first false v o p = refl
 
@@ -59,7 +59,7 @@ where-map p (d ∷ ds) = where_step (p (id_bytes d)) d (filter (λ x. p (id_byte
 find-where : (p : List ℕ → Bool) (q : List ℕ) (ds : List Document) → find bytes_cmp q (map kept_entry (filter (λ d. p (id_bytes d)) ds)) ≡ cond (p q) (find bytes_cmp q (map kept_entry ds)) None
 find-where p q ds = ap (find bytes_cmp q) (where-map p ds) ∙ find-where_key bytes_cmp p q (λ x e. ap p (sym (bytes_exact q x e))) (map kept_entry ds)
 
-placed : (r : Ordering) (v : Kept) (o : Option Kept)
+placed : (r : Ordering) (v : KeptDocument) (o : Option KeptDocument)
     → option_or (cond (is_gt r) o None) (cond (is_eq (ordering_reverse r)) (Some v) (cond (is_lt r) o None)) ≡ cond (is_eq (ordering_reverse r)) (Some v) o
 placed Less v o = refl
 placed Equal v o = refl

@@ -11,18 +11,18 @@ use Rattle.mg_revtree.specs.History.{Paths, Leaf, winner_of}
 use Rattle.mg_revtree.proofs.Winners.{front_wins, none_wins}
 use Rattle.mg_revtree.specs.Tree.{AreLeaves, StandsFor, Tree}
 use Rattle.mg_doc.specs.Served.{served_of, shown_leaf}
-use Rattle.mg_shard.specs.Documents.{Kept, KeptDocuments, StandFor, StandsAt, doc_entry, docs_of, tree_at}
+use Rattle.mg_shard.specs.Documents.{KeptDocument, KeptDocuments, StandFor, StandsAt, doc_entry, docs_of, tree_at}
 use Rattle.mg_shard.specs.Histories.{Histories, ServedDocument, history_at, served_documents, served_entry}
 use Rattle.mg_shard.proofs.Shown.{bytes_cmp, bytes_exact}
 
 -- ---- look-ups
 
-there : (id : List ℕ) (t : Tree) (k : Option Kept) (o : Option Paths) → option_map (λ d. d.0) k ≡ Some t → StandsAt id k o → StandsFor t (unwrap_or o [])
+there : (id : List ℕ) (t : Tree) (k : Option KeptDocument) (o : Option Paths) → option_map (λ d. d.0) k ≡ Some t → StandsAt id k o → StandsFor t (unwrap_or o [])
 there id t None o e st = absurd cc
 there id t (Some c) None e st = absurd st
 there id t (Some c) (Some h) e st = let same : c.0 ≡ t = cc in subst (λ (x : Tree). StandsFor x h) same st.0
 
-absent : (id : List ℕ) (k : Option Kept) (o : Option Paths) → option_map (λ d. d.0) k ≡ None → StandsAt id k o → unwrap_or o [] ≡ []
+absent : (id : List ℕ) (k : Option KeptDocument) (o : Option Paths) → option_map (λ d. d.0) k ≡ None → StandsAt id k o → unwrap_or o [] ≡ []
 absent id None None e st = refl
 absent id None (Some h) e st = absurd st
 absent id (Some c) o e st = absurd cc
@@ -35,7 +35,7 @@ tree_there ds hs id t e st = there id t (get ds id) (get hs id) e st
 pub tree_absent : (ds : KeptDocuments) (hs : Histories) (id : List ℕ) → tree_at ds id ≡ None → StandsAt id (get ds id) (get hs id) → history_at hs id ≡ []
 tree_absent ds hs id e st = absent id (get ds id) (get hs id) e st
 
-neither : (id : List ℕ) (k : Option Kept) (o : Option Paths) → k ≡ None → o ≡ None → StandsAt id k o
+neither : (id : List ℕ) (k : Option KeptDocument) (o : Option Paths) → k ≡ None → o ≡ None → StandsAt id k o
 neither id None None e f = tt
 neither id None (Some h) e f = absurd cc
 neither id (Some d) o e f = absurd cc
@@ -94,10 +94,10 @@ module _ {X Y : Type 0} (f : List ℕ → X → Y) where
   unfolding image
   entries-image m = entries-from_sorted bytes_cmp (seen (entries m)) (sorted_image m)
 
-abbrev kept_form : List ℕ → Kept → Option Value
+abbrev kept_form : List ℕ → KeptDocument → Option Value
 kept_form id d = d.1
 
-same_form : (id : List ℕ) (k : Option Kept) (o : Option Paths) → StandsAt id k o → option_map (kept_form id) k ≡ option_map (served_of id) o
+same_form : (id : List ℕ) (k : Option KeptDocument) (o : Option Paths) → StandsAt id k o → option_map (kept_form id) k ≡ option_map (served_of id) o
 same_form id None None st = refl
 same_form id None (Some h) st = absurd st
 same_form id (Some d) None st = absurd st
@@ -114,7 +114,7 @@ same_forms ds hs st =
 abbrev formed : List ℕ × Option Value → Option ServedDocument
 formed e = option_map (λ v. (e.0, v)) e.1
 
-docs_kept : (es : List (List ℕ × Kept)) → filter_map doc_entry es ≡ filter_map formed (seen kept_form es)
+docs_kept : (es : List (List ℕ × KeptDocument)) → filter_map doc_entry es ≡ filter_map formed (seen kept_form es)
 docs_kept [] = refl
 docs_kept (e ∷ es) = rw (docs_kept es)
 
@@ -136,7 +136,7 @@ served_same : (id : List ℕ) (t : Tree) (h g : Paths) → StandsFor t h → Sta
 served_same id t h g p q = ap (option_and_then (shown_leaf id)) (winner_same h g t.leaves p.leaves q.leaves)
 
 -- a document stands for each history for which its tree does
-pub still_stands : (id : List ℕ) (t : Tree) (k : Option Kept) (o : Option Paths) (g : Paths) → option_map (λ d. d.0) k ≡ Some t → StandsAt id k o → StandsFor t g → StandsAt id k (Some g)
+pub still_stands : (id : List ℕ) (t : Tree) (k : Option KeptDocument) (o : Option Paths) (g : Paths) → option_map (λ d. d.0) k ≡ Some t → StandsAt id k o → StandsFor t g → StandsAt id k (Some g)
 still_stands id t None o g e st s = absurd cc
 still_stands id t (Some d) None g e st s = absurd st
 still_stands id t (Some d) (Some h) g e st s =

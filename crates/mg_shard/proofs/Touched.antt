@@ -19,7 +19,7 @@ use Rattle.mg_doc.specs.Served.{served_of}
 use Rattle.mg_doc.specs.declared.change.Change.{Change}
 use Rattle.mg_doc.specs.declared.change.Change.TheVariants.{New, Replica}
 use Rattle.mg_doc.specs.declared.error.Refused.{Refused}
-use Rattle.mg_shard.specs.Documents.{Kept, KeptDocuments, StandFor, StandsAt, tree_at}
+use Rattle.mg_shard.specs.Documents.{KeptDocument, KeptDocuments, StandFor, StandsAt, tree_at}
 use Rattle.mg_shard.specs.Draft.{DraftAt, DraftStandsFor, DraftView, TouchedStandFor, Touches, Trees, touched_of}
 use Rattle.mg_shard.specs.Edits.{after_edit, history_put, id_in, outcome_in}
 use Rattle.mg_shard.specs.Histories.{Histories, history_at}
@@ -86,7 +86,7 @@ all_kept ds ts hs none st q = subst (λ (t : Option Tree). DraftAt q t (get ds q
 pub document_at : (ds : KeptDocuments) (ts : Trees) (hs : Histories) (id : List ℕ) → get ts id ≡ None → TouchedStandFor ds ts hs → StandsAt id (get ds id) (get hs id)
 document_at ds ts hs id none st = subst (λ (t : Option Tree). DraftAt id t (get ds id) (get hs id)) none (st id)
 
-has : (id : List ℕ) (t : Tree) (kept : Option Kept) (o : Option Paths) → DraftAt id (Some t) kept o → (h : Paths) × (o ≡ Some h) × StandsFor t h
+has : (id : List ℕ) (t : Tree) (kept : Option KeptDocument) (o : Option Paths) → DraftAt id (Some t) kept o → (h : Paths) × (o ≡ Some h) × StandsFor t h
 has id t kept None st = absurd st
 has id t kept (Some h) st = (h, refl, st)
 
@@ -97,12 +97,12 @@ touched_at ds ts hs id t is st = has id t (get ds id) (get hs id) (subst (λ (o 
 pub tree_touched : (ds : KeptDocuments) (ts : Trees) (hs : Histories) (id : List ℕ) (t : Tree) → get ts id ≡ Some t → TouchedStandFor ds ts hs → StandsFor t (history_at hs id)
 tree_touched ds ts hs id t is st = let at = touched_at ds ts hs id t is st in subst (λ (o : Option Paths). StandsFor t (unwrap_or o [])) (sym at.1) at.2
 
-done_at : (b : Bool) (q : List ℕ) (t : Tree) (h : Paths) (ot : Option Tree) (kept : Option Kept) (o : Option Paths) → StandsFor t h → DraftAt q ot kept o
+done_at : (b : Bool) (q : List ℕ) (t : Tree) (h : Paths) (ot : Option Tree) (kept : Option KeptDocument) (o : Option Paths) → StandsFor t h → DraftAt q ot kept o
     → DraftAt q (cond b (Some t) ot) kept (cond b (Some h) o)
 done_at true q t h ot kept o s st = s
 done_at false q t h ot kept o s st = st
 
-refused_at : (b : Bool) (q : List ℕ) (t : Tree) (h : Paths) (ot : Option Tree) (kept : Option Kept) (o : Option Paths) → (b ≡ true → o ≡ Some h) → StandsFor t h → DraftAt q ot kept o
+refused_at : (b : Bool) (q : List ℕ) (t : Tree) (h : Paths) (ot : Option Tree) (kept : Option KeptDocument) (o : Option Paths) → (b ≡ true → o ≡ Some h) → StandsFor t h → DraftAt q ot kept o
     → DraftAt q (cond b (Some t) ot) kept o
 refused_at true q t h ot kept o is s st = subst (λ (p : Option Paths). DraftAt q (Some t) kept p) (sym (is refl)) s
 refused_at false q t h ot kept o is s st = st
@@ -134,7 +134,7 @@ pub replaced : (b : Bool) (t : Tree) (o p : Option Tree) → p ≡ cond b None o
 replaced true t o p e = refl
 replaced false t o p e = e
 
-kept_at : (b : Bool) (q id : List ℕ) (t : Tree) (d : Kept) (ot : Option Tree) (kept : Option Kept) (o : Option Paths) → (b ≡ true → q ≡ id) → (b ≡ true → ot ≡ Some t) → d.0 ≡ t
+kept_at : (b : Bool) (q id : List ℕ) (t : Tree) (d : KeptDocument) (ot : Option Tree) (kept : Option KeptDocument) (o : Option Paths) → (b ≡ true → q ≡ id) → (b ≡ true → ot ≡ Some t) → d.0 ≡ t
     → ((h : Paths) → StandsFor t h → d.1 ≡ served_of id h) → DraftAt q ot kept o → DraftAt q (cond b None ot) (cond b (Some d) kept) o
 kept_at true q id t d ot kept o at is same served st =
     let had = has q t kept o (subst (λ (p : Option Tree). DraftAt q p kept o) (is refl) st) in
@@ -143,12 +143,12 @@ kept_at true q id t d ot kept o at is same served st =
 kept_at false q id t d ot kept o at is same served st = st
 
 -- a touched tree is kept as its document
-pub tree_kept : (ds cs : KeptDocuments) (ts us : Trees) (hs : Histories) (id : List ℕ) (t : Tree) (d : Kept) → get ts id ≡ Some t → d.0 ≡ t
+pub tree_kept : (ds cs : KeptDocuments) (ts us : Trees) (hs : Histories) (id : List ℕ) (t : Tree) (d : KeptDocument) → get ts id ≡ Some t → d.0 ≡ t
     → ((h : Paths) → StandsFor t h → d.1 ≡ served_of id h) → cs ≡ insert ds id d
     → ((q : List ℕ) → get us q ≡ cond (eq_by_cmp bytes_cmp q id) None (get ts q)) → TouchedStandFor ds ts hs → TouchedStandFor cs us hs
 tree_kept ds cs ts us hs id t d is same served put at st q =
     let now : get cs q ≡ cond (eq_by_cmp bytes_cmp q id) (Some d) (get ds q) = ap (λ m. get m q) put ∙ get-insert nat_list_cmp_total ds id d q in
-    subst (λ (k : Option Kept). DraftAt q (get us q) k (get hs q)) (sym now)
+    subst (λ (k : Option KeptDocument). DraftAt q (get us q) k (get hs q)) (sym now)
     (subst (λ (o : Option Tree). DraftAt q o (cond (eq_by_cmp bytes_cmp q id) (Some d) (get ds q)) (get hs q)) (sym (at q))
     (kept_at (eq_by_cmp bytes_cmp q id) q id t d (get ts q) (get ds q) (get hs q) (same_id q id) (λ b. ap (get ts) (same_id q id b) ∙ is) same served (st q)))
 
@@ -197,7 +197,7 @@ pub none_left : (n : ℕ) → (0 < n → false ≡ true) → n ≡ 0
 none_left zero h = refl
 none_left (suc n) h = let wrong = h (omega arith) in absurd cc
 
-known_at : (b : Bool) (q : List ℕ) (h : Paths) (ot : Option Tree) (kept : Option Kept) (o : Option Paths) → (b ≡ true → ot ≡ None) → (b ≡ true → StandsAt q kept (Some h)) → DraftAt q ot kept o
+known_at : (b : Bool) (q : List ℕ) (h : Paths) (ot : Option Tree) (kept : Option KeptDocument) (o : Option Paths) → (b ≡ true → ot ≡ None) → (b ≡ true → StandsAt q kept (Some h)) → DraftAt q ot kept o
     → DraftAt q ot kept (cond b (Some h) o)
 known_at true q h ot kept o none s st = subst (λ (t : Option Tree). DraftAt q t kept (Some h)) (sym (none refl)) (s refl)
 known_at false q h ot kept o none s st = st

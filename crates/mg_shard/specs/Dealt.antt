@@ -2,7 +2,7 @@
 use Rattle.std.specs.Prelude.{◌≡◌, ℕ, ◌<◌, ◌==◌, List, length, Option, Some, option_and_then, slice_get}
 use Rattle.std.specs.FinMap.{get, retain_keys}
 use Rattle.mg_revtree.specs.History.{Paths}
-use Rattle.mg_shard.specs.Documents.{Kept, StandFor}
+use Rattle.mg_shard.specs.Documents.{KeptDocument, StandFor}
 use Rattle.mg_shard.specs.Draft.{DraftView, DraftStandsFor}
 use Rattle.mg_shard.specs.Histories.{Histories}
 use Rattle.mg_shard.specs.Shard.{ShardView}
@@ -25,14 +25,14 @@ pub record AreDealt {X : Type 0} (Stands : X → Histories → Type 0) (place : 
 abbrev pub ShardStandsFor : ShardView → Histories → Type 0
 ShardStandsFor s hs = StandFor s.documents hs
 
--- shards stand for histories that are dealt to them
+-- shards stand for histories that are dealt to them by this placement
 abbrev pub ShardsStandFor : Placing → List ShardView → Histories → Type 0
 ShardsStandFor place shards hs = AreDealt ShardStandsFor place shards hs
 
--- drafts, while a bulk is applied, stand for histories that are dealt to them
+-- drafts, while a bulk is applied, stand for histories that are dealt to them by this placement
 abbrev pub DraftsStandFor : Placing → List DraftView → Histories → Type 0
 DraftsStandFor place drafts hs = AreDealt DraftStandsFor place drafts hs
 
--- what is kept of an id, on the shard where it is placed
-abbrev pub kept_at : Placing → List ShardView → List ℕ → Option Kept
+-- the document of an id, as it is kept, on the shard where the id is placed
+abbrev pub kept_at : Placing → List ShardView → List ℕ → Option KeptDocument
 kept_at place shards id = option_and_then (λ s. get s.documents id) (slice_get shards (place id (length shards)))

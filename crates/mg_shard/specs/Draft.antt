@@ -12,7 +12,7 @@ use Rattle.mg_revtree.specs.Tree.{Tree, StandsFor, tree_code}
 use Rattle.mg_doc.specs.Document.{Edit}
 use Rattle.mg_doc.specs.Edit.{edited}
 use Rattle.mg_doc.specs.declared.error.Refused.{Refused}
-use Rattle.mg_shard.specs.Documents.{Kept, KeptDocuments, StandsAt}
+use Rattle.mg_shard.specs.Documents.{KeptDocument, KeptDocuments, StandsAt}
 use Rattle.mg_shard.specs.Edits.{id_in}
 use Rattle.mg_shard.specs.Histories.{Histories}
 use Rattle.mg_shard.specs.Shard.{ShardView, shard_code}
@@ -36,21 +36,21 @@ draft_code =
 abbrev pub touched_of : List (String Global × Tree) → Trees
 touched_of es = from_entries (map (λ e. (string_bytes e.0, e.1)) es)
 
--- at an id: a tree that the bulk has touched stands for the history, and else the document does
-abbrev pub DraftAt : List ℕ → Option Tree → Option Kept → Option Paths → Type 0
+-- at an id: if the bulk has touched the tree, the tree stands for the history; otherwise the document does
+abbrev pub DraftAt : List ℕ → Option Tree → Option KeptDocument → Option Paths → Type 0
 DraftAt id (Some t) kept None = ⊥
 DraftAt id (Some t) kept (Some h) = StandsFor t h
 DraftAt id None kept o = StandsAt id kept o
 
--- documents and touched trees stand for histories if they do so at each id
+-- documents and touched trees stand for histories if at each id the touched tree, or else the document, stands for the id's history
 abbrev pub TouchedStandFor : KeptDocuments → Trees → Histories → Type 0
 TouchedStandFor ds ts hs = (id : List ℕ) → DraftAt id (get ts id) (get ds id) (get hs id)
 
--- a draft stands for histories if its documents and trees do
+-- a draft stands for histories if its documents and touched trees do
 abbrev pub DraftStandsFor : DraftView → Histories → Type 0
 DraftStandsFor d hs = TouchedStandFor d.shard.documents d.touched hs
 
--- the touched trees after an edit: a refused one leaves them; any other puts a tree that stands for the edited history under its id
+-- the touched trees after an edit: a refused edit leaves them; any other puts a tree that stands for the edited history under its id
 abbrev pub Touches : Paths → Edit → Result Revision Refused → Trees → Trees → Type 0
 Touches h e (Ok r) ts us = (t : Tree) × StandsFor t (edited h e) × (us ≡ insert ts (id_in e) t)
 Touches h e (Err x) ts us = us ≡ ts

@@ -1,4 +1,4 @@
--- What the edits of a bulk do to documents' histories, in order, and what becomes of each, after CouchDB's `_bulk_docs`.
+-- What the edits of a bulk do, in order, to the histories of documents, and the outcome of each edit, after CouchDB's `_bulk_docs`.
 use Rattle.std.specs.Prelude.{ℕ, List, [], ◌∷◌, unwrap_or, Result, Ok, Err}
 use Rattle.std.specs.FinMap.{insert}
 use Rattle.mg_revtree.specs.Revision.{Revision}
@@ -14,30 +14,30 @@ use Rattle.mg_shard.specs.declared.reply.EditReply.TheVariants.{Done, Conflict, 
 abbrev pub id_in : Edit → List ℕ
 id_in e = unwrap_or e.id []
 
--- the histories with the one that an edit leaves
+-- the histories after an edit with this outcome: a refused edit changes none
 abbrev pub history_put : Histories → Edit → Result Revision Refused → Histories
 history_put hs e (Ok r) = insert hs (id_in e) (edited (history_at hs (id_in e)) e)
 history_put hs e (Err x) = hs
 
--- what becomes of an edit
+-- the outcome of an edit: its revision, or its refusal
 abbrev pub outcome_in : Histories → Edit → Result Revision Refused
 outcome_in hs e = outcome_of (history_at hs (id_in e)) e
 
--- the histories after an edit: a refused one changes none
+-- the histories after an edit
 abbrev pub after_edit : Histories → Edit → Histories
 after_edit hs e = history_put hs e (outcome_in hs e)
 
--- the histories after all of them
+-- the histories after all these edits
 abbrev pub after_edits : Histories → List Edit → Histories
 after_edits hs [] = hs
 after_edits hs (e ∷ es) = after_edits (after_edit hs e) es
 
--- what becomes of each edit, in order
+-- the outcome of each edit, in order
 abbrev pub outcomes : Histories → List Edit → List (Result Revision Refused)
 outcomes hs [] = []
 outcomes hs (e ∷ es) = outcome_in hs e ∷ outcomes (after_edit hs e) es
 
--- what a reply says became of its edit
+-- the outcome that a reply reports
 abbrev pub outcome_seen : EditReply → Result Revision Refused
 outcome_seen (Done r) = Ok r
 outcome_seen Conflict = Err refused.Conflict

@@ -1,4 +1,4 @@
--- For private clauses: what is extracted of a document.
+-- For private clauses: the rows that are extracted from documents.
 use Rattle.std.specs.Prelude.{List, Option, option_and_then}
 use Rattle.std.specs.List.{filter_map}
 use Rattle.mg_collate.specs.Row.{RowValue}

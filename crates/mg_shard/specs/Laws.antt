@@ -9,7 +9,7 @@ use Rattle.mg_shard.specs.Edits.{after_edit, id_in, outcome_in}
 use Rattle.mg_shard.specs.Histories.{Histories, served_documents}
 use Rattle.mg_shard.specs.Shard.{ShardView}
 
--- the documents that are kept to be served are those that the histories serve
+-- the served documents of a shard are those of the histories that it stands for
 abbrev pub TheServedAreKept : Type 0
 TheServedAreKept = (ds : KeptDocuments) (hs : Histories) → StandFor ds hs → docs_of ds ≡ served_documents hs
 
@@ -19,13 +19,13 @@ NothingIsDealt =
     (place : Placing) (shards : List ShardView) → ((i : ℕ) (s : ShardView) → slice_get shards i ≡ Some s → s.documents ≡ empty)
     → ShardsStandFor place shards empty
 
--- what is kept of an id, on the shard where it is placed, stands for its history
+-- the document of an id, on the shard where the id is placed, stands for its history; there is none if there is no history
 abbrev pub EachIdHasItsShard : Type 0
 EachIdHasItsShard =
     (place : Placing) (shards : List ShardView) (hs : Histories) (id : List ℕ) → ShardsStandFor place shards hs
     → StandsAt id (kept_at place shards id) (get hs id)
 
--- what becomes of an edit is decided by the draft of its shard
+-- the draft of its shard decides the outcome of an edit
 abbrev pub EachEditIsDecidedThere : Type 0
 EachEditIsDecidedThere =
     (place : Placing) (drafts : List DraftView) (hs : Histories) (e : Edit) (d : DraftView) → slice_get drafts (place (id_in e) (length drafts)) ≡ Some d
@@ -38,7 +38,7 @@ EachEditIsMadeThere =
     → ((gs : Histories) → DraftStandsFor before gs → DraftStandsFor after (after_edit gs e)) → DraftsStandFor place drafts hs
     → DraftsStandFor place (slice_set drafts (place (id_in e) (length drafts)) after) (after_edit hs e)
 
--- where each draft stands for what the shard in its place stands for, all drafts stand for what all shards do
+-- if each draft stands for what the shard with its number stands for, all drafts stand for what all shards do
 abbrev pub ShardsBecomeDrafts : Type 0
 ShardsBecomeDrafts =
     (place : Placing) (shards : List ShardView) (drafts : List DraftView) (hs : Histories) → length drafts ≡ length shards
@@ -46,7 +46,7 @@ ShardsBecomeDrafts =
     → (s : ShardView) × (slice_get shards i ≡ Some s) × ((gs : Histories) → ShardStandsFor s gs → DraftStandsFor d gs))
     → ShardsStandFor place shards hs → DraftsStandFor place drafts hs
 
--- where each shard stands for what the draft in its place stands for, all shards stand for what all drafts do
+-- if each shard stands for what the draft with its number stands for, all shards stand for what all drafts do
 abbrev pub DraftsBecomeShards : Type 0
 DraftsBecomeShards =
     (place : Placing) (drafts : List DraftView) (shards : List ShardView) (hs : Histories) → length shards ≡ length drafts

@@ -1,4 +1,4 @@
--- For private clauses: how the rows of an index are mended where a document changes.
+-- For private clauses: how the rows of an index are mended when a document changes.
 use Rattle.std.specs.Prelude.{◌≡◌, ℕ, List, Option, Some, None, option_and_then, option_map}
 use Rattle.mg_value.specs.Value.{Value}
 use Rattle.mg_collate.specs.Row.{RowValue, row_value_order}
@@ -6,7 +6,7 @@ use Rattle.mg_index.specs.Definition.{Steps}
 use Rattle.mg_pages.specs.Order.{inserted, removed}
 use Rattle.mg_shard.specs.Rows.{row_of}
 
--- the row of an id and the form in which its document is served, if it is and has every column
+-- the row of the document with this id and served form, if it is served and has every column
 abbrev pub own_row : List Steps → List ℕ → Option Value → Option RowValue
 own_row columns id form = option_and_then (row_of columns) (option_map (λ v. (id, v)) form)
 

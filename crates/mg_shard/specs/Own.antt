@@ -1,4 +1,4 @@
--- Documents are served with their own ids: the rows of all documents by id are those of the one column `_id`.
+-- Documents are served with their own ids. So the list of all documents by id is an index of the one column `_id`.
 use Rattle.std.specs.Prelude.{◌≡◌, ⊤, ℕ, Bool, true, false, List, [], ◌∷◌, Option, Some, None, codes}
 use Rattle.std.specs.Coded.{Coded-set, coded_option, Unit-prop}
 use Rattle.mg_value.specs.Value.{Value, member_of, text}
@@ -12,7 +12,7 @@ use Rattle.mg_shard.specs.declared.served.Served.TheVariants.{Deleted, WithId, W
 abbrev pub all_columns : List Steps
 all_columns = (codes "_id" ∷ []) ∷ []
 
--- where a form has an `_id`, it is this id
+-- if a form has an `_id`, the `_id` is this id
 abbrev pub HasOwnId : List ℕ → Value → Type 0
 HasOwnId id form = (part : Value) → part_of (codes "_id" ∷ []) form ≡ Some part → part ≡ text id
 

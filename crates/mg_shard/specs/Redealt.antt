@@ -8,7 +8,7 @@ use Rattle.std.specs.Option.{option_or}
 use Rattle.std.specs.Ordering.{eq_by_cmp, nat_cmp}
 use Rattle.mg_index.specs.Definition.{IndexDefinition}
 use Rattle.mg_shard.specs.Dealt.{Placing}
-use Rattle.mg_shard.specs.Documents.{Kept, KeptDocuments, id_bytes, kept_of}
+use Rattle.mg_shard.specs.Documents.{KeptDocument, KeptDocuments, id_bytes, kept_of}
 use Rattle.mg_shard.specs.Shard.{ShardView}
 use Rattle.mg_shard.specs.declared.document.Document.{Document}
 
@@ -16,47 +16,47 @@ use Rattle.mg_shard.specs.declared.document.Document.{Document}
 abbrev pub documents_in : List ShardView → List KeptDocuments
 documents_in shards = map (λ s. s.documents) shards
 
--- what is kept of an id on any of these shards: where several keep it, on the last
-abbrev pub kept_in : List KeptDocuments → List ℕ → Option Kept
+-- the document of an id on any of these shards; if several have one, that of the last
+abbrev pub kept_in : List KeptDocuments → List ℕ → Option KeptDocument
 kept_in [] id = None
 kept_in (ds ∷ more) id = option_or (kept_in more id) (get ds id)
 
--- the documents of some shards are dealt to new ones: each id that is kept is placed on one of the new shards, and each of these keeps,
--- of the ids that are placed there, what the former shards keep, and nothing of other ids
+-- the documents of some shards are dealt to new ones: each id of a document is placed on one of the new shards, and each of these has
+-- the documents of the former shards whose ids are placed there, and no others
 pub record AreRedealt (place : Placing) (from to : List KeptDocuments) : Type 0 where
-  pub placed : (id : List ℕ) (d : Kept) → kept_in from id ≡ Some d → place id (length to) < length to
+  pub placed : (id : List ℕ) (d : KeptDocument) → kept_in from id ≡ Some d → place id (length to) < length to
   pub each : (i : ℕ) (ds : KeptDocuments) → slice_get to i ≡ Some ds → (id : List ℕ)
       → get ds id ≡ cond (place id (length to) == i) (kept_in from id) None
 
 -- ---- for private clauses
 
--- documents that are lent
+-- the documents that are lent
 abbrev pub documents_seen : List (Bor Document) → List Document
 documents_seen documents = map (λ d. d.now) documents
 
--- what is kept of an id by these documents: where several have it, by the last
-abbrev pub last_kept : List Document → List ℕ → Option Kept
+-- the last of these documents with this id, as it is kept
+abbrev pub last_kept : List Document → List ℕ → Option KeptDocument
 last_kept [] id = None
 last_kept (d ∷ ds) id = option_or (last_kept ds id) (cond (eq_by_cmp (slice_cmp nat_cmp) id (id_bytes d)) (Some (kept_of d)) None)
 
--- this is the shard of a document, of n
+-- the document is placed on the i-th of n shards
 abbrev pub IsPlace : Placing → ℕ → Document → ℕ → Type 0
 IsPlace place n d i = (i ≡ place (id_bytes d) n) × (i < n)
 
--- these are the shards of the documents, of n
+-- the documents are placed on these of n shards, one number for each document
 abbrev pub ArePlaces : Placing → ℕ → List Document → List ℕ → Type 0
 ArePlaces place n ds places = AllZip (IsPlace place n) ds places
 
--- for every placement that gives these places: of the ids that are placed on the i-th shard, what the documents keep; nothing of others
+-- `to` has the documents whose ids are placed on the i-th shard, and no others, by every placement that gives these places
 abbrev pub KeepsThose : List Document → List ℕ → ℕ → KeptDocuments → Type 0
 KeepsThose ds places i to =
     (place : Placing) (n : ℕ) → ArePlaces place n ds places → (id : List ℕ) → get to id ≡ cond (place id n == i) (last_kept ds id) None
 
--- a shard that is made of the documents that are placed there, with indexes of these definitions
+-- the i-th shard has the documents that are placed there, and indexes of these definitions
 pub record IsMade (ds : List Document) (places : List ℕ) (definitions : List IndexDefinition) (i : ℕ) (s : ShardView) : Type 0 where
   pub keeps : KeepsThose ds places i s.documents
   pub indexes : s.definitions ≡ definitions
 
--- the i-th of these shards is made of the documents that are placed on the i-th
+-- each of these shards has the documents that are placed there, and indexes of these definitions
 abbrev pub AreMade : List Document → List ℕ → List IndexDefinition → List ShardView → Type 0
 AreMade ds places definitions shards = (i : ℕ) (s : ShardView) → slice_get shards i ≡ Some s → IsMade ds places definitions i s

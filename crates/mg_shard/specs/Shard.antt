@@ -37,6 +37,6 @@ rows_at ddoc name s = option_map (λ d. rows_of d.columns (docs_of s.documents))
 abbrev pub shards_seen : List (Arc ShardView Global) → List ShardView
 shards_seen shards = map arc_value shards
 
--- each of these definitions is among those of each shard, which may have others beside them
+-- each shard has each of these definitions, and may have others
 abbrev pub HaveIndexes : List IndexDefinition → List ShardView → Type 0
 HaveIndexes ds shards = All (λ s. All (Contains s.definitions) ds) shards

@@ -1,11 +1,11 @@
--- Reading in a direction: what is left of a walk, and what comes after a place.
+-- Reading in a direction: a list as it is read, and what comes after a place.
 use Rattle.std.specs.Prelude.{List, reverse}
 use Rattle.std.specs.declared.cmp.Ordering.{Ordering}
 use Rattle.mg_collate.specs.declared.direction.Direction.{Direction}
 use Rattle.mg_collate.specs.declared.direction.Direction.TheVariants.{Asc, Desc}
 use Rattle.mg_pages.specs.Order.{above, below}
 
--- a list in a direction
+-- a list as it is read in a direction
 abbrev pub in_direction : {T : Type 0} → Direction → List T → List T
 in_direction Asc xs = xs
 in_direction Desc xs = reverse xs

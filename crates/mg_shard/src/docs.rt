@@ -1,15 +1,15 @@
-//! The served documents of a shard one after another.
+//! The served documents of a shard, one after another.
 ghost use Rattle.std.specs.Prelude.{◌≡◌, length};
 ghost use Rattle.std.specs.Iterator.{at_most};
 ghost use Rattle.std.specs.Map.Iter.{TakesFirst};
-ghost use Rattle.mg_shard.specs.Documents.{lent, served_docs};
+ghost use Rattle.mg_shard.specs.Documents.{lent_document, served_docs};
 
 use crate::walk::Documents;
 use mg_packed::Part;
 use std::marker::Model;
 
-/// The documents that are left, each an id and the form in which it is served, in the order of the ids or from the last.
-/// Those that are deleted are passed over.
+/// The served documents that are left, each as its id and the form in which it is served, in the order of the ids or from the last.
+/// Deleted documents are skipped. Takes no memory.
 #[derive(Drop)]
 pub struct Docs<'a> {
     documents: Documents<'a>,
@@ -42,7 +42,7 @@ impl<'a> Docs<'a> {
 impl<'a> Iterator for Docs<'a> {
     type Item = (&'a str, Part<'a>);
 
-    ghost next_gives = { TakesFirst lent };
+    ghost next_gives = { TakesFirst lent_document };
 
     ghost remaining = { λ s. at_most (length s) };
 

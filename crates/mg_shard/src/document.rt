@@ -87,7 +87,7 @@ impl Document {
         &self.tree
     }
 
-    /// The form in which it is served, if it is not deleted. Takes no memory.
+    /// The form in which it is served; `None` if it is deleted. Takes no memory.
     pub fn form(&self) -> Option<Part<'_>>
         ensures { result ≡ form_of self.now }
     {
@@ -97,15 +97,15 @@ impl Document {
         }
     }
 
-    /// The block in which that form is kept with its text. Takes no memory.
+    /// The block of the form in which it is served, with the form's text; `None` if it is deleted. Takes no memory.
     pub fn written(&self) -> Option<&Written>
         ensures { option_map (λ v. v.now) result ≡ form_of self.now }
     {
         self.served.written()
     }
 
-    /// The compact text of the form in which it is served, if it is not deleted. The text was made when the document was last edited.
-    /// Takes no memory.
+    /// The compact text of the form in which it is served; `None` if it is deleted. The text was made when the document was last
+    /// edited. Takes no memory.
     pub fn text(&self) -> Option<&[u8]>
         ensures { option_map (λ t. t.now) result ≡ option_map compact (form_of self.now) }
     {
@@ -115,8 +115,8 @@ impl Document {
         }
     }
 
-    /// Its id, which is the key of its row in the list of all documents; `None` if it is not served with an `_id`: it then has no
-    /// such row. Takes no memory. Cost: constant.
+    /// Its id, as the key of its row in the list of all documents; `None` if it has no such row, because it is deleted or its form has
+    /// no `_id`. Takes no memory. Cost: constant.
     pub fn id_key(&self) -> Option<&str>
         ensures key { option_map (λ id. item (text id.now) no_items) result
             ≡ option_and_then (row_key all_columns) (form_of self.now) }

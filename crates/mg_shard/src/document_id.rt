@@ -1,4 +1,4 @@
-// Ids of documents, as a shard keeps them.
+//! Ids of documents, as a shard keeps them.
 ghost use Rattle.std.specs.Prelude.{◌≡◌, ◌≤◌, length, string_bytes, take};
 ghost use Rattle.mg_shard.specs.Id.{held_id, IsText};
 
@@ -36,7 +36,7 @@ impl Model for DocumentId {
 }
 
 impl DocumentId {
-    /// The id that this text is. Takes no memory. Cost: a copy of up to 38 bytes.
+    /// The id with this text. Takes no memory. Cost: a copy of up to 38 bytes.
     pub(crate) fn of(id: String) -> DocumentId
         ensures { result ≡ string_bytes id }
     {
@@ -58,13 +58,13 @@ fn hold(id: String) -> HeldId
 {
     let count = id.len();
     if count <= INLINE {
-        return HeldId::Inline(count as u8, filled(id.as_bytes()));
+        return HeldId::Inline(count as u8, pad(id.as_bytes()));
     }
     HeldId::Block(id)
 }
 
-// The bytes, filled up with zeros.
-fn filled(bytes: &[u8]) -> [u8; 38]
+// The bytes, with zeros after them.
+fn pad(bytes: &[u8]) -> [u8; 38]
     requires { length bytes.now ≤ 38 }
     ensures { take (length bytes.now) result ≡ bytes.now }
 {

@@ -105,8 +105,8 @@ impl<'a> Draft<'a> {
         Ok(replies)
     }
 
-    /// The shard after the bulk; `None` if the bulk has touched no document, since the shard is then as it was.
-    /// However often a document was edited, its served form, with its text, and its rows are made once.
+    /// The shard after the bulk; `None` if the bulk has touched no document: the shard is then as it was. The form, text and rows of
+    /// a document are made once, however often it was edited.
     ///
     /// Errors: `NoMemory` if an allocation fails. Cost: for each touched document its form and text, as for `Document::of`, and
     /// the pages on the way to it and to its rows; and a new list of the indexes.
@@ -124,7 +124,7 @@ impl<'a> Draft<'a> {
     }
 }
 
-// The reply to an edit that this error refuses. `NoMemory` is not a reply, and stays an error.
+// The reply to an edit that this error refuses. `NoMemory` has no reply, and stays an error.
 fn reply_of(error: EditError) -> Result<EditReply, NoMemory>
     ensures { IfOk result (λ r. option_map Err (refusal_in error) ≡ Some (outcome_seen r)) }
 {
@@ -210,7 +210,7 @@ fn edit_first(
     }
 }
 
-// The tree of the document of this id; the other one if there is no such document.
+// The tree of the document of this id; `other` if there is no such document.
 fn tree_or<'a>(shard: &'a Shard, id: &str, other: &'a RevTree) -> &'a RevTree
     ensures { result.now ≡ unwrap_or (tree_at shard.now.documents id.now) other.now }
 {

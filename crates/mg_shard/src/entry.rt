@@ -79,10 +79,10 @@ impl IndexEntry {
     ghost use Rattle.std.specs.Arc.{arc_value};
     ghost use Rattle.std.specs.FinMap.{insert};
     ghost use Rattle.mg_index.specs.Catalog.{is_at};
-    ghost use Rattle.mg_shard.specs.Documents.{Kept, KeptDocuments, form_at};
+    ghost use Rattle.mg_shard.specs.Documents.{KeptDocument, KeptDocuments, form_at};
     ghost use Rattle.mg_shard.specs.Index.{HasRows};
 
-    /// An index with these rows.
+    /// The index of this definition with these rows.
     ///
     /// Errors: `NoMemory` if an allocation fails. Cost: a block for the top of the rows.
     pub(crate) fn of(
@@ -129,7 +129,7 @@ impl IndexEntry {
         after: Option<&Written>,
     ) -> Result<(), NoMemory>
         ensures definition { OnOk result (self.new.0 ≡ self.old.0) }
-        ensures rows { OnOk result ((ds : KeptDocuments) (d : Kept)
+        ensures rows { OnOk result ((ds : KeptDocuments) (d : KeptDocument)
             → option_map (λ v. v.now) before.entry ≡ form_at ds id.now
             → option_map (λ v. v.now) after.entry ≡ d.1
             → HasRows ds self.old → HasRows (insert ds id.now d) self.new) }

@@ -19,13 +19,13 @@ use rayon::prelude::*;
 use std::alloc::Global;
 use std::thread::Threads;
 
-/// The least number of documents of a shard whose rows several threads extract: for fewer, a thread costs more than it saves.
+/// The least number of documents for which several threads extract the rows of a shard: for fewer, a thread costs more than it saves.
 pub(crate) const MANY_DOCUMENTS: usize = 1_000;
 
 /// The least number of pages of documents that one thread takes.
 const LEAST_PIECE: usize = 2;
 
-// The row of a document, if it is served and has every column.
+// The row of a document; `None` if it is deleted or lacks a column.
 fn row_if_served(
     alloc: Global,
     scratch: &mut KeyBytes,
@@ -67,7 +67,7 @@ fn rows_of_run(
     Ok(rows)
 }
 
-// Joins lists of rows, one after the other, into a list with room for `count` rows.
+// Joins lists of rows, one after the other. The list gets room for `count` rows at once, so that it does not grow.
 fn join_lists(
     alloc: Global,
     count: usize,

@@ -5,7 +5,7 @@ ghost use Rattle.std.specs.FinMap.{insert};
 ghost use Rattle.mg_collate.specs.Row.{RowValue, row_value_order};
 ghost use Rattle.mg_collate.specs.Sorted.{sorted};
 ghost use Rattle.mg_collate.proofs.Sorting.{times};
-ghost use Rattle.mg_shard.specs.Documents.{Kept, KeptDocuments, docs_of, form_at};
+ghost use Rattle.mg_shard.specs.Documents.{KeptDocument, KeptDocuments, docs_of, form_at};
 ghost use Rattle.mg_shard.specs.Mended.{HaveSameRow, own_row, with_row, without_row};
 ghost use Rattle.mg_shard.specs.Rows.{row_key, row_of, rows_of};
 
@@ -18,7 +18,7 @@ use mg_value::NoMemory;
 use std::alloc::Global;
 use std::sync::Arc;
 
-// Collects the parts of a document at the columns in the lent scratch, and returns whether the document has all of them.
+// Puts the parts of a document at the columns into the lent scratch, and returns whether the document has all of them.
 fn key_in(scratch: &mut KeyBytes, columns: &[Path], form: &Part<'_>) -> Result<bool, NoMemory>
     ensures { IfOk result (λ all. cond all (Some scratch.new) None ≡ row_key columns.now form.now) }
 {
@@ -32,7 +32,7 @@ fn key_in(scratch: &mut KeyBytes, columns: &[Path], form: &Part<'_>) -> Result<b
     Ok(true)
 }
 
-/// The row of a document in an index with these columns, if the document has them all. The key is built in the lent scratch.
+/// The row of a document in an index with these columns; `None` if it lacks a column. The key is built in the lent scratch.
 ///
 /// Errors: `NoMemory` if an allocation fails. Cost: the bytes of the key, and a block of memory if the row is too long to be stored
 /// in the value itself.
@@ -51,7 +51,7 @@ pub(crate) fn row_in(
     Ok(None)
 }
 
-// The row of a document that may be deleted.
+// The row of a document; `None` if it is deleted or lacks a column.
 fn row_if(
     alloc: Global,
     scratch: &mut KeyBytes,
@@ -141,39 +141,39 @@ fn put_row(alloc: Global, rows: &mut Pages<RowBytes>, row: Option<RowBytes>) -> 
     Ok(())
 }
 
-// Takes a row out and puts one in, if they are given.
+// Takes out `old_row` and puts in `new_row`, if they are given.
 fn change_rows(
     alloc: Global,
     rows: &mut Pages<RowBytes>,
-    gone: Option<RowBytes>,
-    come: Option<RowBytes>,
+    old_row: Option<RowBytes>,
+    new_row: Option<RowBytes>,
 ) -> Result<(), NoMemory>
-    ensures { OnOk result (rows.new ≡ with_row come (without_row gone rows.old)) }
+    ensures { OnOk result (rows.new ≡ with_row new_row (without_row old_row rows.old)) }
 {
-    take_row(alloc, rows, gone)?;
-    put_row(alloc, rows, come)?;
+    take_row(alloc, rows, old_row)?;
+    put_row(alloc, rows, new_row)?;
     Ok(())
 }
 
-// Takes the row `gone` out and puts the row `come` in, if they are given. Rows that other shards share do not change: the changes go
-// into a copy of the top of their pages. If neither row is given, nothing is copied.
+// Takes out `old_row` and puts in `new_row`, if they are given. Rows that other shards share do not change: the changes go into a
+// copy of the top of their pages. If neither row is given, nothing is copied.
 fn change_shared(
     alloc: Global,
     rows: &mut Arc<Pages<RowBytes>>,
-    gone: Option<RowBytes>,
-    come: Option<RowBytes>,
+    old_row: Option<RowBytes>,
+    new_row: Option<RowBytes>,
 ) -> Result<(), NoMemory>
     ensures { OnOk result (arc_value rows.new
-        ≡ with_row come (without_row gone (arc_value rows.old))) }
+        ≡ with_row new_row (without_row old_row (arc_value rows.old))) }
 {
-    if gone.is_none() && come.is_none() {
+    if old_row.is_none() && new_row.is_none() {
         return Ok(());
     }
     if let Some(own) = Arc::get_mut(rows) {
-        return change_rows(alloc, own, gone, come);
+        return change_rows(alloc, own, old_row, new_row);
     }
     let mut own = rows.share(alloc)?;
-    change_rows(alloc, &mut own, gone, come)?;
+    change_rows(alloc, &mut own, old_row, new_row)?;
     *rows = Arc::new(alloc, own)?;
     Ok(())
 }
@@ -181,9 +181,9 @@ fn change_shared(
 /// Mends the rows of an index for a change of the document with this id from one form to another.
 ///
 /// Errors: `NoMemory` if an allocation fails; the rows are then useless.
-/// Cost: a comparison of both forms at the columns. If they are not known to be equal: both rows, built in the lent scratch, the
-/// way to each, and a copy of the top of the pages if others share it. A row that stays takes no memory, unless one of its columns
-/// holds an array or an object.
+/// Cost: a comparison of both forms at the columns. If they are not known to be equal: both rows, built in the lent scratch; the
+/// pages on the way to each; and a copy of the top of the pages if others share it. A row that stays takes no memory, unless one of
+/// its columns holds an array or an object.
 pub(crate) fn mend_rows(
     alloc: Global,
     scratch: &mut KeyBytes,
@@ -193,7 +193,7 @@ pub(crate) fn mend_rows(
     before: Option<&Written>,
     after: Option<&Written>,
 ) -> Result<(), NoMemory>
-    ensures { OnOk result ((ds : KeptDocuments) (d : Kept)
+    ensures { OnOk result ((ds : KeptDocuments) (d : KeptDocument)
         → option_map (λ v. v.now) before.entry ≡ form_at ds id.now → option_map (λ v. v.now) after.entry ≡ d.1
         → arc_value rows.old ≡ rows_of definition.now.columns (docs_of ds)
         → arc_value rows.new ≡ rows_of definition.now.columns (docs_of (insert ds id.now d))) }
@@ -201,9 +201,9 @@ pub(crate) fn mend_rows(
     if have_same_row(definition.columns(), before, after) {
         return Ok(());
     }
-    let gone = row_if(alloc, scratch, definition.columns(), id, before)?;
-    let come = row_if(alloc, scratch, definition.columns(), id, after)?;
-    change_shared(alloc, rows, gone, come)?;
+    let old_row = row_if(alloc, scratch, definition.columns(), id, before)?;
+    let new_row = row_if(alloc, scratch, definition.columns(), id, after)?;
+    change_shared(alloc, rows, old_row, new_row)?;
     let rows: &Pages<RowBytes> = rows;
     rows.ascends();
     Ok(())

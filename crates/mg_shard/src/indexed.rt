@@ -9,7 +9,7 @@ ghost use Rattle.mg_shard.specs.Rows.{row_of, rows_of};
 use crate::entry::IndexEntry;
 use crate::extracted::{MANY_DOCUMENTS, pages_by_threads, rows_by_threads, sorted_by_threads};
 use crate::index::{pages_of, row_in};
-use crate::indexes::{with, without};
+use crate::indexes::{insert_index, remove_index};
 use crate::shard::Shard;
 use mg_index::IndexDef;
 use mg_pages::Pages;
@@ -22,7 +22,7 @@ use std::thread::Threads;
 
 impl Shard {
     // The rows that an index with these columns has, in the order of the documents.
-    fn unsorted(&self, alloc: Global, columns: &[Path]) -> Result<Vec<RowBytes>, NoMemory>
+    fn unsorted_rows(&self, alloc: Global, columns: &[Path]) -> Result<Vec<RowBytes>, NoMemory>
         ensures { IfOk result
             (λ rows. rows.items ≡ filter_map (row_of columns.now) (docs_of self.now.documents)) }
     {
@@ -40,7 +40,7 @@ impl Shard {
     fn rows_alone(&self, alloc: Global, columns: &[Path]) -> Result<Pages<RowBytes>, NoMemory>
         ensures { IfOk result (λ rows. rows ≡ rows_of columns.now (docs_of self.now.documents)) }
     {
-        let rows = self.unsorted(alloc, columns)?;
+        let rows = self.unsorted_rows(alloc, columns)?;
         let pages = pages_of(alloc, rows)?;
         Ok(pages)
     }
@@ -62,8 +62,8 @@ impl Shard {
         Ok(pages)
     }
 
-    /// The rows that an index of this definition has in this shard, ordered by key and id; `with_rows` takes them. They are the same for
-    /// every number of workers. With one worker, or fewer than 1,000 documents, no thread is started; otherwise as many threads as
+    /// The rows that an index of this definition has in this shard, ordered by key and id, as `with_rows` takes them. They are the same
+    /// for every number of workers. With one worker, or fewer than 1,000 documents, no thread is started; otherwise as many threads as
     /// there are processors extract the rows, sort them and put them into pages.
     ///
     /// Errors: `NoMemory` if an allocation fails. Cost: a step for each document, the bytes of its row, a sort of the rows, and a step
@@ -98,7 +98,7 @@ impl Shard {
             }) }
     {
         let index = IndexEntry::of(alloc, definition, rows)?;
-        let indexes = with(alloc, &self.indexes, index)?;
+        let indexes = insert_index(alloc, &self.indexes, index)?;
         let documents = self.documents.share(alloc)?;
         Ok(Shard { documents, indexes })
     }
@@ -146,7 +146,7 @@ impl Shard {
             }) }
     {
         let documents = self.documents.share(alloc)?;
-        let indexes = without(alloc, &self.indexes, ddoc, name)?;
+        let indexes = remove_index(alloc, &self.indexes, ddoc, name)?;
         Ok(Shard { documents, indexes })
     }
 }

@@ -15,7 +15,7 @@ use mg_rows::{KeyBytes, RowBytes};
 use mg_value::NoMemory;
 use std::alloc::Global;
 
-/// The indexes in a list that its owner can change, with their rows shared.
+/// A list of the indexes for the caller to change; their rows are shared, not copied.
 ///
 /// Errors: `NoMemory` if an allocation fails. Cost: their number.
 pub(crate) fn share_indexes(
@@ -31,7 +31,7 @@ pub(crate) fn share_indexes(
     Ok(all)
 }
 
-/// Pages of these indexes, which are a catalog: the list of a shard.
+/// The list of a shard's indexes, in pages. The definitions of `indexes` must be a catalog.
 ///
 /// Errors: `NoMemory` if an allocation fails. Cost: their number.
 pub(crate) fn list_in_pages(
@@ -44,7 +44,8 @@ pub(crate) fn list_in_pages(
     Pages::from_sorted(alloc, indexes)
 }
 
-// The index of this design document and name, if there is one. In one page names are compared in turn, since a look-up takes longer.
+// The index of this design document and name, if there is one. If all indexes are in one page, their names are compared in turn,
+// since a look-up takes longer.
 #[inline(always)]
 fn index_there<'a>(indexes: &'a Pages<IndexEntry>, ddoc: &str, name: &str) -> Option<&'a IndexEntry>
     ensures { option_map (λ x. x.now) result ≡ find (λ x. is_at ddoc.now name.now x.0) indexes.now }
@@ -76,7 +77,7 @@ pub(crate) fn rows_there<'a>(
 /// it are shared.
 ///
 /// Errors: `NoMemory` if an allocation fails. Cost: one look-up, and a copy of the page of the list where the index belongs.
-pub(crate) fn with(
+pub(crate) fn insert_index(
     alloc: Global,
     indexes: &Pages<IndexEntry>,
     index: IndexEntry,
@@ -90,8 +91,8 @@ pub(crate) fn with(
 
 /// The indexes without the one of this design document and name. All pages but those on the way to its place are shared.
 ///
-/// Errors: `NoMemory` if an allocation fails. Cost: as for `with`.
-pub(crate) fn without(
+/// Errors: `NoMemory` if an allocation fails. Cost: as for `insert_index`.
+pub(crate) fn remove_index(
     alloc: Global,
     indexes: &Pages<IndexEntry>,
     ddoc: &str,
@@ -115,7 +116,8 @@ fn form_in<'a>(documents: &'a Pages<Shared<Document>>, id: &str) -> Option<&'a W
     }
 }
 
-/// Mends the rows of all indexes for a document that is inserted; it replaces the document with the same id, if there is one.
+/// Mends the rows of all indexes for a document that will be inserted, and that replaces the document with the same id, if there is
+/// one.
 ///
 /// Errors: `NoMemory` if an allocation fails; the indexes are then useless.
 /// Cost: a look-up of the document, and that of `mend_rows` for each index.

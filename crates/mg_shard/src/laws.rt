@@ -7,7 +7,7 @@ ghost use Rattle.mg_shard.specs.Shard.{shards_seen};
 use crate::shard::Shard;
 use std::sync::Arc;
 
-/// The documents that are kept to be served are those that the histories serve.
+/// The served documents of a shard are those of the histories that it stands for.
 pub fn the_served_are_kept()
     ensures { TheServedAreKept }
 {}
@@ -17,12 +17,12 @@ pub fn nothing_is_dealt()
     ensures { NothingIsDealt }
 {}
 
-/// What is kept of an id, on the shard where it is placed, stands for its history.
+/// The document of an id, on the shard where the id is placed, stands for its history; there is none if there is no history.
 pub fn each_id_has_its_shard()
     ensures { EachIdHasItsShard }
 {}
 
-/// What becomes of an edit is decided by the draft of its shard.
+/// The draft of its shard decides the outcome of an edit.
 pub fn each_edit_is_decided_there()
     ensures { EachEditIsDecidedThere }
 {}
@@ -32,17 +32,17 @@ pub fn each_edit_is_made_there()
     ensures { EachEditIsMadeThere }
 {}
 
-/// If each draft stands for what the shard at its number stands for, all drafts stand for what all shards do.
+/// If each draft stands for what the shard with its number stands for, all drafts stand for what all shards do.
 pub fn shards_become_drafts()
     ensures { ShardsBecomeDrafts }
 {}
 
-/// If each shard stands for what the draft at its number stands for, all shards stand for what all drafts do.
+/// If each shard stands for what the draft with its number stands for, all shards stand for what all drafts do.
 pub fn drafts_become_shards()
     ensures { DraftsBecomeShards }
 {}
 
-/// The definitions of each shard are a catalog, so each of them is the one of its design document and name.
+/// The definitions of each shard are a catalog: no two of them have the same design document and name.
 pub fn definitions_are_catalogs(shards: &[Arc<Shard>])
     ensures { All (λ s. IsCatalog s.definitions) (shards_seen shards.now) }
 {

@@ -67,7 +67,7 @@ pub(crate) fn places_of<P: Placement>(
     Ok(places)
 }
 
-// Inserts a document among those of the shard `place`, if its own shard, `own`, is that one.
+// Inserts a document, whose shard is `own`, among those of the shard `place`, if this is its shard.
 fn put_if(
     alloc: Global,
     there: &mut Pages<Shared<Document>>,
@@ -87,7 +87,7 @@ fn put_if(
 
 /// The documents that are placed on this shard. If several have one id, the last of them is kept.
 ///
-/// Errors: `NoMemory` if an allocation fails. Cost: a step a document, and for each that is placed there the way to its place.
+/// Errors: `NoMemory` if an allocation fails. Cost: a step a document, and an insertion for each that is placed there.
 pub(crate) fn documents_at(
     alloc: Global,
     documents: &[&Shared<Document>],

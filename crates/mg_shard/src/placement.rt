@@ -3,12 +3,12 @@ ghost use Rattle.mg_shard.specs.Placement.{md5_place};
 
 use md5::{Digest, Md5};
 
-/// Which shard a document is kept in, by its id: a function of the id and of the number of shards.
+/// Decides on which shard a document is kept: a function of its id and of the number of shards.
 pub trait Placement {
     // the shard of an id, among this many shards
     ghost place: { Self → List ℕ → ℕ → ℕ };
 
-    /// The shard of an id, of `shards`, counted from 0. Takes no memory.
+    /// The number of the shard of an id, counted from 0 and below `shards`, which is at least 1. Takes no memory.
     fn shard_of(&self, id: &str, shards: usize) -> usize
         requires { 0 < shards }
         ensures place { result ≡ place self.now id.now shards }

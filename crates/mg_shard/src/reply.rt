@@ -3,15 +3,15 @@ ghost use Rattle.mg_shard.specs.Edits.{outcome_seen};
 
 use mg_revtree::Rev;
 
-/// What became of an edit of a bulk.
+/// The outcome of an edit of a bulk.
 #[derive(Debug, Drop)]
 pub enum EditReply {
-    /// The revision that the edit brought.
+    /// The edit was applied, or its path is known whole. Holds the edit's revision: for a replica's path, the newest one.
     Done(Rev),
     /// The named revision is not a leaf; or none is named, but the winner is not deleted; or the revision that the edit makes is
     /// already known.
     Conflict,
-    /// The path gives a known revision another parent, or the extended leaf has the last position.
+    /// The path gives a known revision another parent, or the extended leaf has the last position, 4,294,967,295.
     BadHistory,
 }
 

@@ -5,8 +5,8 @@ ghost use Rattle.mg_shard.specs.Own.{form_in, has_own_id, HasOwnId, IsServedOwn}
 use mg_packed::Written;
 use mg_revtree::Form;
 
-/// The form in which a document is served, in one block with its compact text. A form that has a member `_id` is told apart, so that
-/// no search among all documents looks for it. Every document has one of these, so its size counts.
+/// The form in which a document is served, in one block with its compact text, if the document is not deleted. The case says whether
+/// the form has a member `_id`, because a search among all documents asks it of each document.
 #[derive(Drop)]
 pub(crate) enum Served {
     Deleted,
@@ -14,10 +14,11 @@ pub(crate) enum Served {
     WithoutId(Form),
 }
 
+// Every document has one, so its size counts.
 const _: () = prove!(size_of::<Served>() == 16);
 
 impl Served {
-    /// The form of a document that is not deleted. Takes no memory. Cost: a look-up of a member.
+    /// The form of a document that is not deleted. Finds whether it has an `_id`. Takes no memory. Cost: a look-up of a member.
     pub(crate) fn of(form: Form) -> Served
         ensures form { form_in result ≡ Some form }
         ensures own { (id : List ℕ) → HasOwnId id form → IsServedOwn id result }

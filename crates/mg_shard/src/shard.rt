@@ -4,7 +4,7 @@ ghost use Rattle.std.specs.FinMap as finite;
 ghost use Rattle.std.specs.FinMap.{entries, get};
 ghost use Rattle.std.specs.declared.cmp.Ordering.{Ordering};
 ghost use Rattle.mg_value.specs.Text.{compact};
-ghost use Rattle.mg_shard.specs.Documents.{Kept, docs_of, kept_entry, form_at, id_bytes, kept_of, tree_at, StandFor};
+ghost use Rattle.mg_shard.specs.Documents.{KeptDocument, docs_of, kept_entry, form_at, id_bytes, kept_of, tree_at, StandFor};
 ghost use Rattle.mg_shard.specs.Own.{HasOwnId};
 ghost use Rattle.mg_shard.specs.Walk.{beyond};
 ghost use Rattle.mg_shard.specs.declared.document.Document.{Document};
@@ -60,7 +60,7 @@ impl Model for Shard {
 }
 
 impl Shard {
-    /// No document and no index. Takes no memory.
+    /// A shard without documents and indexes. Takes no memory.
     pub fn new(alloc: Global) -> Shard
         ensures documents { result.documents ≡ finite.empty }
         ensures indexes { result.definitions ≡ [] }
@@ -71,7 +71,7 @@ impl Shard {
         }
     }
 
-    /// A second shard of these documents and indexes, all of which both share.
+    /// A second shard with these documents and indexes, which both shards share.
     ///
     /// Errors: `NoMemory` if an allocation fails. Cost: the top levels of the documents and of the list of indexes, as for `Pages::share`.
     pub fn share(&self, alloc: Global) -> Result<Shard, NoMemory>
@@ -94,7 +94,7 @@ impl Shard {
         }
     }
 
-    /// The form in which the document of an id is served, if it is there and not deleted. Takes no memory.
+    /// The form in which the document of an id is served; `None` if there is no such document, or it is deleted. Takes no memory.
     /// Cost: one look-up.
     pub fn served(&self, id: &str) -> Option<Part<'_>>
         ensures { result ≡ form_at self.now.documents id.now }
@@ -105,8 +105,8 @@ impl Shard {
         }
     }
 
-    /// The compact text of the form in which the document of an id is served, if it is there and not deleted. The text was made when
-    /// the document was last edited. Takes no memory. Cost: one look-up.
+    /// The compact text of the form in which the document of an id is served; `None` if there is no such document, or it is deleted.
+    /// The text was made when the document was last edited. Takes no memory. Cost: one look-up.
     pub fn served_text(&self, id: &str) -> Option<&[u8]>
         ensures { option_map (λ t. t.now) result ≡ option_map compact (form_at self.now.documents id.now) }
     {
@@ -116,7 +116,7 @@ impl Shard {
         }
     }
 
-    /// The revision tree of an id, if there is one. Takes no memory. Cost: one look-up.
+    /// The revision tree of the document of an id, if there is one. Takes no memory. Cost: one look-up.
     pub fn tree(&self, id: &str) -> Option<&RevTree>
         ensures { option_map (λ t. t.now) result ≡ tree_at self.now.documents id.now }
     {
@@ -151,7 +151,7 @@ impl Shard {
         place: &Q,
         direction: Direction,
     ) -> Documents<'_>
-        ensures { (order : List ℕ × Kept → Ordering)
+        ensures { (order : List ℕ × KeptDocument → Ordering)
             → ((d : Document) → Q.against place.now d ≡ order (kept_entry d))
             → map kept_entry result ≡ beyond direction order (entries self.now.documents) }
     {
@@ -166,7 +166,7 @@ impl Shard {
         place: &Q,
         direction: Direction,
     ) -> usize
-        ensures { (order : List ℕ × Kept → Ordering)
+        ensures { (order : List ℕ × KeptDocument → Ordering)
             → ((d : Document) → Q.against place.now d ≡ order (kept_entry d))
             → result ≡ length (beyond direction order (entries self.now.documents)) }
     {
@@ -190,7 +190,7 @@ impl Shard {
         &self.indexes
     }
 
-    // The next shard; if there is no next one, a copy of this one, which shares its pages.
+    // The shard `next`; without it, a shard that shares the pages of this one.
     fn or_shared(&self, alloc: Global, next: Option<Shard>) -> Result<Shard, NoMemory>
         ensures { IfOk result (λ s. s ≡ unwrap_or next self.now) }
     {
@@ -203,8 +203,8 @@ impl Shard {
     /// Applies edits that have ids, in order, and returns the shard after them and what became of each. This shard does not change.
     ///
     /// Errors: `NoMemory` if an allocation fails. Cost: a copy of each edit, whose body is moved into its document's tree; and for
-    /// each document that they touch a copy of its tree, its form and text, and the pages on the way to it. A bulk that touches
-    /// none copies only the top levels. `Draft::edit` takes an edit by value, and does not copy it.
+    /// each document that they touch a copy of its tree, its form and text, and the pages on the way to it and to its rows. If they
+    /// touch none, only the top levels are copied. `Draft::edit` takes an edit by value, and does not copy it.
     pub fn apply(&self, alloc: Global, edits: &[Edit]) -> Result<(Shard, Vec<EditReply>), NoMemory>
         ensures stands { IfOk result
             (λ r. (hs : Histories) → StandFor self.now.documents hs
@@ -221,7 +221,8 @@ impl Shard {
     }
 
     /// The rows of the index of this design document and name, by key and id; `None` if there is no such index. They are the rows
-    /// that the served documents have, as if made from scratch. Takes no memory. Cost: one look-up, and then a step a row.
+    /// that the served documents have, as if made from scratch. Takes no memory. Cost: that of finding the index, which is a comparison
+    /// of names with each index, or one look-up if the indexes are in several pages; and then a step a row.
     pub fn rows(&self, ddoc: &str, name: &str) -> Option<Rows<'_>>
         ensures { result ≡ rows_at ddoc.now name.now self.now }
     {
@@ -244,7 +245,8 @@ impl Shard {
 
     /// The rows that come after a place in a direction, in the index of this design document and name; `None` if there is no such
     /// index. Ascending they are those above the place, descending those below it, from the last to the first. A place need not be a
-    /// row: the beginning of a range of keys is one too. Takes no memory. Cost: two look-ups, and then a step a row.
+    /// row: the beginning of a range of keys is one too. Takes no memory. Cost: that of finding the index, as for `rows`, one look-up
+    /// of the place, and then a step a row.
     pub fn rows_beyond<Q: Probe<RowBytes>>(
         &self,
         ddoc: &str,
@@ -262,8 +264,8 @@ impl Shard {
     }
 
     /// How many rows `rows_beyond` lists after a place in a direction; `None` if there is no such index. The rows are not read one by
-    /// one. Takes no memory. Cost: two look-ups, and a read of the count of each part before the place, at most 64 a
-    /// level.
+    /// one. Takes no memory. Cost: that of finding the index, as for `rows`, one look-up of the place, and a read of the count of each
+    /// part before it, at most 64 a level.
     pub fn count_rows_beyond<Q: Probe<RowBytes>>(
         &self,
         ddoc: &str,

@@ -49,7 +49,7 @@ impl<'a, T: Keyed> Walk<'a, T> {
         Walk { way }
     }
 
-    // Those that come after a key in the direction.
+    // The elements that come after a key in the direction.
     pub(crate) fn beyond<Q: Probe<T>>(
         pages: &'a Pages<T>,
         key: &Q,
@@ -64,8 +64,8 @@ impl<'a, T: Keyed> Walk<'a, T> {
         Walk { way }
     }
 
-    /// Passes over `count` elements. Cost: constant within a page of 64; else one look-up and a read of the count of each part before the
-    /// place, at most 64 a level. Takes no memory.
+    /// Skips `count` elements, or all that are left if there are fewer. Cost: constant within a page of 64; otherwise one look-up, and
+    /// a read of the count of each part before the place, at most 64 a level. Takes no memory.
     pub fn advance(&mut self, count: usize)
         ensures { self.new ≡ drop count self.old }
     {
@@ -75,8 +75,8 @@ impl<'a, T: Keyed> Walk<'a, T> {
         }
     }
 
-    /// The last element of the run that is being read, which is the rest of one page, and its place among the elements that are left;
-    /// `None` if nothing is left. Cost: constant.
+    /// Where the run that is being read ends: the place of its last element among the elements that are left, counted from 0, and that
+    /// element; `None` if nothing is left. The run is the rest of one page. Takes no memory. Cost: constant.
     pub fn run_end(&self) -> Option<(usize, &'a T)>
         ensures { MatchOption result (self.now ≡ []) (λ end. slice_get self.now end.0 ≡ Some end.1.now) }
     {
@@ -87,7 +87,7 @@ impl<'a, T: Keyed> Walk<'a, T> {
     }
 }
 
-// How many come after a key in the direction.
+// How many elements come after a key in the direction.
 #[tactic(auto, using(crate::proofs::Walks::reversed_length))]
 pub(crate) fn count_beyond<T: Keyed, Q: Probe<T>>(
     pages: &Pages<T>,
@@ -147,7 +147,7 @@ impl<'a> Documents<'a> {
         Documents { documents }
     }
 
-    // Those that come after a key in the direction.
+    // The documents that come after a key in the direction.
     pub(crate) fn beyond<Q: Probe<Shared<Document>>>(
         pages: &'a Pages<Shared<Document>>,
         key: &Q,
@@ -159,7 +159,7 @@ impl<'a> Documents<'a> {
         Documents { documents }
     }
 
-    /// Passes over `count` documents. Cost: as for `Walk::advance`. Takes no memory.
+    /// Skips `count` documents, or all that are left if there are fewer. Cost: as for `Walk::advance`. Takes no memory.
     pub fn advance(&mut self, count: usize)
         ensures { self.new ≡ drop count self.old }
     {

@@ -8,5 +8,5 @@ use Rattle.mg_merge.proofs.pulled.merge_pulled.Goals as goal
 pub returns-clause-left : goal.returns-clause-left
 returns-clause-left g c =
     let rest = g.S.RowSource.rest in
-    pulled_count g.T.Ranked.row_of (directed_order c.args.direction) c.merge_ahead.new.heads.items c.in_ok-heads.heads.items (map rest c.merge_ahead.new.sources) (map rest c.first_heads.new.sources) (map rest c.args.sources.now)
+    pulled_count g.T.Ranked.row_of (directed_order c.args.direction) c.merge_heads.new.heads.items c.in_ok-heads.heads.items (map rest c.merge_heads.new.sources) (map rest c.first_heads.new.sources) (map rest c.args.sources.now)
     c.in_ok-items.items.items (c.len.result + c.count_heads.result) c.count_heads.result c.in_ok-heads.ensures.same c.in_ok-items.ensures.left (c.count_heads.ensures.count ∙ ap (λ hs. length (joined (firsts_of hs))) c.deref.ensures.value) (omega arith)

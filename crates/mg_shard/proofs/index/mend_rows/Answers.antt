@@ -12,16 +12,16 @@ pub returns : goal.returns
 returns c = λ ds d before after were.
     let columns = c.args.definition.now.columns in
     let id = c.args.id.now in
-    let gone : c.in_ok-gone.gone ≡ row_at columns id (get ds id) =
-    c.in_ok-gone.ensures ∙ ap (λ cs. own_row cs id (option_map (λ v. v.now) c.args.before)) c.columns-2.ensures
+    let old_row : c.in_ok-old_row.old_row ≡ row_at columns id (get ds id) =
+    c.in_ok-old_row.ensures ∙ ap (λ cs. own_row cs id (option_map (λ v. v.now) c.args.before)) c.columns-2.ensures
     ∙ ap (own_row columns id) before ∙ own_at columns id (get ds id) in
-    let come : c.in_ok-come.come ≡ row_at columns id (Some d) =
-    c.in_ok-come.ensures ∙ ap (λ cs. own_row cs id (option_map (λ v. v.now) c.args.after)) c.columns-3.ensures
+    let new_row : c.in_ok-new_row.new_row ≡ row_at columns id (Some d) =
+    c.in_ok-new_row.ensures ∙ ap (λ cs. own_row cs id (option_map (λ v. v.now) c.args.after)) c.columns-3.ensures
     ∙ ap (own_row columns id) after in
     let rows = arc_value c.args.rows.now in
     let new = arc_value c.change_shared.new.rows in
     rows_mended columns ds id d rows new were (ascends_rises new (subst (λ (rs : List RowValue). Ascends row_value_order rs) c.deref-rows.ensures c.ascends.ensures))
-    (c.in_ok-change_shared.ensures ∙ ap₂ (λ n rs. with_row n rs) come (ap (λ o. without_row o rows) gone))
+    (c.in_ok-change_shared.ensures ∙ ap₂ (λ n rs. with_row n rs) new_row (ap (λ o. without_row o rows) old_row))
 
 pub returns-then-have_same_row : goal.returns-then-have_same_row
 returns-then-have_same_row c = λ ds d before after were.

@@ -2,7 +2,7 @@ use Rattle.std.proofs.Common.{◌≡◌, ◌++◌}
 use Rattle.std.specs.List.{filter_map}
 use Rattle.mg_shard.specs.Documents.{docs_of}
 use Rattle.mg_shard.specs.Rows.{row_of}
-use Rattle.mg_shard.proofs.shard.Shard.unsorted.Given as goal
+use Rattle.mg_shard.proofs.shard.Shard.unsorted_rows.Given as goal
 
 -- what is left decides
 abbrev pub invariant-loop-id : goal.invariant-loop-id

@@ -7,7 +7,7 @@ use Rattle.mg_bookmark.specs.Decoding.{IsDecoded}
 use Rattle.mg_bookmark.specs.Seen.{bookmark_place}
 use Rattle.mg_bookmark.specs.declared.error.BookmarkError.TheVariants.{Invalid}
 use Rattle.mg_bookmark.proofs.Unspelled.{undecoded, unread_bytes, unread_value, unread_spelling}
-use Rattle.mg_bookmark.proofs.spelling.spelled_by.Goals as goal
+use Rattle.mg_bookmark.proofs.spelling.read_spelling.Goals as goal
 
 pub returns-in_err-bytes-clause-invalid : goal.returns-in_err-bytes-clause-invalid
 returns-in_err-bytes-clause-invalid c = λ h.

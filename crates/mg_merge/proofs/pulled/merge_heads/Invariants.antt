@@ -3,7 +3,7 @@ use Rattle.mg_collate.specs.Row.{directed_order}
 use Rattle.mg_collate.specs.Sorted.{sorted}
 use Rattle.mg_merge.specs.Merged.{joined}
 use Rattle.mg_merge.specs.Pulled.{AreFrom, IsUnderWay, IsGivenBy, all_remaining}
-use Rattle.mg_merge.proofs.pulled.merge_ahead.Given as goal
+use Rattle.mg_merge.proofs.pulled.merge_heads.Given as goal
 
 abbrev pub invariant-loop-direction : goal.invariant-loop-direction
 invariant-loop-direction g l = record {

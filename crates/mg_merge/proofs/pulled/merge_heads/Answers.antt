@@ -4,7 +4,7 @@ use Rattle.mg_collate.specs.Sorted.{sorted}
 use Rattle.mg_merge.specs.Merged.{joined}
 use Rattle.mg_merge.specs.Pulled.{IsGivenBy, all_remaining}
 use Rattle.mg_merge.proofs.Pulls.{all_more, one_more}
-use Rattle.mg_merge.proofs.pulled.merge_ahead.Goals as goal
+use Rattle.mg_merge.proofs.pulled.merge_heads.Goals as goal
 
 pub loop-direction-preserved : goal.loop-direction-preserved
 loop-direction-preserved g c =

@@ -2,7 +2,7 @@ use Rattle.std.proofs.Common.{◌∙◌, List, ap}
 use Rattle.mg_pages.specs.Order.{removed}
 use Rattle.mg_shard.specs.Index.{Index, name_against}
 use Rattle.mg_shard.proofs.Catalogued.{removed-named}
-use Rattle.mg_shard.proofs.indexes.without.Goals as goal
+use Rattle.mg_shard.proofs.indexes.remove_index.Goals as goal
 
 pub returns : goal.returns
 returns c =
