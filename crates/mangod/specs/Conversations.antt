@@ -5,7 +5,7 @@ use Rattle.mg_http.specs.Session.{Converses}
 use Rattle.mg_http.specs.declared.sessions.SessionEnd.{SessionEnd}
 use Rattle.mg_live.specs.SeatView.{Answered, SeatView}
 
--- a session with a client: the bytes that it sent, the bytes written to it, and how its session ended
+-- a session with a client: the bytes that the client sent, the bytes written to the client, and how the session ended
 pub record Conversation : Type 0 where
   pub bytes : List ℕ
   pub written : List ℕ

@@ -1,5 +1,4 @@
 -- What the settings and the endings of the code stand for.
-use Rattle.std.specs.Prelude.{ℕ}
 use Rattle.mangod.specs.Arguments.{Settings}
 use Rattle.mangod.specs.Ends.{Ending}
 use Rattle.mangod.specs.declared.config.Settings as code

@@ -1,6 +1,6 @@
 //! The reader and the writer of a session's connection. They keep to time limits, and end the input when the client pauses.
 ghost use Rattle.std.specs.Prelude.{◌≡◌, ◌≤◌, length};
-ghost use Rattle.std.specs.Io.{ReadsAtMost, WritesAtMost};
+ghost use Rattle.std.specs.Io.{ReadsAtMost};
 
 use crate::lobby::Lobby;
 use crate::pace::{PAUSE_MILLIS, Phase, is_turn_over, seconds_left};

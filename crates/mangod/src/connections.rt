@@ -1,5 +1,5 @@
 //! Serves clients over TCP, one connection after another.
-ghost use Rattle.std.specs.Prelude.{◌≡◌, List};
+ghost use Rattle.std.specs.Prelude.{List};
 ghost use Rattle.mangod.specs.Conversations.{Conversation, InTurn};
 
 use crate::connection::{Connection, Incoming, Outgoing};
@@ -12,7 +12,7 @@ use std::sync::Wait;
 use std::thread::Threads;
 use std::time::{Clock, Instant};
 
-/// Serves connections from the lobby, one after another, each when bytes have come on it, until the listener fails. An error of one
+/// Takes from the lobby connections on which bytes have come, and serves them one after another, until the listener fails. An error of one
 /// client ends only its own connection. A connection whose client pauses goes back to the lobby.
 pub(crate) fn serve_connections<H: Wait + Threads + Sync + Clock, S: Service>(
     rt: &H,

@@ -15,8 +15,8 @@ use std::time::{Clock, Duration, Instant};
 
 /// The token of the listener in events. The token of a connection is its key, which is smaller.
 const LISTENER: Token = Token(usize::MAX);
-/// The time in milliseconds between two searches for silent connections.
-const LOOK_MILLIS: u64 = 500;
+/// The time in milliseconds between two searches for silent connections, and the longest wait for an event.
+const SEARCH_MILLIS: u64 = 500;
 /// The time in milliseconds until the next accept after descriptors or memory ran out.
 const SHORTAGE_MILLIS: u64 = 20;
 /// The most bytes dropped from a connection that is being closed.
@@ -99,7 +99,7 @@ impl Lobby {
         self.watchers.load(Ordering::SeqCst) > 0
     }
 
-    /// Waits for a connection on which bytes have come, or whose client has gone, and takes it. `None`: the listener failed.
+    /// Waits for a connection on which bytes have come, or whose client has gone, and takes it. `None`: the listener or the poll failed.
     pub(crate) fn next<H: Wait + Clock>(&self, rt: &H) -> Option<TcpStream> {
         self.watchers.fetch_add(1, Ordering::SeqCst);
         let taken = self.wait(rt, &mut self.watch.lock(rt));
@@ -131,7 +131,7 @@ impl Lobby {
     /// Accepts a connection if one may be waiting. Returns how long to wait for the next event; `None`: the listener failed.
     fn accept<H: Wait + Clock>(&self, rt: &H, watch: &mut Watch) -> Option<Duration> {
         if !watch.is_accepting {
-            return Some(Duration::from_millis(LOOK_MILLIS));
+            return Some(Duration::from_millis(SEARCH_MILLIS));
         }
         watch.has_shortage = false;
         let millis = match self.listener.accept() {
@@ -145,7 +145,7 @@ impl Lobby {
                 AfterFault::Again => 0,
                 AfterFault::AtAnEvent => {
                     watch.is_accepting = false;
-                    LOOK_MILLIS
+                    SEARCH_MILLIS
                 }
                 AfterFault::WithMore => {
                     watch.has_shortage = true;
@@ -223,12 +223,13 @@ impl Lobby {
         }
     }
 
-    // Closes the connections that have been silent for too long, unless the last search was just now.
+    // Closes the connections that have been here for too long, unless the last search was just now. A connection whose client sends leaves
+    // the lobby, so those that are still here are silent or are being closed.
     fn close_silent<H: Wait + Clock>(&self, rt: &H, watch: &mut Watch) {
         let Ok(now) = Instant::now(rt) else {
             return;
         };
-        if now.saturating_duration_since(watch.last_search) < Duration::from_millis(LOOK_MILLIS) {
+        if now.saturating_duration_since(watch.last_search) < Duration::from_millis(SEARCH_MILLIS) {
             return;
         }
         watch.last_search = now;

@@ -7,9 +7,9 @@ use std::time::Duration;
 
 /// The most seconds that a message may take from its first byte to its last, and that a reply may take.
 const MESSAGE_SECONDS: u64 = 60;
-/// The most seconds that a connection may be silent between messages.
+/// The seconds that a connection may wait in the lobby. The next search after that closes it.
 const SILENCE_SECONDS: u64 = 5;
-/// The most milliseconds that a session may continue while no thread watches the other connections.
+/// The milliseconds after which a session gives way between two messages, if no thread watches the other connections.
 const TURN_MILLIS: u64 = 5;
 /// The most milliseconds that a session waits for the next message before its connection goes back to the lobby.
 pub(crate) const PAUSE_MILLIS: u64 = 20;

@@ -4,7 +4,7 @@ use Rattle.std.specs.Io.KnownBytes.{Appends}
 use Rattle.mg_http.specs.Device.{WritesPrefix}
 use Rattle.mg_http.specs.declared.sessions.device.IoFault.{IoFault}
 
--- of what was held and the piece after it, all but what is held now was written; after an error, a prefix was written
+-- `held` and then `piece` were written, except their end `left`, which is held now; after an error, a prefix of both was written
 abbrev pub Gathers
     : {A : Type 0} → Option (List ℕ) → Option (List ℕ) → List ℕ → List ℕ → List ℕ → Result A IoFault → Type 0
 Gathers old new held piece left (Ok a) = (sent : List ℕ) × (held ++ piece ≡ sent ++ left) × Appends old new sent

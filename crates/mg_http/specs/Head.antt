@@ -15,7 +15,7 @@ pub data Asks : Type 0 where
   framed : Request → ℕ → Asks
   unframed : Refusal → Asks
 
--- the request's own refusal, if it is one; else this one
+-- the request's refusal if the request is refused, else `refusal`
 abbrev pub refusal_before : Refusal → Request → Refusal
 refusal_before refusal (body endpoint) = refusal
 refusal_before refusal (asks command) = refusal

@@ -8,7 +8,7 @@ use Rattle.mg_http.specs.declared.request.route_match.RouteMatch.{RouteMatch}
 use Rattle.mg_http.specs.Routes as spec
 use Rattle.mg_http.specs.Walk as walk
 
--- the part that a part of the code stands for
+-- the part of a route that a `RouteSegment` of the code stands for
 abbrev pub part_seen : RouteSegment → spec.RouteSegment
 part_seen (Literal segment) = spec.literal segment.now
 part_seen Parameter = spec.parameter

@@ -95,7 +95,7 @@ pub record IsLastCall
   pub handled : IsHandled answers all.old call all.new
   pub text_is : all.text ≡ call_text call
 
--- There was no memory for the message: before its first byte, or within its head, or after it, for its target or its body. After a
+-- There was no memory for the message: before its first byte, within its head, or after its head (for its target or its body). After a
 -- complete head the method decides whether the reply omits its body.
 abbrev pub LacksMemory : List ℕ → Bool → Type 0
 LacksMemory bytes omits_body =

@@ -50,7 +50,7 @@ abbrev pub IsFramedBy : Asks → Result (RequestTarget × ℕ) Refusal → Type 
 IsFramedBy asked (Ok f) = (asked ≡ framed (request_in f.0) f.1) × (f.1 ≤ 8388608)
 IsFramedBy asked (Err refusal) = (asked ≡ unframed refusal) ⊎ (refusal ≡ OutOfMemory)
 
--- what the code read is what these bytes, at most 16,384, begin with
+-- what the code read at the beginning of these bytes, at most 16,384, is right
 abbrev pub IsHeadRead : List ℕ → List ℕ → Pending → Type 0
 IsHeadRead db bytes pending.Waiting = CanGoOn bytes
 IsHeadRead db bytes (pending.Refused refusal omits_body) =
@@ -66,7 +66,7 @@ abbrev pub LacksMemoryForHead : List ℕ → Refusal → Bool → Type 0
 LacksMemoryForHead bytes refusal omits_body =
     (refusal ≡ OutOfMemory) × (h : RequestHead) × (after : List ℕ) × HasHead bytes h after × (omits_body ≡ omits_body_of h)
 
--- what the code found is what the unanswered bytes begin with
+-- what the code found at the beginning of the unanswered bytes is right
 abbrev pub IsPending : List ℕ → List ℕ → Pending → Type 0
 IsPending db bytes pending.Waiting = IsPartHead bytes
 IsPending db bytes (pending.Refused refusal omits_body) =

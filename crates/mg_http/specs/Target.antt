@@ -13,7 +13,7 @@ use Rattle.mg_http.specs.declared.request.routes.Action.{Action}
 use Rattle.mg_http.specs.declared.request.routes.Action.TheVariants.{Body, Document, ListIndexes, DropIndex, DropDesignIndex}
 use Rattle.mg_http.specs.Routes.{routes, whole_path, matches_route, is_matched_by, parameters_of, segments_of}
 
--- what is asked: what an endpoint does with the value that the body is, a command, or a refusal
+-- what a head asks for: what an endpoint does with the body, a command, or a refusal
 pub data Request : Type 0 where
   body : Endpoint → Request
   asks : Asked → Request

@@ -52,7 +52,7 @@ IsTranscript answers db all = (messages : List Message) × Speaks answers db mes
 abbrev pub IsAnswered : Call → Type 0
 IsAnswered call = (answer : Answer) × (call.reply ≡ Some answer)
 
--- the last text is not out of memory
+-- the session's last reply, if there is one, is not out of memory
 abbrev pub EndsAmply
     : {S : Type 0} (answers : S → Asked → Option Answer → S → Type 0) (db : List ℕ) (end : SessionEnd) (last : Exchange S)
     → Ends answers db end last → Type 0

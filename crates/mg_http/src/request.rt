@@ -1,5 +1,5 @@
-//! Reads one request: what the bytes that a session has not answered begin with.
-ghost use Rattle.std.specs.Prelude.{◌≡◌, ◌≤◌, length};
+//! Reads the request, or the part of one, that a session's unanswered bytes begin with.
+ghost use Rattle.std.specs.Prelude.{◌≤◌, length};
 ghost use Rattle.mg_http.specs.Steps.{IsPending};
 
 mod decode;
@@ -24,7 +24,7 @@ pub(crate) use target::RequestTarget;
 /// The most bytes of a head.
 pub(crate) const MAX_HEAD: usize = 16_384;
 
-/// Reads what the bytes begin with; `spans` is room for the fields of a head. A head that is still incomplete at its limit is refused.
+/// Reads the head that the bytes begin with. A head that is still incomplete at its limit is refused. `spans` is room for its fields.
 pub(crate) fn read_pending(
     alloc: Global,
     db: &str,

@@ -1,5 +1,5 @@
 //! A session: reads messages and writes their replies, until it ends in one of six ways.
-ghost use Rattle.std.specs.Prelude.{◌≡◌, ◌↔◌, ℕ, ◌<◌, ◌≤◌, List, [], ◌++◌, length, drop, false, IsTrue, IsErrOf, is_ok, if◌then◌else◌, OnOk};
+ghost use Rattle.std.specs.Prelude.{◌≡◌, ◌↔◌, ℕ, ◌<◌, ◌≤◌, List, ◌++◌, length, drop, false, IsTrue, IsErrOf, is_ok, if◌then◌else◌, OnOk};
 ghost use Rattle.std.specs.Io.KnownBytes.{Appends, Consumes, IsAtEnd};
 ghost use Rattle.httparse.specs.Grammar.{RequestHead};
 ghost use Rattle.mg_http.specs.Device.{inner_of, has_failed};
@@ -41,7 +41,7 @@ pub enum SessionEnd {
     ReadFault,
     /// The writer failed.
     WriteFault,
-    /// The session answered, or read, as many times as it may: 4,294,967,295.
+    /// The session answered 4,294,967,295 messages or called its reader as often, and the next message or call would be one too many.
     Limit,
 }
 
@@ -198,9 +198,10 @@ fn step<H: Wait + Threads + Sync, S: Service, R: Read, W: Write>(
     }
 }
 
-/// Answers message after message until the session ends.
+/// Answers message after message until the session ends. Does not flush the writer.
 ///
-/// Errors: each error ends the session; see `SessionEnd`. Cost: that of the service, and one pass over the bytes.
+/// Errors: each error ends the session; see `SessionEnd`. Cost: that of the service, and one pass over the bytes; a head that arrives in
+/// several pieces is parsed again for each piece.
 pub fn session<H: Wait + Threads + Sync, S: Service, R: Read, W: Write>(
     rt: &H,
     alloc: Global,

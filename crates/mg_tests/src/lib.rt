@@ -1,5 +1,5 @@
 //! Tests of the libraries that need Rust and no threads: states that share pages, a placement of the tests' own, lists of events, calls of
-//! `run` that are refused memory, and each public call that the program does not make. Whole conversations are data, in the folder tests/
+//! `run` that are refused memory, and public calls that the program does not make. Whole conversations are data, in the folder tests/
 //! at the top; tests with threads are in mg_thread_tests. A failing test ends the process, and so does a call that is refused memory. So no
 //! function needs an exit for such a call, which keeps the proofs of the tests small.
 #![tactic(auto)]

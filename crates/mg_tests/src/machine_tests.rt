@@ -166,7 +166,7 @@ fn is_reply(reply: Option<&Option<Reply>>, status: u16, text: &str) -> bool {
 }
 
 #[test]
-fn seats_see_what_they_looked_at_or_were_told(rt: HostRuntime) {
+fn a_seat_sees_what_it_entered_wrote_or_learned(rt: HostRuntime) {
     let replies = replies_to(&rt, rt.alloc(), &TELLING);
     for (event, status, text) in REPLIES {
         let reply = replies.get(*event);
@@ -300,7 +300,7 @@ fn are_plain<R: Threads + Sync + Abort>(
 }
 
 #[test]
-fn drawn_events_are_answered_as_plain_runs(rt: HostRuntime) {
+fn random_events_are_answered_as_by_one_engine(rt: HostRuntime) {
     for seed in 1..11 {
         let draws = draw_events(&rt, rt.alloc(), seed);
         let replies = replies_to(&rt, rt.alloc(), &draws);

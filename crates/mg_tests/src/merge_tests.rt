@@ -51,7 +51,6 @@ const MERGES: &[Merge] = &[
         wanted: &[(7, "d1"), (7, "d2"), (7, "d4"), (7, "d4"), (7, "d5")],
         handed: &[1, 2, 0, 2],
     },
-    // Keys and ids both descend.
     Merge {
         name: "keys and ids descend",
         lists: &[&[(10, "a"), (2, "c")], &[(10, "b"), (2, "b"), (-1, "z")]],
@@ -60,7 +59,6 @@ const MERGES: &[Merge] = &[
         wanted: &[(10, "b"), (10, "a"), (2, "c"), (2, "b")],
         handed: &[2, 3],
     },
-    // Two of five descending rows; no list; no row to take; a row that is in two lists.
     Merge {
         name: "two of five that descend",
         lists: &[
@@ -137,7 +135,7 @@ fn lists<R: Abort>(rt: &R, alloc: Global, given: &[Given]) -> Vec<Vec<Row>> {
     lists
 }
 
-// Whether the merge of the lists gives the wanted rows. The lists must be in order.
+// Whether the merge of the lists gives the wanted rows, and counts its work rightly. The lists must be in order.
 fn merges<R: Abort>(rt: &R, alloc: Global, case: &Merge) -> bool {
     let lists = lists(rt, alloc, case.lists);
     assert!(rt; are_in_order(&lists, case.direction));
@@ -147,14 +145,14 @@ fn merges<R: Abort>(rt: &R, alloc: Global, case: &Merge) -> bool {
 }
 
 #[test]
-fn ties_over_lists(rt: HostRuntime) {
+fn a_merge_takes_the_first_rows_of_all_lists(rt: HostRuntime) {
     for case in MERGES {
         check(&rt, merges(&rt, rt.alloc(), case), case.name);
     }
 }
 
 #[test]
-fn lists_out_of_order(rt: HostRuntime) {
+fn lists_out_of_order_are_found(rt: HostRuntime) {
     let lists = lists(&rt, rt.alloc(), TIES);
     assert!(rt; !are_in_order(&lists, Direction::Desc));
 }

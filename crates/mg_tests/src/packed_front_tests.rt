@@ -1,5 +1,5 @@
-//! Objects in one block without the members whose names begin with a byte, also where more bytes follow the object in its block, copies of
-//! a block, and texts that are read into a block.
+//! Objects in one block without the members whose names begin with a given byte (also if more bytes follow the object in its block),
+//! copies of a block, and texts that are read into a block.
 use crate::given::{check, json};
 use mg_packed::{Kind, Packed};
 use mg_value::{ReadBuffer, ReadError};
@@ -41,7 +41,7 @@ fn without_front<R: Abort>(rt: &R, alloc: Global, object: &str, text: &str) -> b
 }
 
 #[test]
-fn members_of_a_front_are_left_out(rt: HostRuntime) {
+fn members_are_left_out_by_the_first_byte_of_their_names(rt: HostRuntime) {
     for (object, text) in OBJECTS {
         check(&rt, without_front(&rt, rt.alloc(), object, text), object);
     }

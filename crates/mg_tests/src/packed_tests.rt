@@ -40,7 +40,7 @@ const PARTS: &[(&str, Option<&str>)] = &[
     ("n.a", None),
 ];
 
-pub(crate) fn given<R: Abort>(rt: &R, alloc: Global) -> Packed {
+pub(crate) fn block<R: Abort>(rt: &R, alloc: Global) -> Packed {
     let value = json(rt, alloc, GIVEN);
     Packed::of(alloc, &value).expect(rt, "memory")
 }
@@ -138,7 +138,7 @@ fn is_member<R: Abort>(rt: &R, alloc: Global, whole: &Part<'_>, place: usize) ->
 
 #[test]
 fn parts_are_found_by_names_places_and_paths(rt: HostRuntime) {
-    let packed = given(&rt, rt.alloc());
+    let packed = block(&rt, rt.alloc());
     let whole = packed.part();
     for place in 0..MEMBERS.len() {
         check(&rt, is_member(&rt, rt.alloc(), &whole, place), "a member");

@@ -1,6 +1,6 @@
 //! The text, the order and a copy of a packed value.
 use crate::given::{check, json};
-use crate::packed_tests::{COMPACT, given, is_part};
+use crate::packed_tests::{COMPACT, block, is_part};
 use mg_packed::{Packed, Part, Written};
 use mg_value::Json;
 use std::alloc::Global;
@@ -26,7 +26,7 @@ fn is_added<R: Abort>(rt: &R, alloc: Global, whole: &Part<'_>) -> bool {
     all.first() == Some(&b'[') && all.get(1..) == Some(COMPACT.as_bytes())
 }
 
-// A copy of a packed value, which is then dropped.
+// A copy of a packed value. The packed value is dropped.
 fn left_over<R: Abort>(rt: &R, alloc: Global, gone: Packed) -> Json {
     gone.part().copy(alloc).expect(rt, "memory")
 }
@@ -37,7 +37,7 @@ fn order_with<R: Abort>(rt: &R, alloc: Global, whole: &Part<'_>, other: &str) ->
 
 #[test]
 fn a_block_has_the_text_and_the_order_of_its_value(rt: HostRuntime) {
-    let packed = given(&rt, rt.alloc());
+    let packed = block(&rt, rt.alloc());
     let whole = packed.part();
     assert!(rt; is_part(&rt, rt.alloc(), Some(whole.lend()), Some(COMPACT)));
     assert!(rt; is_added(&rt, rt.alloc(), &whole));
@@ -52,13 +52,13 @@ fn a_block_has_the_text_and_the_order_of_its_value(rt: HostRuntime) {
 
 #[test]
 fn a_copy_outlives_its_block(rt: HostRuntime) {
-    let copy = left_over(&rt, rt.alloc(), given(&rt, rt.alloc()));
+    let copy = left_over(&rt, rt.alloc(), block(&rt, rt.alloc()));
     assert!(rt; copy == json(&rt, rt.alloc(), COMPACT));
 }
 
 #[test]
 fn a_written_value_has_its_text_behind_it(rt: HostRuntime) {
-    let written = Written::of(rt.alloc(), &given(&rt, rt.alloc())).expect(&rt, "memory");
+    let written = Written::of(rt.alloc(), &block(&rt, rt.alloc())).expect(&rt, "memory");
     assert!(rt; written.text() == COMPACT.as_bytes());
     assert!(rt; is_part(&rt, rt.alloc(), Some(written.part()), Some(COMPACT)));
 }

@@ -1,5 +1,5 @@
-//! A text at a name of an object in one block: before, between and after its members, and in the place of the first member, of one in the
-//! middle and of the last. Other values stay as they are.
+//! A text that is put at a name of an object in one block: before, between and after its members, and in place of the first member, of one
+//! in the middle and of the last. A value that is not an object stays as it is.
 use crate::given::{check, json};
 use mg_packed::Packed;
 use std::alloc::Global;

@@ -60,7 +60,7 @@ const INDEX: Step = Step(
     "{\"id\":\"_design/x\",\"name\":\"k_idx\",\"result\":\"created\"}\n",
 );
 
-// An index that a query prefers to the first, since its name comes first.
+// An index on the same column that a query prefers to `k_idx`, since its name is smaller.
 const PREFERRED_INDEX: Step = Step(
     Ask::CreateIndex,
     r#"{"index":{"fields":["k"]},"ddoc":"x","name":"a_idx"}"#,
@@ -300,6 +300,6 @@ fn rows_handed_over_by_each_shard(rt: HostRuntime) {
 }
 
 #[test]
-fn page_over_shards_with_an_index_more_than_the_catalog(rt: HostRuntime) {
+fn a_page_ignores_an_index_that_the_catalog_lacks(rt: HostRuntime) {
     are_paged(&rt, rt.alloc(), &[PUTS, INDEX, PREFERRED_INDEX], OVER_FOUR);
 }

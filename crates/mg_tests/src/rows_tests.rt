@@ -9,28 +9,28 @@ use std::process::Abort;
 
 // The JSON text of a key, the id, and the bytes of the row.
 #[derive(Clone, Copy, Drop)]
-struct Written(&'static str, &'static str, &'static [u8]);
+struct RowCase(&'static str, &'static str, &'static [u8]);
 
 // Rows in order: null, false, true, numbers, texts, arrays, objects. A key, a text and an array are above each of their prefixes.
-const ROWS: &[Written] = &[
-    Written("[]", "z", &[0, 122]),
-    Written("[null]", "b", &[1, 0, 98]),
-    Written("[null,false,true]", "b", &[1, 2, 3, 0, 98]),
-    Written("[false]", "a", &[2, 0, 97]),
-    Written("[true]", "a", &[3, 0, 97]),
-    Written(
+const ROWS: &[RowCase] = &[
+    RowCase("[]", "z", &[0, 122]),
+    RowCase("[null]", "b", &[1, 0, 98]),
+    RowCase("[null,false,true]", "b", &[1, 2, 3, 0, 98]),
+    RowCase("[false]", "a", &[2, 0, 97]),
+    RowCase("[true]", "a", &[3, 0, 97]),
+    RowCase(
         "[-1]",
         "a",
         &[4, 127, 255, 255, 255, 255, 255, 255, 255, 0, 97],
     ),
-    Written("[0]", "a", &[4, 128, 0, 0, 0, 0, 0, 0, 0, 0, 97]),
-    Written("[1]", "a", &[4, 128, 0, 0, 0, 0, 0, 0, 1, 0, 97]),
-    Written("[1]", "b", &[4, 128, 0, 0, 0, 0, 0, 0, 1, 0, 98]),
-    Written(r#"["a"]"#, "", &[5, 98, 0, 0]),
-    Written(r#"["a\u0000"]"#, "", &[5, 98, 1, 0, 0]),
-    Written(r#"["ab"]"#, "", &[5, 98, 99, 0, 0]),
+    RowCase("[0]", "a", &[4, 128, 0, 0, 0, 0, 0, 0, 0, 0, 97]),
+    RowCase("[1]", "a", &[4, 128, 0, 0, 0, 0, 0, 0, 1, 0, 97]),
+    RowCase("[1]", "b", &[4, 128, 0, 0, 0, 0, 0, 0, 1, 0, 98]),
+    RowCase(r#"["a"]"#, "", &[5, 98, 0, 0]),
+    RowCase(r#"["a\u0000"]"#, "", &[5, 98, 1, 0, 0]),
+    RowCase(r#"["ab"]"#, "", &[5, 98, 99, 0, 0]),
     // 46 bytes, one more than fit in the row itself
-    Written(
+    RowCase(
         r#"["xxxxxxxxxxxxxxxxxxxxxxxxxxxxxxxxxxxxxxxxxx"]"#,
         "a",
         &[
@@ -39,15 +39,15 @@ const ROWS: &[Written] = &[
             121, 121, 121, 121, 121, 121, 121, 121, 0, 0, 97,
         ],
     ),
-    Written(r#"["é"]"#, "é", &[5, 196, 170, 0, 0, 195, 169]),
-    Written("[[]]", "a", &[6, 0, 0, 97]),
-    Written("[[true,[]]]", "a", &[6, 3, 6, 0, 0, 0, 97]),
-    Written("[{}]", "a", &[7, 0, 0, 97]),
-    Written(r#"[{"a":null}]"#, "a", &[7, 5, 98, 0, 1, 0, 0, 97]),
+    RowCase(r#"["é"]"#, "é", &[5, 196, 170, 0, 0, 195, 169]),
+    RowCase("[[]]", "a", &[6, 0, 0, 97]),
+    RowCase("[[true,[]]]", "a", &[6, 3, 6, 0, 0, 0, 97]),
+    RowCase("[{}]", "a", &[7, 0, 0, 97]),
+    RowCase(r#"[{"a":null}]"#, "a", &[7, 5, 98, 0, 1, 0, 0, 97]),
 ];
 
 // The values of a bound, its side, and how many of the rows are below it.
-const PLACES: &[(&str, Edge, usize)] = &[
+const BOUNDS: &[(&str, Edge, usize)] = &[
     ("[]", Edge::Before, 0),
     ("[]", Edge::After, 18),
     ("[null,false]", Edge::Before, 2),
@@ -68,7 +68,7 @@ fn values_of<R: Abort>(rt: &R, alloc: Global, text: &str) -> Vec<Json> {
     }
 }
 
-fn row_of<R: Abort>(rt: &R, alloc: Global, written: &Written) -> RowBytes {
+fn row_of<R: Abort>(rt: &R, alloc: Global, written: &RowCase) -> RowBytes {
     let key = values_of(rt, alloc, written.0);
     RowBytes::of(alloc, &key, written.1).expect(rt, "memory")
 }
@@ -82,13 +82,13 @@ fn put_columns<R: Abort>(rt: &R, alloc: Global, key: &mut KeyBytes, columns: &st
 }
 
 // Whether the row, read back as a whole, has the expected key and id.
-fn reads_back<R: Abort>(rt: &R, alloc: Global, row: &RowBytes, written: &Written) -> bool {
+fn reads_back<R: Abort>(rt: &R, alloc: Global, row: &RowBytes, written: &RowCase) -> bool {
     let read = row.row(alloc).expect(rt, "memory");
     read.key == values_of(rt, alloc, written.0) && read.id.as_str() == written.1
 }
 
 // Whether the row has the expected bytes, id and key.
-fn is_written<R: Abort>(rt: &R, alloc: Global, row: &RowBytes, written: &Written) -> bool {
+fn is_written<R: Abort>(rt: &R, alloc: Global, row: &RowBytes, written: &RowCase) -> bool {
     let key = values_of(rt, alloc, written.0);
     let found = row.key(alloc).expect(rt, "memory");
     found == key && row.id() == written.1 && row.as_bytes() == written.2
@@ -102,7 +102,7 @@ fn all_rows<R: Abort>(rt: &R, alloc: Global) -> Vec<RowBytes> {
     rows
 }
 
-// Whether the row compares with each of `rows` as a row at this place of them has to.
+// Whether the row compares with each of `rows` as the row at this place among them must.
 fn is_in_place(rows: &[RowBytes], row: &RowBytes, place: usize) -> bool {
     for (other_place, other) in rows.iter().enumerate() {
         let wanted = place.cmp(&other_place);
@@ -149,10 +149,10 @@ fn rows_are_in_the_order_of_json_types(rt: HostRuntime) {
 }
 
 #[test]
-fn a_place_is_between_rows_and_never_on_one(rt: HostRuntime) {
+fn a_bound_is_between_rows_and_never_on_one(rt: HostRuntime) {
     let alloc = rt.alloc();
     let rows = all_rows(&rt, alloc);
-    for (values, edge, below) in PLACES {
+    for (values, edge, below) in BOUNDS {
         let key = values_of(&rt, alloc, values);
         let bound = RowBound::at(alloc, &key, *edge).expect(&rt, "memory");
         check(&rt, parts_rows(&rows, &bound, *below), values);
@@ -231,7 +231,7 @@ const KEYS: &[&str] = &[
 ];
 
 #[test]
-fn hints_rise_with_the_rows(rt: HostRuntime) {
+fn hints_do_not_fall_along_the_rows(rt: HostRuntime) {
     let alloc = rt.alloc();
     let mut last = 0;
     for text in KEYS {

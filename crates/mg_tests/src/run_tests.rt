@@ -6,7 +6,7 @@ use std::alloc::Global;
 use std::process::Abort;
 use std::thread::Threads;
 
-// Creates an index, writes bulks, queries with the index, reads a document, queries without an index, lists the indexes, drops the index.
+// Creates an index, writes two bulks, queries by the index, reads a document, explains a query, lists the indexes, drops the index.
 const NUMBERS: [usize; 8] = [5, 0, 3, 8, 10, 9, 12, 11];
 
 // The replies to the commands, and whether the first call was refused memory. Such a call has executed no command, so it is repeated.
@@ -36,7 +36,7 @@ fn is_plain<R: Threads + Sync + Abort>(
     }
 }
 
-// How many of the replies are out of memory. The others must be those that the other commands alone get.
+// How many of the replies are out of memory. The others must be those that the other commands alone would get.
 fn refused_of<R: Threads + Sync + Abort>(rt: &R, alloc: Global, replies: &[Reply]) -> u32 {
     let mut before = Vec::new(alloc);
     let mut refused = 0u32;

@@ -22,7 +22,7 @@ fn holds<R: Abort>(rt: &R, alloc: Global, selector: &Sel, document: &str) -> boo
 }
 
 #[test]
-fn selections(rt: HostRuntime) {
+fn a_copied_selector_matches_the_same_documents(rt: HostRuntime) {
     let alloc = rt.alloc();
     let selector = selector_of(&rt, alloc, r#"{"$not":{"a.b":{"$lt":5}}}"#);
     assert!(rt; holds(&rt, alloc, &selector, r#"{"a":{"b":5}}"#));

@@ -1,7 +1,8 @@
 use crate::given::check;
 use mg_shard::{Md5Placement, Placement};
 
-// The expected shards for 1, 2, 7 and 64 shards, from another implementation of MD5.
+// The expected shards for 1, 2, 7 and 64 shards, from another implementation of MD5: its first eight bytes, as a big-endian number, modulo
+// the number of shards.
 const PLACES: &[(&str, [usize; 4])] = &[
     ("a", [0, 0, 6, 40]),
     ("abc", [0, 0, 0, 48]),

@@ -15,7 +15,7 @@ use std::thread;
 use std::thread::Threads;
 
 // Writes 25 bulks of one document at a seat.
-fn work<D: Database, C: Ends, R: Wait + Threads + Sync>(
+fn write_25<D: Database, C: Ends, R: Wait + Threads + Sync>(
     rt: &R,
     alloc: Global,
     seat: Seat<D, C>,
@@ -30,7 +30,8 @@ fn work<D: Database, C: Ends, R: Wait + Threads + Sync>(
     seat
 }
 
-fn hundred<D: Database + Send + Sync, R: Threads + Wait + Abort + Sync + Send + Drop + Copy>(
+// Writes 25 bulks at each of four seats, each on a thread, then closes the database and checks how many commits it has.
+fn run_four<D: Database + Send + Sync, R: Threads + Wait + Abort + Sync + Send + Drop + Copy>(
     rt: R,
     alloc: Global,
     blank: Blank,
@@ -55,7 +56,7 @@ fn hundred<D: Database + Send + Sync, R: Threads + Wait + Abort + Sync + Send + 
     ) else {
         rt.panic("memory")
     };
-    let Ok(seats) = thread::map_vec(&rt, seats, &|seat| work(&rt, alloc, seat)) else {
+    let Ok(seats) = thread::map_vec(&rt, seats, &|seat| write_25(&rt, alloc, seat)) else {
         rt.panic("memory")
     };
     let Ok(closed) = live.close(&rt, seats) else {
@@ -68,7 +69,7 @@ fn hundred<D: Database + Send + Sync, R: Threads + Wait + Abort + Sync + Send + 
 fn four_seats_make_a_hundred_commits(rt: HostRuntime) {
     let alloc = rt.alloc();
     let db = string(&rt, alloc, "db");
-    hundred::<Brand, _>(rt, alloc, Blank::new(4), CommitLog::new(), db)
+    run_four::<Brand, _>(rt, alloc, Blank::new(4), CommitLog::new(), db)
 }
 
 #[derive(Clone, Copy, Drop)]
@@ -93,6 +94,7 @@ const INDEX: &str = r#"{"index":{"fields":["a"]},"ddoc":"x","name":"ia"}"#;
 
 const MISSING: &str = "{\"error\":\"not_found\",\"reason\":\"missing\"}\n";
 
+// The bookmark spells `[null,"_all_docs","asc",["l1"],"l1"]`; that of `BOTH` has l2 for l1.
 const FIRST: &str =
     "{\"bookmark\":\"W251bGwsIl9hbGxfZG9jcyIsImFzYyIsWyJsMSJdLCJsMSJd\",\"docs\":[{\"_id\":\"l1\"}]}\n";
 
@@ -291,9 +293,9 @@ fn close<D: Database, C: Ends, R: Wait + Abort>(
     closed.commits()
 }
 
-// Runs these calls, too, at two seats, and checks the number of commits. If a call is refused memory, everything must still be as
-// expected, and only then does the test fail.
-fn two<D: Database + Send + Sync, R: Threads + Wait + Abort + Sync + Send + Drop + Copy>(
+// Makes the calls of `BEFORE` and `AFTER`, and then these, at two seats, and checks the number of commits. If a call is refused memory, all
+// the rest must still be as expected, and only then does the test fail.
+fn run_two<D: Database + Send + Sync, R: Threads + Wait + Abort + Sync + Send + Drop + Copy>(
     rt: R,
     alloc: Global,
     blank: Blank,
@@ -334,15 +336,15 @@ fn two<D: Database + Send + Sync, R: Threads + Wait + Abort + Sync + Send + Drop
 }
 
 #[test]
-fn two_seats_tell_each_other_and_close(rt: HostRuntime) {
+fn one_seat_learns_from_another_and_both_close(rt: HostRuntime) {
     let alloc = rt.alloc();
     let db = string(&rt, alloc, "db");
-    two::<Brand, _>(rt, alloc, Blank::new(2), CommitLog::new(), db, &[], 4)
+    run_two::<Brand, _>(rt, alloc, Blank::new(2), CommitLog::new(), db, &[], 4)
 }
 
 #[test]
 fn a_reshard_is_one_commit_and_changes_no_page(rt: HostRuntime) {
     let alloc = rt.alloc();
     let db = string(&rt, alloc, "db");
-    two::<Brand, _>(rt, alloc, Blank::new(2), CommitLog::new(), db, RESHARDED, 6)
+    run_two::<Brand, _>(rt, alloc, Blank::new(2), CommitLog::new(), db, RESHARDED, 6)
 }

@@ -14,6 +14,7 @@ pub(crate) const DOCUMENTS: &str =
 
 pub(crate) const IDS: &str = r#"{"selector":{},"fields":["_id"]}"#;
 
+// The page of these ids. Its bookmark spells `[null,"_all_docs","asc",["d2"],"d2"]`.
 pub(crate) const PAGE: &str =
     "{\"bookmark\":\"W251bGwsIl9hbGxfZG9jcyIsImFzYyIsWyJkMiJdLCJkMiJd\",\"docs\":[{\"_id\":\"a\"},{\"_id\":\"b\"},{\"_id\":\"d1\"},{\"_id\":\"d2\"}]}\n";
 
@@ -56,7 +57,7 @@ fn has_page<R: Threads + Sync>(
         && gate.is_passed()
 }
 
-// Whether the page of the query in this text is as expected.
+// Reads the query for a page of two documents after a skip of one. Whether its page is as expected.
 fn is_paged<R: Threads + Sync + Abort>(
     rt: &R,
     alloc: Global,

@@ -16,25 +16,31 @@ use std::thread;
 use std::thread::Threads;
 
 // The number of tries before a waiting thread gives up.
-const TURNS: u64 = 100_000_000;
+const TRIES: u64 = 100_000_000;
 
-// Holds a query at its snapshot until a write was answered. The fields, in order: how many threads came; the query may begin; it is held;
-// the write was answered; the status of the write; the query's reply was as expected; how many waits gave up.
+// Holds a query at its snapshot until a write was answered.
 #[derive(Drop)]
 struct Held {
-    came: AtomicU64,
+    // how many threads started: the first queries, the second writes
+    started: AtomicU64,
+    // 1: the query may begin
     ready: AtomicU64,
+    // 1: the query is held
     held: AtomicU64,
+    // 1: the write was answered
     answered: AtomicU64,
+    // the status of the write
     status: AtomicU64,
+    // 1: the reply to the query was as expected
     same: AtomicU64,
+    // how many waits gave up
     faults: AtomicU64,
 }
 
 // Waits until a value is 1; false if it gave up.
-fn wait_for(word: &AtomicU64) -> bool {
-    for _turn in 0..TURNS {
-        if word.load(Ordering::SeqCst) == 1 {
+fn wait_for(flag: &AtomicU64) -> bool {
+    for _turn in 0..TRIES {
+        if flag.load(Ordering::SeqCst) == 1 {
             return true;
         }
     }
@@ -44,7 +50,7 @@ fn wait_for(word: &AtomicU64) -> bool {
 impl Held {
     fn new() -> Held {
         Held {
-            came: AtomicU64::new(0),
+            started: AtomicU64::new(0),
             ready: AtomicU64::new(0),
             held: AtomicU64::new(0),
             answered: AtomicU64::new(0),
@@ -54,8 +60,8 @@ impl Held {
         }
     }
 
-    fn wait(&self, word: &AtomicU64) {
-        if !wait_for(word) {
+    fn wait(&self, flag: &AtomicU64) {
+        if !wait_for(flag) {
             self.faults.fetch_add(1, Ordering::SeqCst);
         }
     }
@@ -155,7 +161,7 @@ fn act<D: Database, C: Ends, R: Wait + Threads + Sync>(
     gate: &Held,
     during: During,
 ) -> Seat<D, C> {
-    if gate.came.fetch_add(1, Ordering::SeqCst) == 0 {
+    if gate.started.fetch_add(1, Ordering::SeqCst) == 0 {
         ask(rt, alloc, seat, gate, during)
     } else {
         write(rt, alloc, seat, gate, during)

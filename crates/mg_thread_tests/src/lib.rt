@@ -1,4 +1,4 @@
-//! Tests with threads: shards that several threads read at the same time, seats on threads, seats that learn from each other, and a write
+//! Tests with threads: shards that several threads read at the same time, seats on threads, a seat that learns from another, and a write
 //! during a query; and calls of mg_index and mg_range that the program does not make. A failing test ends the process, as in mg_tests.
 #![tactic(auto)]
 

@@ -70,7 +70,7 @@ fn direction_of<R: Abort>(rt: &R, alloc: Global, body: &str) -> Direction {
 }
 
 #[test]
-fn directions_of_definitions(rt: HostRuntime) {
+fn a_definition_has_the_direction_of_its_fields(rt: HostRuntime) {
     let alloc = rt.alloc();
     let down = direction_of(&rt, alloc, r#"{"index":{"fields":[{"a":"desc"}]}}"#);
     let up = direction_of(&rt, alloc, r#"{"index":{"fields":["a"]}}"#);

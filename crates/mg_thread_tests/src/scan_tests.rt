@@ -46,7 +46,7 @@ impl BothBegin {
     }
 
     // Moves the shard on to its next state (0: not begun, 1: begun, 2: done). It is a fault if the shard was not in the state `from`.
-    fn passed(&self, shard: usize, from: u64) {
+    fn advance(&self, shard: usize, from: u64) {
         let state = if shard == 0 {
             &self.first
         } else {
@@ -72,12 +72,12 @@ impl Gate for BothBegin {
         match place {
             Place::Snapshot => {}
             Place::ShardBegun(shard) => {
-                self.passed(shard, 0);
+                self.advance(shard, 0);
                 self.begun.fetch_add(1, Ordering::SeqCst);
                 self.wait_for_both();
             }
             Place::ShardDone(shard) => {
-                self.passed(shard, 1);
+                self.advance(shard, 1);
                 self.done.fetch_add(1, Ordering::SeqCst);
             }
         }
@@ -108,7 +108,7 @@ fn id_at(lists: &[Vec<Row>], shard: usize, place: usize) -> Option<&str> {
 }
 
 // The rows that a search of all documents of the shards finds for an n above 1.
-fn found<R: Threads + Sync + Abort>(
+fn find_rows<R: Threads + Sync + Abort>(
     rt: &R,
     alloc: Global,
     shards: &[Arc<Shard>],
@@ -135,7 +135,7 @@ const FOUND: &[(usize, usize, Option<&str>)] = &[
 
 fn is_scanned<R: Threads + Sync + Abort>(rt: &R, alloc: Global, shards: &[Arc<Shard>]) -> bool {
     let gate = BothBegin::new();
-    let lists = found(rt, alloc, shards, &gate);
+    let lists = find_rows(rt, alloc, shards, &gate);
     for (shard, place, id) in FOUND {
         if id_at(&lists, *shard, *place) != *id {
             return false;

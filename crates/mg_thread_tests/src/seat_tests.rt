@@ -46,7 +46,8 @@ fn is_found<D: Database, C: Ends, R: Threads + Sync + Abort>(
     seat.find_with(rt, &query, 2, gate).body() == PAGE.as_bytes()
 }
 
-fn begun<D: Database + Send + Sync, R: Threads + Wait + Abort + Sync + Send + Drop + Copy>(
+// Writes the documents at the only seat of a database of two shards, and queries them there.
+fn run_query<D: Database + Send + Sync, R: Threads + Wait + Abort + Sync + Send + Drop + Copy>(
     rt: R,
     alloc: Global,
     blank: Blank,
@@ -85,5 +86,5 @@ fn begun<D: Database + Send + Sync, R: Threads + Wait + Abort + Sync + Send + Dr
 fn two_shards_begun_by_a_seat(rt: HostRuntime) {
     let alloc = rt.alloc();
     let db = string(&rt, alloc, "db");
-    begun::<Brand, _>(rt, alloc, Blank::new(1), CommitLog::new(), db)
+    run_query::<Brand, _>(rt, alloc, Blank::new(1), CommitLog::new(), db)
 }

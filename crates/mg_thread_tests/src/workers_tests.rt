@@ -56,7 +56,7 @@ impl AtOnce {
         self.faults.fetch_add(1, Ordering::SeqCst);
     }
 
-    fn passed(&self, shard: usize, from: u64) {
+    fn advance(&self, shard: usize, from: u64) {
         let Some(state) = self.states.get(shard) else {
             self.fault();
             return;
@@ -85,11 +85,11 @@ impl Gate for AtOnce {
         match place {
             Place::Snapshot => {}
             Place::ShardBegun(shard) => {
-                self.passed(shard, 0);
+                self.advance(shard, 0);
                 self.begin();
             }
             Place::ShardDone(shard) => {
-                self.passed(shard, 1);
+                self.advance(shard, 1);
                 self.done.fetch_add(1, Ordering::SeqCst);
                 self.being_read.fetch_sub(1, Ordering::SeqCst);
             }
@@ -106,7 +106,7 @@ fn four_shards<R: Threads + Sync + Abort>(rt: &R, alloc: Global) -> Engine<Md5Pl
 }
 
 // How many documents a scan with this number of workers finds.
-fn found<R: Threads + Sync + Abort>(
+fn count_rows<R: Threads + Sync + Abort>(
     rt: &R,
     alloc: Global,
     shards: &[Arc<Shard>],
@@ -140,7 +140,7 @@ fn is_scanned<R: Threads + Sync + Abort>(
     requires { (0 < workers) × (workers ≤ 32) }
 {
     let gate = AtOnce::new(workers as u64);
-    found(rt, alloc, shards, workers, &gate) == 3 && gate.is_passed()
+    count_rows(rt, alloc, shards, workers, &gate) == 3 && gate.is_passed()
 }
 
 #[test]

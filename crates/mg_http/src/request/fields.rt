@@ -8,7 +8,7 @@ ghost use Rattle.httparse.specs.Spans.{IsHeaderWithin, header_bytes};
 ghost use Rattle.mg_http.specs.Fields.{is_named, has_field, is_number, agrees_on_length, length_of, length_in, items_of, is_close, asks_close};
 ghost use Rattle.mg_http.specs.Significant.{significant};
 
-use crate::request::text::trim_blanks;
+use crate::request::text::trim_ows;
 use httparse::spans::HeaderSpan;
 
 /// The most bytes of a body.
@@ -150,7 +150,7 @@ fn has_close(value: &[u8]) -> bool
 {
     value
         .split(|b| *b == b',')
-        .any(|word| trim_blanks(word).eq_ignore_ascii_case(b"close"))
+        .any(|item| trim_ows(item).eq_ignore_ascii_case(b"close"))
 }
 
 /// Whether some Connection field asks to close the connection.

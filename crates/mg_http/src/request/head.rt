@@ -45,7 +45,7 @@ pub(crate) enum Pending {
     Message(Framed),
 }
 
-/// The refusal of the target, if the target is refused; else this one.
+/// The target's refusal if the target is refused, else `refusal`.
 fn refusal_before(refusal: Refusal, target: &RequestTarget) -> Refusal
     ensures { result ≡ refusal_before refusal (request_in target.now) }
 {
@@ -173,7 +173,7 @@ fn read_whole(
     }
 }
 
-/// Reads the head that at most 16,384 bytes begin with. `spans` is room for its fields: no more than 5,461 fit into these bytes.
+/// Reads the head that the bytes, at most 16,384, begin with. `spans` is room for its fields: no more than 5,461 fit into a head.
 pub(crate) fn read_head(
     alloc: Global,
     db: &str,

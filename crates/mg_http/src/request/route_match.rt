@@ -1,5 +1,5 @@
 //! Matches a path against the table of routes, segment by segment.
-ghost use Rattle.std.specs.Prelude.{◌≡◌, ◌==◌, ◌⊎◌, List, [], ◌∷◌, ◌++◌, map, length, option_to_list, IfOk, OnOk, find, if◌then◌else◌};
+ghost use Rattle.std.specs.Prelude.{◌≡◌, ◌==◌, ◌⊎◌, [], ◌∷◌, ◌++◌, map, length, option_to_list, IfOk, OnOk, find, if◌then◌else◌};
 ghost use Rattle.percent_encoding.specs.Percent.{percent_decode};
 ghost use Rattle.std.specs.Iterator.{YieldsFirstRef, item_count};
 ghost use Rattle.std.specs.List.{list_any};

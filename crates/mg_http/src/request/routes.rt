@@ -33,7 +33,7 @@ pub enum Action {
     DropDesignIndex,
 }
 
-/// One part of a path.
+/// A part of a route: one segment of its path.
 #[derive(Clone, Copy)]
 pub enum RouteSegment<'a> {
     /// Matches the segment that equals it, before percent-decoding.

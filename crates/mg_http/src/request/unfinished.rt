@@ -1,4 +1,4 @@
-//! Recognizes bytes that end within a target, which may go on, among bytes that the parser rejected.
+//! Recognizes bytes that end within a target. The parser rejects some of them, though the target may go on.
 ghost use Rattle.std.specs.Prelude.{◌≡◌, ◌↔◌, IsTrue, false};
 ghost use Rattle.std.specs.List.{list_all};
 ghost use Rattle.httparse.specs.Grammar.{EndsInTarget, is_token_byte, is_uri_byte};

@@ -1,12 +1,10 @@
 //! Answers one message.
-ghost use Rattle.std.specs.Prelude.{◌≡◌, ◌↔◌, ◌⊎◌, ℕ, List, ◌++◌, true, false, IsTrue, IsErrOf, IfErr, IfOk, Err, is_ok, if◌then◌else◌, Option};
-ghost use Rattle.std.specs.Io.KnownBytes.{Appends};
+ghost use Rattle.std.specs.Prelude.{◌≡◌, true, IfOk, Err, is_ok, if◌then◌else◌, Option};
 ghost use Rattle.mg_value.specs.Text.{Reads};
 ghost use Rattle.mg_value.specs.Value.{Value};
 ghost use Rattle.mg_engine.specs.Commands.{Answer};
 ghost use Rattle.mg_engine.specs.View.{asked};
 ghost use Rattle.mg_http.specs.Device.{inner_of, has_failed, WritesBytes};
-ghost use Rattle.mg_http.specs.Message.{Message};
 ghost use Rattle.mg_http.specs.Reply.{reply_text};
 ghost use Rattle.mg_http.specs.Session.{asked_by, HandlesBody, Handles};
 ghost use Rattle.mg_http.specs.Steps.{request_in};
@@ -23,7 +21,7 @@ use std::io::Write;
 use std::sync::Wait;
 use std::thread::Threads;
 
-/// Reads the body as JSON, as the command of the endpoint. The body of a bulk is read into one block.
+/// Reads the body as JSON, and returns the command of the endpoint for it. The body of a bulk is read into one block.
 ///
 /// Errors: those of `mg_value::read_in`.
 fn read_command(

@@ -1,6 +1,6 @@
 //! Holds what a session has read and not yet answered.
 ghost use Rattle.std.specs.Prelude.{◌≡◌, ◌↔◌, ℕ, List, [], ◌++◌, Ok, IfOk, IsErrOf, OnErr, OnOk, ◌<◌, ◌≤◌, ◌+◌, length, drop, vec_len, IsTrue, false};
-ghost use Rattle.std.specs.Io.KnownBytes.{Consumes, IsAtEnd, Keeps};
+ghost use Rattle.std.specs.Io.KnownBytes.{Consumes, IsAtEnd};
 ghost use Rattle.mg_http.specs.Device.{inner_of, has_failed};
 
 use crate::request::{Pending, Table, read_pending};
@@ -10,7 +10,7 @@ use mg_value::ReadBuffer;
 use std::alloc::{AllocError, Global};
 use std::io::Read;
 
-/// How many fields a head has at most: no more fit into 16,384 bytes. A head with more than 64 is refused after it is parsed.
+/// Room for the fields of a head: no more than 5,461 fit into 16,384 bytes. A head with more than 64 is refused after it is parsed.
 const SPANS: usize = 5_461;
 
 /// How many bytes the reader is asked for at a time.
@@ -68,7 +68,7 @@ impl Inbox {
 
     /// An empty inbox.
     ///
-    /// Errors: `AllocError` if an allocation fails.
+    /// Errors: out of memory.
     pub(crate) fn new(alloc: Global) -> Result<Inbox, AllocError>
         ensures held { IfOk result (λ inbox. unanswered inbox ≡ []) }
         ensures counts { IfOk result (λ inbox. (inbox.requests ≡ 0) × (inbox.reads ≡ 0)) }

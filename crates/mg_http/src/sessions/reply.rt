@@ -10,7 +10,7 @@ use itoa::Buffer;
 use mg_engine::{Refusal, Reply};
 use std::io::Write;
 
-/// The standard phrase of the status; empty for a status without one.
+/// The standard reason phrase of the status; empty if it has none.
 fn phrase(status: u16) -> &'static str
     ensures { result.now ≡ phrase_of status }
 {

@@ -20,7 +20,8 @@ impl<P: Placement + Drop> Solo<P> {
     /// If memory sufficed, it writes the transcript of what it read; after a failed write, or at the session's limit, a prefix of the
     /// transcript. Afterwards the engine stands for the world that the answered messages leave.
     ///
-    /// Errors: each error ends the session; see `SessionEnd`. Cost: that of the commands, and one pass over the bytes.
+    /// Errors: each error ends the session; see `SessionEnd`. Cost: that of the commands, and one pass over the bytes; a head that arrives
+    /// in several pieces is parsed again for each piece.
     pub fn serve<H: Wait + Threads + Sync, R: Read, W: Write>(
         &mut self,
         rt: &H,

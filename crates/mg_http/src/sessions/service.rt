@@ -54,7 +54,7 @@ pub struct SeatService<D: Database, C: Ends> {
 
 impl<D: Database, C: Ends> Service for SeatService<D, C> {
     // The answer is the seat's: a read is answered from what the seat has seen by then; a write, after a list of commits that begins
-    // with those that the seat had seen.
+    // with those that the seat had seen. If memory ran out, there is no commit.
     ghost answers = { λ old command answer new. Answered D.db old.seat command answer new.seat };
 
     fn ask<H: Wait + Threads + Sync>(&mut self, rt: &H, alloc: Global, command: Command) -> Reply {

@@ -3,7 +3,7 @@ use denote.Exit.{no}
 use denote.Param.Send.{arg_send, param_send}
 use Rattle.mg_live.proofs.Crossing.{seat_send, waiting_send}
 use Rattle.mg_live.specs.contracts.database.Waiting as Waiting
-use Rattle.mg_thread_tests.proofs.commit_tests.hundred.Goals as goal
+use Rattle.mg_thread_tests.proofs.commit_tests.run_four.Goals as goal
 
 -- seats may be sent to other threads
 pub map_vec-requires-send-J : goal.map_vec-requires-send-J

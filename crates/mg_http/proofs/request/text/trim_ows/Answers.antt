@@ -1,6 +1,6 @@
 use Rattle.std.proofs.Common.{rules}
 use Rattle.httparse.specs.Grammar.{trim_ows}
-use Rattle.mg_http.proofs.request.text.trim_blanks.Goals as goal
+use Rattle.mg_http.proofs.request.text.trim_ows.Goals as goal
 
 pub returns : goal.returns
 unfolding trim_ows
