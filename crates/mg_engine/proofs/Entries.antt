@@ -8,10 +8,10 @@ use Rattle.mg_doc.specs.declared.error.Refused.TheVariants.{BadHistory, Conflict
 use Rattle.mg_shard.specs.Edits.{id_in}
 use Rattle.mg_engine.specs.Bulk.{entries_of, entry_before, entry_of, refused_entry}
 use Rattle.mg_engine.specs.Outcomes.{entries_seen, reply_in, id_seen}
-use Rattle.mg_engine.specs.declared.bulk.apply.EditEntry.{EditEntry}
+use Rattle.mg_engine.specs.declared.bulk.apply.EditOutcome.{EditOutcome}
 
 -- the entries by the outcomes are those by the edits, if both have the same ids
-pub by_ids : (b : Bool) (es : List Edit) (os : List EditEntry) → map id_in es ≡ map id_seen os → entries_of b es (map reply_in os) ≡ entries_seen b os
+pub by_ids : (b : Bool) (es : List Edit) (os : List EditOutcome) → map id_in es ≡ map id_seen os → entries_of b es (map reply_in os) ≡ entries_seen b os
 by_ids b [] [] h = refl
 by_ids b [] (o ∷ os) h = absurd cc
 by_ids b (e ∷ es) [] h = absurd cc
@@ -21,13 +21,13 @@ by_ids b (e ∷ es) (o ∷ os) h =
     ap₂ (λ i vs. entry_before (entry_of b i (reply_in o)) vs) id (by_ids b es os rest)
 
 -- a refused edit has an entry, whether edits are new or not
-pub conflict_told : (b : Bool) (id : List ℕ) → entry_of b id (Err Conflict) ≡ Some (refused_entry (codes "conflict") id (codes "Document update conflict."))
-conflict_told true id = refl
-conflict_told false id = refl
+pub conflict_has_entry : (b : Bool) (id : List ℕ) → entry_of b id (Err Conflict) ≡ Some (refused_entry (codes "conflict") id (codes "Document update conflict."))
+conflict_has_entry true id = refl
+conflict_has_entry false id = refl
 
-pub bad_history_told : (b : Bool) (id : List ℕ) → entry_of b id (Err BadHistory) ≡ Some (refused_entry (codes "bad_history") id (codes "Revision history does not fit the document."))
-bad_history_told true id = refl
-bad_history_told false id = refl
+pub bad_history_has_entry : (b : Bool) (id : List ℕ) → entry_of b id (Err BadHistory) ≡ Some (refused_entry (codes "bad_history") id (codes "Revision history does not fit the document."))
+bad_history_has_entry true id = refl
+bad_history_has_entry false id = refl
 
 -- the tokens of a value, in front of those of the items that follow
 pub tokens_before : (old new : List Token) (v : Value) → new ≡ old ++ tokens_of v → (vs : Items) → new ++ items_tokens_of vs ≡ old ++ items_tokens_of (item v vs)

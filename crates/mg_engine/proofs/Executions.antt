@@ -7,17 +7,12 @@ use Rattle.mg_engine.specs.View.{asked, said}
 use Rattle.mg_engine.specs.declared.command.Command.{Command}
 use Rattle.mg_engine.specs.declared.reply.Reply.{Reply}
 use Rattle.mg_engine.specs.World.{World}
-use Rattle.mg_engine.specs.Commands.{Asked, Answer, reply_of, next}
+use Rattle.mg_engine.specs.Commands.{Asked, Answer, next}
 use Rattle.mg_engine.specs.Execution.{IsExecution, Answers}
 
 -- the rest of a list from the item at i begins with this item
 pub drop_item : {A : Type 0} (xs : List A) (i : ℕ) (x : A) → i < length xs → x ≡ get_or xs i x → drop i xs ≡ x ∷ drop (i + 1) xs
 drop_item xs i x h e = drop-cons xs i x h ∙ rw (add-one, ← e)
-
--- a command is answered if the reply is the definition's and the end is the world that the command leaves
-pub answered : (w : World) (c : Asked) (o : Option Answer) (ends : World → Type 0) → o ≡ Some (reply_of w c) → ends (next w c) → Answers w c o ends
-answered w c None ends e h = absurd cc
-answered w c (Some a) ends e h = (cc, h)
 
 -- the execution of no commands
 over : (w : World) (ends : World → Type 0) → ends w → IsExecution w [] [] ends

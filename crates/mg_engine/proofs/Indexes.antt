@@ -44,16 +44,6 @@ have_rows ds [] h k x lt = absurd (omega arith)
 have_rows ds (s ∷ ss) h zero x lt = h zero s (omega arith)
 have_rows ds (s ∷ ss) h (suc k) x lt = have_rows ds ss (λ k x lt. h (suc k) x (omega arith)) k x (omega arith)
 
-pub same_number_of : (ss ts : List ShardView) → definitions_of ss ≡ definitions_of ts → length ss ≡ length ts
-same_number_of [] [] e = refl
-same_number_of [] (t ∷ ts) e = absurd cc
-same_number_of (s ∷ ss) [] e = absurd cc
-same_number_of (s ∷ ss) (t ∷ ts) e = ap suc (same_number_of ss ts (ap (λ xs. but_first xs) e))
-  where
-    but_first : List (List IndexDefinition) → List (List IndexDefinition)
-    but_first [] = []
-    but_first (x ∷ xs) = xs
-
 -- the rows of shards that are all changed in the same way
 pub changed_rows : (f : ShardView → ShardView) (g : List IndexDefinition → List IndexDefinition) (ds : List IndexDefinition) (ss : List ShardView)
     → ((s : ShardView) → (f s).definitions ≡ g s.definitions) → HaveRows ds ss → HaveRows (g ds) (map f ss)

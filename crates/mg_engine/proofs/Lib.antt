@@ -7,6 +7,6 @@ mod Numbers
 mod Reading
 mod Resharding
 mod Pages
-mod Ahead
+mod Preparing
 pub mod Objects
 mod Entries

@@ -31,7 +31,7 @@ pub record Bulk : Type 0 where
 abbrev pub of_objects : Bool → Items → Option Bulk
 of_objects new_edits vs = if are_objects vs then Some (record { new_edits = new_edits; documents = vs }) else None
 
--- `docs`, an array of objects, and `new_edits`, true or false, and true where it is absent
+-- a bulk with these two members: `docs` has to be an array of objects, and `new_edits` true or false; if it is absent, edits are new
 abbrev pub shaped : Option Value → Option Value → Option Bulk
 shaped (Some (list vs)) None = of_objects true vs
 shaped (Some (list vs)) (Some (flag b)) = of_objects b vs

@@ -37,18 +37,18 @@ asked_from (inr (inr (inl p))) = get p.0 p.1
 asked_from (inr (inr (inr n))) = list_indexes
 
 -- what a command carries gives the command back
-pub again : (c : Asked) → asked_from (parts_of c) ≡ c
-again (bulk v) = refl
-again (create_index v) = refl
-again (find v) = refl
-again (explain v) = refl
-again (reshard v) = refl
-again (drop_index ddoc name) = refl
-again (get id conflicts) = refl
-again list_indexes = refl
+pub asked_from_parts : (c : Asked) → asked_from (parts_of c) ≡ c
+asked_from_parts (bulk v) = refl
+asked_from_parts (create_index v) = refl
+asked_from_parts (find v) = refl
+asked_from_parts (explain v) = refl
+asked_from_parts (reshard v) = refl
+asked_from_parts (drop_index ddoc name) = refl
+asked_from_parts (get id conflicts) = refl
+asked_from_parts list_indexes = refl
 
 -- how the logic stores a command
 abbrev pub asked_code : Coded Asked
 asked_code =
     code_by (Bodies ⊎ Names) (coded⊎ (coded⊎ (coded⊎ value_code value_code) (coded⊎ value_code (coded⊎ value_code value_code))) (coded⊎ (coded× (coded_list coded_ℕ) (coded_list coded_ℕ)) (coded⊎ (coded× (coded_list coded_ℕ) coded_bool) coded_ℕ)))
-    parts_of asked_from again
+    parts_of asked_from asked_from_parts

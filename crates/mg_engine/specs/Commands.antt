@@ -96,7 +96,7 @@ refusal_of_index index_fault.Shape = WrongShape
 refusal_of_index index_fault.Mixed = MixedSort
 refusal_of_index index_fault.NoMemory = OutOfMemory
 
--- the answer to a definition that was read, or why it was not
+-- the answer to `create_index`, by the definition in its body, or by the fault of the body
 abbrev pub created : World → Result IndexDefinition IndexError → Answer
 created w (Ok d) = done (index_value d (if is_there d w.indexes then codes "exists" else codes "created"))
 created w (Err e) = refused (refusal_of_index e)
@@ -161,7 +161,7 @@ got id conflicts None = refused Missing
 
 -- ---- `_placement`
 
--- the answer to a number of shards that was read, or to a body of another shape
+-- the answer to `reshard`, by the number of shards in its body; `None`: the body has another shape
 abbrev pub resharded : Option ℕ → Answer
 resharded (Some n) = done done_value
 resharded None = refused WrongShape

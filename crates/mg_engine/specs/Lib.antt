@@ -4,7 +4,7 @@ pub mod Bulk
 pub mod Reshard
 pub mod Commands
 pub mod Code
-pub mod Ahead
+pub mod Prepared
 pub mod Bodies
 pub mod View
 pub mod BulkView

@@ -5,17 +5,17 @@ use Rattle.mg_revtree.specs.Revision.{Revision}
 use Rattle.mg_doc.specs.declared.error.Refused.{Refused}
 use Rattle.mg_shard.specs.Edits.{outcome_seen}
 use Rattle.mg_engine.specs.Bulk.{entry_before, entry_of}
-use Rattle.mg_engine.specs.declared.bulk.apply.EditEntry.{EditEntry}
+use Rattle.mg_engine.specs.declared.bulk.apply.EditOutcome.{EditOutcome}
 
 -- the id of the edit
-abbrev pub id_seen : EditEntry → List ℕ
+abbrev pub id_seen : EditOutcome → List ℕ
 id_seen o = string_bytes o.id
 
 -- what became of the edit
-abbrev pub reply_in : EditEntry → Result Revision Refused
+abbrev pub reply_in : EditOutcome → Result Revision Refused
 reply_in o = outcome_seen o.reply
 
 -- the entries of the reply, by the outcomes of the edits
-abbrev pub entries_seen : Bool → List EditEntry → Items
+abbrev pub entries_seen : Bool → List EditOutcome → Items
 entries_seen new_edits [] = no_items
 entries_seen new_edits (o ∷ os) = entry_before (entry_of new_edits (id_seen o) (reply_in o)) (entries_seen new_edits os)

@@ -1,4 +1,4 @@
--- Resharding, a command of this project's own: how many shards a body asks for. The world does not know shards.
+-- Resharding, a command of this project's own: how many shards a body asks for. A world has no shards.
 use Rattle.std.specs.Prelude.{ℕ, pos, ◌&&◌, codes, Option, Some, None, if◌then◌else◌, nat_le}
 use Rattle.mg_value.specs.Value.{Value, whole, member_of}
 

@@ -23,15 +23,15 @@ accepts r = option_map_or is_accepted (said r) false
 abbrev pub IsSettled : {X : Type 0} → Reply → Option X → Type 0
 IsSettled r next = is_some next ≡ accepts r
 
--- a shard without an index
+-- a shard without the index of this design document and name
 abbrev pub shard_without : List ℕ → List ℕ → ShardView → ShardView
 shard_without ddoc name s = record s { definitions = without_definition ddoc name s.definitions }
 
--- a state with an index on all its shards
+-- a state with this index on each of its shards
 abbrev pub state_with : IndexDefinition → StateView → StateView
 state_with d s = record s { catalog = with_definition d s.catalog; shards = map (with_index d) s.shards }
 
--- a state without an index on any of its shards
+-- a state without the index of this design document and name, on each of its shards
 abbrev pub state_without : List ℕ → List ℕ → StateView → StateView
 state_without ddoc name s = record s { catalog = without_definition ddoc name s.catalog; shards = map (shard_without ddoc name) s.shards }
 

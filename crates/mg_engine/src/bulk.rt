@@ -2,7 +2,7 @@
 ghost use Rattle.std.specs.Prelude.{◌≡◌, IfOk, Some, true, length, unwrap_or};
 ghost use Rattle.mg_engine.specs.Commands.{Asked, bulk, edits_effect, next, reply_of};
 ghost use Rattle.mg_engine.specs.Objects.{BringObjects};
-ghost use Rattle.mg_engine.specs.Ahead.{Determines};
+ghost use Rattle.mg_engine.specs.Prepared.{Determines};
 ghost use Rattle.mg_engine.specs.Settled.{IsSettled, accepts};
 ghost use Rattle.mg_engine.specs.Stands.{StateStandsFor};
 ghost use Rattle.mg_engine.specs.View.{said};
@@ -26,7 +26,9 @@ use reply::entries_line;
 use std::alloc::Global;
 
 impl State {
-    /// Executes a bulk. Returns the reply, and the next state (`None` if the bulk is refused). Cost: its documents, read in place.
+    /// Executes a bulk, whose documents are read in place. Returns the reply, and the next state (`None` if the bulk is refused).
+    ///
+    /// Errors: `NoMemory` if an allocation fails. Cost: that of `ReadBulk::of` and of `apply`.
     pub(crate) fn bulk<P: Placement>(
         &self,
         alloc: Global,
@@ -44,7 +46,9 @@ impl State {
         self.apply(alloc, placement, read)
     }
 
-    /// Executes a bulk whose body was read. The contract holds for every command that `read` determines. Cost: its documents.
+    /// Executes a bulk whose body was read. The contract holds for every command that `read` determines.
+    ///
+    /// Errors: `NoMemory` if an allocation fails. Cost: that of `apply_edits`, and the length of the reply.
     pub(crate) fn apply<P: Placement>(
         &self,
         alloc: Global,

@@ -73,7 +73,7 @@ impl State {
         Ok((Reply::Full { status: 200, body }, next))
     }
 
-    // The state with a definition. If the catalog has it already (`there`), this is a second state that shares all parts of this one.
+    // The state with a definition. If the catalog has it already (`there`), the result shares all parts of this state.
     fn with_definition<R: Threads + Sync, G>(
         &self,
         context: &Context<'_, R, G>,

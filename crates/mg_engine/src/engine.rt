@@ -59,11 +59,13 @@ impl<P: Placement + Drop> Engine<P> {
 
     /// Executes one command and returns its reply. If an allocation fails, the reply is `NoMemory` and nothing changes.
     ///
-    /// The number of workers, 1 to 32, does not change the reply. It is a maximum: a query that is not worth a second thread runs on
-    /// the thread of the caller.
+    /// The number of workers, 1 to 32, does not change the reply. For a query it is a maximum: one that is not worth a second thread runs
+    /// on the thread of the caller. With one worker, a new index and a reshard start no thread; with more, they may start more threads
+    /// than workers, as `mg_scan::build` and `mg_shard::redeal` say.
     ///
-    /// Cost: a bulk costs its edits, each with its document and its rows. A query costs its page if an index serves it, otherwise the
-    /// documents that it looks at until the page is found. A new index, or another number of shards, costs every document.
+    /// Cost: a bulk costs its edits, each with its document and its rows. A query costs its page, and the rows of its index that it reads
+    /// until the page is found; if no index serves it, the documents that it reads. A new index, or another number of shards, costs every
+    /// document.
     pub fn step<R: Threads + Sync>(
         &mut self,
         rt: &R,

@@ -1,6 +1,6 @@
-//! Prepared commands: the documents of a bulk are read before the command is executed. To read them, no state is needed.
+//! Prepared commands: the documents of a bulk are read before the command is executed, since this needs no state.
 ghost use Rattle.std.specs.Prelude.{◌≡◌, IfOk};
-ghost use Rattle.mg_engine.specs.Ahead.{Does};
+ghost use Rattle.mg_engine.specs.Prepared.{Does};
 ghost use Rattle.mg_engine.specs.View.{asked};
 
 use crate::bulk::ReadBulk;
@@ -10,7 +10,7 @@ use std::alloc::Global;
 use std::marker::Model;
 use std::snapshot::Snapshot;
 
-/// A command whose bulk, if it is one, was read into edits. Contracts see it as what the command asks.
+/// A command to be executed. If it is a bulk, its documents are already read into edits. Contracts see what the command asks.
 #[derive(Drop)]
 pub struct Prepared {
     /// The command as it was given. It has no bytes: only contracts see it.
@@ -35,7 +35,7 @@ impl Model for Prepared {
 
     ghost coded = { asked_code };
 
-    ghost use Rattle.mg_engine.specs.Ahead.{Does};
+    ghost use Rattle.mg_engine.specs.Prepared.{Does};
     ghost use Rattle.mg_engine.specs.View.{asked};
 
     ghost view = { λ p. asked p.given.value };
@@ -47,7 +47,7 @@ impl Prepared {
     /// Reads a bulk before it is executed: its documents are read into edits, and its body is dropped. Other commands stay as they are.
     /// This needs no engine, and therefore no lock on one.
     ///
-    /// Errors: `NoMemory` if an allocation fails. Cost: for a bulk that of `Edit::read` for each document, otherwise nothing.
+    /// Errors: `NoMemory` if an allocation fails. Cost: that of `Edit::read` for each document of a bulk; constant for any other command.
     pub fn of(alloc: Global, command: Command) -> Result<Prepared, NoMemory>
         ensures { IfOk result (λ p. p ≡ asked command) }
     {

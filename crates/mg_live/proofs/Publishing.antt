@@ -2,7 +2,6 @@
 use Rattle.std.proofs.Common.{◌≡◌, ◌≢◌, ℕ, ◌+◌, Bool, true, false, List, [], ◌∷◌, ◌++◌, inl, inr, Option, Some, None, length, refl, ap, sym, ◌∙◌, subst, arith}
 use Rattle.std.proofs.lemmas.List.{length-map, map-append}
 use Rattle.std.proofs.lemmas.Bool.Decides.{nat_tests}
-use Rattle.std.specs.Arc.{arc_value}
 use Rattle.logbook.specs.Pages.{Book}
 use Rattle.mg_engine.specs.Commands.{Asked, Answer, refused}
 use Rattle.mg_engine.specs.Settled.{accepts, is_accepted}
@@ -13,37 +12,19 @@ use Rattle.mg_engine.specs.declared.reply.Reply.{Reply}
 use Rattle.mg_machine.specs.Laws.{IsPrefix}
 use Rattle.mg_machine.specs.Machine.{Commit, after_write, are_full, write_reply}
 use Rattle.mg_machine.specs.Points.{IsAfter, IsDealt}
-use Rattle.mg_live.specs.Published.{Nexts, Publishes, Standing}
-use Rattle.mg_live.specs.Snapshots.{StandsAfter, IsOf, commits_of}
+use Rattle.mg_live.specs.Published.{Publishes, Standing, WriteLeaves}
+use Rattle.mg_live.specs.Snapshots.{StandsAfter, IsSnapshotOf, commits_of}
 use Rattle.mg_live.specs.SeatView.{IsLater, Learned, SeatView, SeatWrites}
 use Rattle.mg_live.specs.Rules.{log_entry}
 use Rattle.mg_live.specs.View.{commit_seen, commits_seen}
 use Rattle.mg_live.specs.declared.markers.Entry.{Entry}
-use Rattle.mg_live.specs.declared.commit_log.Prefix.{Prefix}
 use Rattle.mg_machine.specs.declared.point.Point.{Point}
 use Rattle.mg_live.specs.declared.snapshot.Snapshot.{Snapshot}
 use Rattle.mg_machine.proofs.Beginnings.{itself, two}
 use Rattle.mg_live.proofs.Prefixes.{longer_second}
 
--- ---- the same snapshot in another place
-
--- a point with the same engine and the same number of commits stands after the same commits
-same_point : {P : Type 0} {place : P → List ℕ → ℕ → ℕ} (name : List ℕ) (p q : Point P) (cs : List Commit) → IsAfter place name p cs → arc_value q.engine ≡ arc_value p.engine → q.commits ≡ p.commits → IsAfter place name q cs
-same_point name p q cs at engine commits = record {
-  engine = rw engine at.engine;
-  commits = commits ∙ at.commits;
-}
-
-pub same_snapshot : {P : Type 0} {place : P → List ℕ → ℕ → ℕ} (book : Book) (name : List ℕ) (opened : ℕ) (s t : Snapshot P) → IsOf place book name opened s → t.prefix ≡ s.prefix → arc_value t.point.engine ≡ arc_value s.point.engine → t.point.commits ≡ s.point.commits → IsOf place book name opened t
-same_snapshot {place = place} book name opened s t is prefix engine commits =
-    let seen : commits_of t ≡ commits_of s = ap (λ (f : Prefix). commits_seen f.seen.log) prefix in record {
-      book = ap (λ f. f.seen.book) prefix ∙ is.book;
-      after = subst (λ (cs : List Commit). IsAfter place name t.point cs) (sym seen) (same_point name s.point t.point (commits_of s) is.after engine commits);
-      dealt = subst (λ (cs : List Commit). IsDealt opened t.point cs) (sym seen) (rw engine is.dealt);
-    }
-
 -- what a snapshot of this database shows
-pub stands_after : {P : Type 0} {place : P → List ℕ → ℕ → ℕ} (book : Book) (name : List ℕ) (opened : ℕ) (s : Snapshot P) → IsOf place book name opened s → StandsAfter place name opened s (commits_of s)
+pub stands_after : {P : Type 0} {place : P → List ℕ → ℕ → ℕ} (book : Book) (name : List ℕ) (opened : ℕ) (s : Snapshot P) → IsSnapshotOf place book name opened s → StandsAfter place name opened s (commits_of s)
 stands_after book name opened s is = record { commits = refl; stands = is.after.engine; shards = is.dealt }
 
 -- ---- a write
@@ -52,7 +33,7 @@ stands_after book name opened s is = record { commits = refl; stands = is.after.
 answered : (r : Reply) (a : Answer) (b : Bool) → said r ≡ Some a → accepts r ≡ b → is_accepted a ≡ b
 answered r a b is accepts = rw is at accepts
 
-pub refused_write : (name : List ℕ) (cs : List Commit) (seat : ℕ) (c : Asked) (r : Reply) → said r ≡ Some (write_reply name cs c) → accepts r ≡ false → Nexts name cs (seat, c) (said r) None
+pub refused_write : (name : List ℕ) (cs : List Commit) (seat : ℕ) (c : Asked) (r : Reply) → said r ≡ Some (write_reply name cs c) → accepts r ≡ false → WriteLeaves name cs (seat, c) (said r) None
 refused_write name cs seat c r is denied =
     let refuses : is_accepted (write_reply name cs c) ≡ false = answered r (write_reply name cs c) false is denied in
     rw is (refl, refuses)
@@ -77,7 +58,7 @@ more : (log after : List Entry) (seat : ℕ) (c : Command) → after ≡ log ++ 
 more log after seat c is = ap commits_seen is ∙ map-append commit_seen log (log_entry seat c ∷ [])
 
 pub one_more : (name : List ℕ) (log after : List Entry) (seat : ℕ) (c : Command) (r : Reply) → said r ≡ Some (write_reply name (commits_seen log) (asked c)) → accepts r ≡ true → after ≡ log ++ log_entry seat c ∷ []
-    → Nexts name (commits_seen log) (seat, asked c) (said r) (Some (commits_seen after))
+    → WriteLeaves name (commits_seen log) (seat, asked c) (said r) (Some (commits_seen after))
 one_more name log after seat c r is taken added =
     let cs = commits_seen log in
     let accepted : is_accepted (write_reply name cs (asked c)) ≡ true = answered r (write_reply name cs (asked c)) true is taken in
@@ -102,12 +83,12 @@ dealt name opened log after seat c r p is taken added at =
     subst (λ (ds : List Commit). IsDealt opened p ds) (sym (more log after seat c added)) now
 
 -- the commits after a write that leaves a snapshot
-pub added : (name : List ℕ) (cs : List Commit) (write : Commit) (o : Option Answer) (new : List Commit) → Nexts name cs write o (Some new) → new ≡ cs ++ write ∷ []
+pub added : (name : List ℕ) (cs : List Commit) (write : Commit) (o : Option Answer) (new : List Commit) → WriteLeaves name cs write o (Some new) → new ≡ cs ++ write ∷ []
 added name cs write None new h = absurd h
 added name cs write (Some a) new h = h.2
 
 -- what an accepted write does to the published commits, to what its seat has seen, and to the seat's tally
-pub published : (name : List ℕ) (write : Commit) (old new : Standing) (o : Option Answer) → IsPrefix old.seen old.published → Nexts name old.published write o (Some new.published) → new.seen ≡ new.published
+pub published : (name : List ℕ) (write : Commit) (old new : Standing) (o : Option Answer) → IsPrefix old.seen old.published → WriteLeaves name old.published write o (Some new.published) → new.seen ≡ new.published
     → new.tally ≡ old.tally + 1 → Publishes name write old o new
 published name write old new None later h seen tally = absurd h
 published name write old new (Some a) later h seen tally =

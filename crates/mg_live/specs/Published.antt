@@ -8,12 +8,12 @@ use Rattle.mg_live.specs.View.{commits_seen}
 use Rattle.mg_live.specs.SeatView.{tally_after}
 use Rattle.mg_live.specs.declared.commit_log.Prefix.{Prefix}
 
--- the reply to a write after commits, and the commits after it if it is accepted
-abbrev pub Nexts : List ℕ → List Commit → Commit → Option Answer → Option (List Commit) → Type 0
-Nexts name cs write None None = Unit {0}
-Nexts name cs write None (Some new) = ⊥
-Nexts name cs write (Some a) None = (a ≡ write_reply name cs write.1) × (is_accepted a ≡ false)
-Nexts name cs write (Some a) (Some new) = (a ≡ write_reply name cs write.1) × (is_accepted a ≡ true) × (new ≡ cs ++ write ∷ [])
+-- a write after these commits gets this answer and, if it is accepted, leaves these new commits; or memory was refused
+abbrev pub WriteLeaves : List ℕ → List Commit → Commit → Option Answer → Option (List Commit) → Type 0
+WriteLeaves name cs write None None = Unit {0}
+WriteLeaves name cs write None (Some new) = ⊥
+WriteLeaves name cs write (Some a) None = (a ≡ write_reply name cs write.1) × (is_accepted a ≡ false)
+WriteLeaves name cs write (Some a) (Some new) = (a ≡ write_reply name cs write.1) × (is_accepted a ≡ true) × (new ≡ cs ++ write ∷ [])
 
 -- the published commits, what a seat has seen of them, and its tally
 pub record Standing : Type 0 where

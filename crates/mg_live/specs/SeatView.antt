@@ -35,7 +35,7 @@ pub record IsLater (old new : SeatView) : Type 0 where
 
 -- ---- reading
 
--- the seat may see more commits, and the reply is right after those that it has then seen; or memory was refused
+-- the seat may see more commits, and the reply is the definition's after those that it has then seen; or memory was refused
 abbrev pub SeatReads : List ℕ → SeatView → Asked → Option Answer → SeatView → Type 0
 SeatReads name old c None new = IsLater old new
 SeatReads name old c (Some a) new = IsLater old new × (a ≡ reply_of (world_of name new.seen) c)
@@ -84,8 +84,8 @@ abbrev pub all_tallies : List SeatView → ℕ
 all_tallies seats = sum_by (λ s. s.tally) seats
 
 -- some seat has seen more than `made` commits
-abbrev pub IsAhead : List SeatView → ℕ → Type 0
-IsAhead seats made = Any (λ s. made < length s.seen) seats
+abbrev pub HasSeenMore : List SeatView → ℕ → Type 0
+HasSeenMore seats made = Any (λ s. made < length s.seen) seats
 
 -- the commits of all seats: what each seat has seen is a prefix of them, and their number is the sum of the tallies
 pub record AreAll (commits : List Commit) (seats : List SeatView) (n : ℕ) : Type 0 where

@@ -18,7 +18,7 @@ state_of s = (arc_value s.point.engine).1
 
 -- a snapshot of the database with this commit log and name, whose documents are placed by `place` and which was opened with `opened`
 -- shards: its point is the one after its commits
-pub record IsOf {P : Type 0} (place : P → List ℕ → ℕ → ℕ) (log : Book) (name : List ℕ) (opened : ℕ) (s : Snapshot P) : Type 0 where
+pub record IsSnapshotOf {P : Type 0} (place : P → List ℕ → ℕ → ℕ) (log : Book) (name : List ℕ) (opened : ℕ) (s : Snapshot P) : Type 0 where
   pub book : s.prefix.seen.book ≡ log
   pub after : IsAfter place name s.point (commits_of s)
   pub dealt : IsDealt opened s.point (commits_of s)

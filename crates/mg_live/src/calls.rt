@@ -17,7 +17,7 @@ use mg_value::Json;
 use std::sync::Wait;
 use std::thread::Threads;
 
-// Each call is answered as `Seat::answer` answers its command.
+// Each call makes a command from copies of its arguments, and is answered as `Seat::answer` answers that command.
 impl<D: Database, C: Ends, P: Placement + Drop> Seat<D, C, P>
 where
     Snapshot<P>: Absorb<(), State = ()>,
@@ -80,7 +80,8 @@ where
         }
     }
 
-    /// Applies a bulk of edits, on the thread of the caller. `workers` is 1 to 32 and has no effect.
+    /// Applies a bulk of edits, on the thread of the caller. `workers` is 1 to 32 and has no effect. The body is packed first; one that
+    /// would take more than 4,294,967,295 bytes is answered with `NoMemory`.
     pub fn bulk<R: Wait + Threads + Sync>(&mut self, rt: &R, body: &Json, workers: usize) -> Reply
         requires some { 1 ≤ workers }
         requires most { workers ≤ 32 }
@@ -130,7 +131,8 @@ where
         }
     }
 
-    /// Deals the documents to another number of shards, by 1 to 32 workers. This changes no other reply.
+    /// Deals the documents to the number of shards that the body asks for. This changes no other reply. With one worker no thread is
+    /// started; with 2 to 32, each new shard may be made by a thread of its own, as `mg_shard::redeal` says.
     pub fn reshard<R: Wait + Threads + Sync>(
         &mut self,
         rt: &R,

@@ -5,7 +5,7 @@ ghost use Rattle.mg_engine.specs.View.{asked, said};
 ghost use Rattle.mg_machine.specs.Laws.{IsPrefix};
 ghost use Rattle.mg_live.specs.Published.{Publishes, standing};
 ghost use Rattle.mg_live.specs.Rules.{log_word_of};
-ghost use Rattle.mg_live.specs.Snapshots.{IsOf, IsPublished, commits_of};
+ghost use Rattle.mg_live.specs.Snapshots.{IsPublished, IsSnapshotOf, commits_of};
 ghost use Rattle.mg_live.specs.View.{commits_seen};
 
 use crate::commit_log::{LogWord, Prefix, Write};
@@ -44,12 +44,12 @@ where
 
     ghost coded = { commits_code };
 
-    ghost use Rattle.mg_live.specs.Snapshots.{IsOf, commits_of};
+    ghost use Rattle.mg_live.specs.Snapshots.{IsSnapshotOf, commits_of};
 
     ghost view = { λ d. commits_of d.writer.desk.shown.value };
 
     ghost invariant = { λ d. (d.tally_book.total ≡ length (commits_of d.writer.desk.shown.value))
-        × IsOf P.place D.commit_log D.db D.shards d.writer.desk.shown.value };
+        × IsSnapshotOf P.place D.commit_log D.db D.shards d.writer.desk.shown.value };
 }
 
 impl<D: Database, C: Ends, P: Placement + Drop> Drop for Desk<D, C, P>
@@ -73,7 +73,7 @@ where
     // A desk with no commit.
     pub(crate) fn new(ends: C, writer: SnapshotWriter<D, P>, tally_book: Book<D>) -> Desk<D, C, P>
         requires empty { (commits_of writer.desk.shown.value ≡ []) × (tally_book.total ≡ 0) }
-        requires here { IsOf P.place D.commit_log D.db D.shards writer.desk.shown.value }
+        requires here { IsSnapshotOf P.place D.commit_log D.db D.shards writer.desk.shown.value }
         ensures { result ≡ [] }
     {
         Desk {
@@ -86,7 +86,7 @@ where
     // Executes a write of a seat, after all published commits, and returns its reply. If it is accepted, it is published in one step,
     // and the seat's tally counts it. Unless memory was refused, the seat has then seen what is published. All memory is taken before the
     // commit is in the commit log, and nothing after that can fail. The snapshot that is replaced comes back with the reply, so that the
-    // caller can drop it without the lock.
+    // caller can drop it without the lock. A seat that has seen more commits than are published gets `NoMemory`.
     pub(crate) fn write<R: Wait + Threads + Sync>(
         &mut self,
         rt: &R,
@@ -126,7 +126,7 @@ where
         (reply, Some(before))
     }
 
-    // Lets a seat catch up with what is published. Returns false, and changes nothing, if the seat is ahead of it.
+    // Lets a seat catch up with what is published. Returns false, and changes nothing, if the seat has seen more commits than that.
     pub(crate) fn catch_up(&self, prefix: &mut Prefix) -> bool
         requires { prefix.old.seen.book ≡ D.commit_log }
         ensures here { prefix.new.seen.book ≡ D.commit_log }
@@ -142,8 +142,8 @@ where
         true
     }
 
-    // The number of commits, which all parts of the ledger count together. What a seat has seen, if it is no longer than this number,
-    // is a prefix of the published commits.
+    // The number of published commits, which all parts of the ledger count together. The prefix `seen` is not longer, so the published
+    // commits begin with it.
     pub(crate) fn count_commits(&mut self, all: &mut Share<D>, seen: &Prefix) -> u64
         requires parts { all.old.parts ≡ D.parts }
         requires here { seen.now.seen.book ≡ D.commit_log }

@@ -2,7 +2,7 @@
 ghost use Rattle.std.specs.Prelude.{◌≡◌, ◌≢◌, ◌≤◌, ◌+◌, [], List, All, IfErr, IfOk, MatchBool, OnOk, length, vec_len};
 ghost use Rattle.mg_machine.specs.Laws.{IsPrefix};
 ghost use Rattle.mg_machine.specs.Machine.{Commit};
-ghost use Rattle.mg_live.specs.SeatView.{AreAll, IsAhead, all_tallies, new_seats};
+ghost use Rattle.mg_live.specs.SeatView.{AreAll, HasSeenMore, all_tallies, new_seats};
 ghost use Rattle.mg_live.specs.View.{commits_seen};
 ghost use Rattle.mg_live.specs.declared.live.CloseError.TheVariants.{Ahead, Missing};
 
@@ -94,7 +94,7 @@ impl Closed {
     }
 }
 
-// Makes what an empty database with this name begins with.
+// Makes the `Start` of an empty database with this name.
 fn begin<D: Database, C: Ends, P: Placement + Drop>(
     ends: C,
     alloc: Global,
@@ -155,10 +155,13 @@ where
 }
 
 // Whether a seat has seen more than `made` commits.
-fn is_ahead<D: Database, C: Ends, P: Placement + Drop>(seats: &[Seat<D, C, P>], made: u128) -> bool
+fn has_seen_more<D: Database, C: Ends, P: Placement + Drop>(
+    seats: &[Seat<D, C, P>],
+    made: u128,
+) -> bool
 where
     Snapshot<P>: Absorb<(), State = ()>,
-    ensures { MatchBool result (IsAhead seats.now made) (All (λ s. length s.seen ≤ made) seats.now) }
+    ensures { MatchBool result (HasSeenMore seats.now made) (All (λ s. length s.seen ≤ made) seats.now) }
 {
     for seat in seats {
         if u128::from(seat.prefix.len()) > made {
@@ -280,13 +283,13 @@ where
         ensures whole { OnOk result (vec_len seats ≡ self) }
         ensures back { IfErr result (λ r. (r.0 ≡ self) × (r.1 ≡ seats)) }
         ensures missing { IfErr result (λ r. r.2 ≡ Missing → vec_len seats ≢ self) }
-        ensures ahead { IfErr result (λ r. r.2 ≡ Ahead → IsAhead seats.items (all_tallies seats.items)) }
+        ensures ahead { IfErr result (λ r. r.2 ≡ Ahead → HasSeenMore seats.items (all_tallies seats.items)) }
     {
         if seats.len() != self.seats {
             return Err((self, seats, CloseError::Missing));
         }
         let made = all_made(seats.as_slice());
-        if is_ahead(seats.as_slice(), made) {
+        if has_seen_more(seats.as_slice(), made) {
             return Err((self, seats, CloseError::Ahead));
         }
         let seen = longest(&self.empty, seats.as_slice(), made);

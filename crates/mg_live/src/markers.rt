@@ -73,15 +73,15 @@ pub struct Ours<D, P> {
 }
 
 impl<D: Database, P: Placement> Protocol<Snapshot<P>, ()> for Ours<D, P> {
-    ghost use Rattle.mg_live.specs.Snapshots.{IsOf};
+    ghost use Rattle.mg_live.specs.Snapshots.{IsSnapshotOf};
 
-    ghost holds = { λ x views. IsOf P.place D.commit_log D.db D.shards x };
+    ghost holds = { λ x views. IsSnapshotOf P.place D.commit_log D.db D.shards x };
 
     ghost first = { tt };
 }
 
 impl<D: Database, P: Placement> Outcome<Snapshot<P>, ()> for Ours<D, P> {
-    ghost use Rattle.mg_live.specs.Snapshots.{IsOf};
+    ghost use Rattle.mg_live.specs.Snapshots.{IsSnapshotOf};
 
-    ghost then = { λ v x y w. IsOf P.place D.commit_log D.db D.shards y };
+    ghost then = { λ v x y w. IsSnapshotOf P.place D.commit_log D.db D.shards y };
 }

@@ -1,6 +1,6 @@
 //! The published snapshot: readers take it without a lock, and one writer replaces it.
 ghost use Rattle.std.specs.Prelude.{◌≡◌, IfOk};
-ghost use Rattle.mg_live.specs.Snapshots.{IsOf};
+ghost use Rattle.mg_live.specs.Snapshots.{IsSnapshotOf};
 
 use crate::database::Database;
 use crate::markers::Ours;
@@ -43,7 +43,7 @@ pub(crate) fn publish<D: Database, P: Placement + Drop, R: Wait>(
 ) -> Snapshot<P>
 where
     Snapshot<P>: Absorb<(), State = ()>,
-    requires { IsOf P.place D.commit_log D.db D.shards snapshot }
+    requires { IsSnapshotOf P.place D.commit_log D.db D.shards snapshot }
     ensures { writer.new.desk.shown.value ≡ snapshot }
 {
     replace_with(writer, snapshot, |writer, snapshot| {
@@ -59,7 +59,7 @@ fn show<D: Database, P: Placement + Drop, R: Wait>(
 ) -> (SnapshotWriter<D, P>, Snapshot<P>)
 where
     Snapshot<P>: Absorb<(), State = ()>,
-    requires { IsOf P.place D.commit_log D.db D.shards snapshot }
+    requires { IsSnapshotOf P.place D.commit_log D.db D.shards snapshot }
     ensures { result.0.desk.shown.value ≡ snapshot }
 {
     let mut writer = writer;
@@ -70,10 +70,10 @@ where
 }
 
 /// A copy of the snapshot that is published now. It waits for nobody.
-pub(crate) fn look<D: Database, P: Placement + Drop>(
+pub(crate) fn copy_published<D: Database, P: Placement + Drop>(
     reader: SnapshotReader<D, P>,
 ) -> (SnapshotReader<D, P>, Result<Snapshot<P>, AllocError>)
-    ensures { IfOk result.1 (λ s. IsOf P.place D.commit_log D.db D.shards s) }
+    ensures { IfOk result.1 (λ s. IsSnapshotOf P.place D.commit_log D.db D.shards s) }
 {
     match reader.enter_as::<Ours<D, P>>() {
         Ok(reading) => {

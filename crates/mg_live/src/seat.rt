@@ -9,7 +9,7 @@ ghost use Rattle.mg_live.specs.SeatView.{Answered, IsLater, SeatReads, Learned, 
 use crate::commit_log::{LogWord, Prefix, Write};
 use crate::database::{Database, Ends};
 use crate::desk::Desk;
-use crate::publication::{SnapshotReader, look};
+use crate::publication::{SnapshotReader, copy_published};
 use crate::snapshot::Snapshot;
 use crate::tally::Tally;
 use left_right::Absorb;
@@ -102,7 +102,8 @@ where
 {
     /// Catches up with what is published, and returns the database after the commits that the seat has then seen. It waits for nobody.
     ///
-    /// Errors: `NoMemory` if the snapshot cannot be entered or shared, or if the seat is ahead of what is published. Cost: constant.
+    /// Errors: `NoMemory` if the snapshot cannot be entered or shared, or if the seat has seen more commits than are published. Cost:
+    /// constant.
     pub fn snapshot(&mut self) -> Result<Snapshot<P>, NoMemory>
         ensures later { IsLater self.old self.new }
         ensures snapshot { IfOk result (λ s. StandsAfter P.place D.db D.shards s self.new.seen) }
@@ -110,7 +111,7 @@ where
         let Some(reader) = self.reader.take() else {
             return Err(NoMemory);
         };
-        let (reader, snapshot) = look(reader);
+        let (reader, snapshot) = copy_published(reader);
         self.reader = Some(reader);
         let snapshot = snapshot?;
         if !self.prefix.begins(&snapshot.prefix) {
@@ -121,10 +122,10 @@ where
     }
 
     /// The reply to a command, by 1 to 32 workers. A read is answered over one snapshot, and waits for nobody. A write is answered after
-    /// all commits; if it is accepted, it is one more commit.
+    /// all commits; if it is accepted, it is one more commit. It may wait for the writer's lock, and for seats that take a snapshot.
     ///
-    /// If an allocation fails, the reply is `NoMemory`; a write is then not a commit, and leaves the seat as it was. Cost: that of the
-    /// engine's reply. The documents of a bulk are read from its body in place.
+    /// The reply is `NoMemory` if an allocation fails, or if the seat has seen more commits than are published; a write is then not a
+    /// commit, and leaves the seat as it was. Cost: that of the engine's reply. The documents of a bulk are read from its body in place.
     pub fn answer<R: Wait + Threads + Sync>(
         &mut self,
         rt: &R,
@@ -233,8 +234,8 @@ where
     /// Catches up with all commits, under the writer's lock, and returns what another seat can `learn`: the commits that are published
     /// then.
     ///
-    /// Errors: `NoMemory` if the seat is ahead of what is published; then the seat is as it was. Takes no memory. Cost: constant; it may
-    /// wait for the lock.
+    /// Errors: `NoMemory` if the seat has seen more commits than are published; then the seat is as it was. Takes no memory.
+    /// Cost: constant; it may wait for the lock.
     pub fn share<R: Wait>(&mut self, rt: &R) -> Result<Seen<D>, NoMemory>
         ensures later { IsLater self.old self.new }
         ensures seen { IfOk result (λ s. s ≡ self.new.seen) }

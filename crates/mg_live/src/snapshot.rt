@@ -4,8 +4,8 @@ ghost use Rattle.std.specs.Arc.{arc_value};
 ghost use Rattle.mg_engine.specs.Commands.{is_write};
 ghost use Rattle.mg_engine.specs.Settled.{accepts};
 ghost use Rattle.mg_engine.specs.View.{asked, said};
-ghost use Rattle.mg_live.specs.Published.{Nexts};
-ghost use Rattle.mg_live.specs.Snapshots.{IsOf, commits_of, state_of};
+ghost use Rattle.mg_live.specs.Published.{WriteLeaves};
+ghost use Rattle.mg_live.specs.Snapshots.{IsSnapshotOf, commits_of, state_of};
 ghost use Rattle.mg_shard.specs.Shard.{shards_seen};
 ghost use Rattle.mg_live.specs.Rules.{log_word_of};
 
@@ -71,11 +71,11 @@ impl<P: Placement + Drop> Snapshot<P> {
         requires some { 1 ≤ write.now.workers }
         requires most { write.now.workers ≤ 32 }
         requires log_word { log_word.now.word ≡ log_word_of D.commit_log }
-        requires here { IsOf P.place D.commit_log D.db D.shards self.now }
-        ensures next { Nexts D.db (commits_of self.now) (write.now.seat, asked write.now.command.value)
+        requires here { IsSnapshotOf P.place D.commit_log D.db D.shards self.now }
+        ensures next { WriteLeaves D.db (commits_of self.now) (write.now.seat, asked write.now.command.value)
             (said result.0)
             (option_map commits_of result.1) }
-        ensures there { IfSome result.1 (λ s. IsOf P.place D.commit_log D.db D.shards s) }
+        ensures there { IfSome result.1 (λ s. IsSnapshotOf P.place D.commit_log D.db D.shards s) }
     {
         let Ok((reply, point)) = self
             .point

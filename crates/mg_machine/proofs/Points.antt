@@ -98,10 +98,10 @@ pub dealt_more : {P : Type 0} (name : List ℕ) (n : ℕ) (p : Point P) (q : P �
     → said r ≡ Some (write_reply name cs c) → r ≡ given → now ≡ arc_value p.engine → next ≡ Some e → q ≡ e
     → IfSome (said given) (λ _. shard_count (unwrap_or next now) ≡ shards_after (shard_count now) c) → IsSettled given next → IsDealt n p cs → shard_count q ≡ shards_of n (after_write name cs seat c)
 dealt_more name n p q cs seat c r given next now e is made before kept left deals settled at =
-    let told : said given ≡ Some (write_reply name cs c) = rw made at is in
+    let reply_is : said given ≡ Some (write_reply name cs c) = rw made at is in
     let accepts : true ≡ option_map_or is_accepted (said given) false = rw kept at settled in
-    let yes : is_accepted (write_reply name cs c) ≡ true = sym (rw told at accepts) in
-    let count : shard_count e ≡ shards_after (shard_count now) c = rw (told, kept) at deals in
+    let yes : is_accepted (write_reply name cs c) ≡ true = sym (rw reply_is at accepts) in
+    let count : shard_count e ≡ shards_after (shard_count now) c = rw (reply_is, kept) at deals in
     let one = shards_of-one n cs (seat, c) in
     rw (yes, one, left) (count ∙ ap (λ k. shards_after k c) (rw before at))
 
@@ -109,9 +109,9 @@ dealt_more name n p q cs seat c r given next now e is made before kept left deal
 pub dealt_same : {P : Type 0} (name : List ℕ) (n : ℕ) (p : Point P) (q : P × StateView) (cs : List Commit) (seat : ℕ) (c : Asked) (r given : Reply) (next : Option (P × StateView))
     → said r ≡ Some (write_reply name cs c) → r ≡ given → next ≡ None → q ≡ arc_value p.engine → IsSettled given next → IsDealt n p cs → shard_count q ≡ shards_of n (after_write name cs seat c)
 dealt_same name n p q cs seat c r given next is made left same settled at =
-    let told : said given ≡ Some (write_reply name cs c) = rw made at is in
+    let reply_is : said given ≡ Some (write_reply name cs c) = rw made at is in
     let refuses : false ≡ option_map_or is_accepted (said given) false = rw left at settled in
-    let no : is_accepted (write_reply name cs c) ≡ false = sym (rw told at refuses) in
+    let no : is_accepted (write_reply name cs c) ≡ false = sym (rw reply_is at refuses) in
     rw (no, same) at
 
 -- ---- the points of all seats

@@ -40,29 +40,29 @@ at_more seats es i e below is at here = subst (AreAt seats) (sym (seen_more es i
 
 -- ---- one event more
 
--- what happens at an event after others
-abbrev pub told_at : List ℕ → Machine → List Event → Event → Machine × Option Answer
-told_at name m es e = happens name (machine_after name m es) e
+-- what happens at an event after these events
+abbrev pub happens_after : List ℕ → Machine → List Event → Event → Machine × Option Answer
+happens_after name m es e = happens name (machine_after name m es) e
 
 -- the machine after one event more
-pub machine_more : (name : List ℕ) (m : Machine) (es more : List Event) (e : Event) → more ≡ es ++ e ∷ [] → machine_after name m more ≡ (told_at name m es e).0
+pub machine_more : (name : List ℕ) (m : Machine) (es more : List Event) (e : Event) → more ≡ es ++ e ∷ [] → machine_after name m more ≡ (happens_after name m es e).0
 machine_more name m es more e is = ap (machine_after name m) is ∙ after-append name m es (e ∷ [])
 
-replies_more : (name : List ℕ) (m : Machine) (es : List Event) (e : Event) → replies_of_events name m (es ++ e ∷ []) ≡ replies_of_events name m es ++ (told_at name m es e).1 ∷ []
+replies_more : (name : List ℕ) (m : Machine) (es : List Event) (e : Event) → replies_of_events name m (es ++ e ∷ []) ≡ replies_of_events name m es ++ (happens_after name m es e).1 ∷ []
 replies_more name m [] e = refl
 replies_more name m (d ∷ es) e = ap (λ rs. (happens name m d).1 ∷ rs) (replies_more name (happens name m d).0 es e)
 
 -- the replies, with the reply to one event more
 pub said_more : (name : List ℕ) (m : Machine) (es more : List Event) (e : Event) (rs new : List (Option Reply)) (r : Option Reply) → more ≡ es ++ e ∷ [] → new ≡ rs ++ r ∷ []
-    → option_and_then said r ≡ (told_at name m es e).1 → map (option_and_then said) rs ≡ replies_of_events name m es → map (option_and_then said) new ≡ replies_of_events name m more
+    → option_and_then said r ≡ (happens_after name m es e).1 → map (option_and_then said) rs ≡ replies_of_events name m es → map (option_and_then said) new ≡ replies_of_events name m more
 said_more name m es more e rs new r is now one before =
     ap (map (option_and_then said)) now ∙ map-append (option_and_then said) rs (r ∷ []) ∙ ap (λ l. l ++ option_and_then said r ∷ []) before
     ∙ ap (λ a. replies_of_events name m es ++ a ∷ []) one ∙ sym (replies_more name m es e) ∙ ap (replies_of_events name m) (sym is)
 
 -- which events have a reply, with one event more
 pub some_more : (name : List ℕ) (m : Machine) (es more : List Event) (e : Event) (rs new : List (Option Reply)) (r : Option Reply) → more ≡ es ++ e ∷ [] → new ≡ rs ++ r ∷ []
-    → is_some r ≡ is_some (told_at name m es e).1 → map is_some rs ≡ map is_some (replies_of_events name m es) → map is_some new ≡ map is_some (replies_of_events name m more)
+    → is_some r ≡ is_some (happens_after name m es e).1 → map is_some rs ≡ map is_some (replies_of_events name m es) → map is_some new ≡ map is_some (replies_of_events name m more)
 some_more name m es more e rs new r is now one before =
     ap (map is_some) now ∙ map-append is_some rs (r ∷ []) ∙ ap (λ l. l ++ is_some r ∷ []) before
-    ∙ ap (λ b. map is_some (replies_of_events name m es) ++ b ∷ []) one ∙ sym (map-append is_some (replies_of_events name m es) ((told_at name m es e).1 ∷ []))
+    ∙ ap (λ b. map is_some (replies_of_events name m es) ++ b ∷ []) one ∙ sym (map-append is_some (replies_of_events name m es) ((happens_after name m es e).1 ∷ []))
     ∙ ap (map is_some) (sym (replies_more name m es e) ∙ ap (replies_of_events name m) (sym is))

@@ -1,4 +1,4 @@
--- For public clauses: the commits after which a point of a database's commit log comes.
+-- For public clauses: which commits come before a point of a database's commit log.
 use Rattle.std.specs.Prelude.{◌≡◌, ℕ, List, length}
 use Rattle.std.specs.Arc.{arc_value}
 use Rattle.mg_engine.specs.Stands.{Stands, shard_count}

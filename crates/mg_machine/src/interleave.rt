@@ -51,13 +51,13 @@ fn is_at(seats: usize, event: &Event) -> bool
     }
 }
 
-/// Replays events at `seats` seats of an empty database, over one shard, with one worker and on this thread alone. Returns for each
-/// event its reply: the complete reply to the command of a `Publish` or `Answer`, and `None` for `Enter` and `Told`. Each event has to be
-/// at one of these seats, which `are_at` tests.
+/// Replays events at `seats` seats of an empty database, which has one shard until a reshard, with one worker and on this thread alone.
+/// Returns for each event its reply: the complete reply to the command of a `Publish` or `Answer`, and `None` for `Enter` and `Told`. Each
+/// event has to be at one of these seats, which `are_at` tests.
 ///
 /// Errors: `NoMemory` if an allocation fails anywhere; therefore no reply is `Reply::NoMemory`. A write after
-/// 18,446,744,073,709,551,615 commits is refused with 413 `too_large`. Cost: for each command that of `Engine::step`, and the number
-/// of seats. The cost of `Enter` and `Told` does not depend on the documents.
+/// 18,446,744,073,709,551,615 commits is refused with 413 `too_large`. Cost: for each command that of `Engine::step`, for a write
+/// also a copy of it, and the number of seats. The cost of `Enter` and `Told` does not depend on the documents.
 pub fn replay<R: Threads + Sync>(
     rt: &R,
     alloc: Global,

@@ -33,7 +33,7 @@ impl Seats {
     }
 
     /// Publishes a command at a seat and returns its reply. For a read, the seat first catches up with all commits.
-    /// Cost: that of the engine's reply.
+    /// Cost: that of the engine's reply, and a copy of a write.
     pub(crate) fn publish<R: Threads + Sync>(
         &mut self,
         rt: &R,
@@ -56,7 +56,7 @@ impl Seats {
     }
 
     /// Answers a command at a seat: a read by the commits that the seat has seen, a write after all commits.
-    /// Cost: that of the engine's reply.
+    /// Cost: that of the engine's reply, and a copy of a write.
     pub(crate) fn answer<R: Threads + Sync>(
         &mut self,
         rt: &R,

@@ -20,7 +20,7 @@ use std::sync::Arc;
 
 /// What became of an edit, with the edit's id.
 #[derive(Drop)]
-pub(crate) struct EditEntry {
+pub(crate) struct EditOutcome {
     pub(crate) id: String,
     pub(crate) reply: EditReply,
 }
@@ -34,7 +34,7 @@ pub(crate) fn apply_edits<P: Placement>(
     placement: &P,
     shards: &[Arc<Shard>],
     edits: Vec<Edit>,
-) -> Result<(Vec<EditEntry>, Vec<Arc<Shard>>), NoMemory>
+) -> Result<(Vec<EditOutcome>, Vec<Arc<Shard>>), NoMemory>
     requires { 0 < length shards.now }
     ensures replies { IfOk result
         (λ r. (hs : Histories) → ShardsStandFor (P.place placement.now) (shards_seen shards.now) hs
@@ -70,7 +70,7 @@ fn edit_all<P: Placement>(
     placement: &P,
     drafts: &mut [Draft<'_>],
     edits: Vec<Edit>,
-) -> Result<Vec<EditEntry>, NoMemory>
+) -> Result<Vec<EditOutcome>, NoMemory>
     requires { 0 < length drafts.old }
     ensures replies { IfOk result
         (λ v. (hs : Histories) → DraftsStandFor (P.place placement.now) drafts.old hs
@@ -94,7 +94,7 @@ fn edit_one<P: Placement>(
     placement: &P,
     drafts: &mut [Draft<'_>],
     edit: Edit,
-) -> Result<EditEntry, NoMemory>
+) -> Result<EditOutcome, NoMemory>
     requires { 0 < length drafts.old }
     ensures reply { IfOk result (λ o. (hs : Histories) → DraftsStandFor (P.place placement.now) drafts.old hs
         → reply_in o ≡ outcome_in hs edit) }
@@ -109,7 +109,7 @@ fn edit_one<P: Placement>(
     let place = placement.shard_of(id_in(&edit), drafts.len());
     let draft = &mut drafts[place];
     let reply = draft.edit(alloc, edit)?;
-    Ok(EditEntry { id, reply })
+    Ok(EditOutcome { id, reply })
 }
 
 // Finishes the drafts of all shards. A shard whose draft touched no document is shared as it is.

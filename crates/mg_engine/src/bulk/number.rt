@@ -6,7 +6,10 @@ use mg_doc::Edit;
 use mg_value::NoMemory;
 use std::alloc::Global;
 
-/// Gives the k-th edit without an id the k-th number after `last` as its id. Returns the edits, and the counter after them.
+/// Gives the k-th edit without an id the k-th number after `last` as its id; numbers count modulo 2^64. Returns all edits, and the number
+/// that was given last (`last` if none was).
+///
+/// Errors: `NoMemory` if an allocation fails. Cost: the number of edits.
 pub(crate) fn number_edits(
     alloc: Global,
     edits: Vec<Edit>,
@@ -25,7 +28,7 @@ pub(crate) fn number_edits(
     Ok((found, number))
 }
 
-// Gives an edit without an id the number after `last` as its id. Returns the edit, and the counter after it.
+// Gives an edit without an id the number after `last` as its id. Returns the edit, and the number that was given last.
 fn name_edit(alloc: Global, edit: Edit, last: u64) -> Result<(Edit, u64), NoMemory>
     ensures edit { IfOk result (λ r. r.0 ≡ with_number (number_after last) edit) }
     ensures last { IfOk result (λ r. r.1 ≡ (if is_some edit.id then last else number_after last)) }

@@ -2,7 +2,7 @@
 ghost use Rattle.std.specs.Prelude.{◌≡◌, IfOk, option_map, Some, true};
 ghost use Rattle.mg_value.specs.Value.{list};
 ghost use Rattle.mg_doc.specs.Document.{is_object};
-ghost use Rattle.mg_engine.specs.Ahead.{Determines};
+ghost use Rattle.mg_engine.specs.Prepared.{Determines};
 ghost use Rattle.mg_engine.specs.Bulk.{are_objects, bulk_of, edits_of, edits_or_refusal, of_objects, shaped};
 ghost use Rattle.mg_engine.specs.BulkView.{bulk_seen, edits_seen};
 ghost use Rattle.mg_engine.specs.Commands.{bulk};
@@ -34,7 +34,7 @@ impl ReadBulk {
     ///
     /// The documents are read in place. Only what `Edit::read` keeps of them is copied.
     ///
-    /// Errors: `NoMemory` if an allocation fails. Cost: that of `Edit::read` for each document.
+    /// Errors: `NoMemory` if an allocation fails. Cost: a step for each document, and then that of `Edit::read` for each.
     pub(crate) fn of(alloc: Global, body: &Packed) -> Result<ReadBulk, NoMemory>
         ensures { IfOk result (λ read. Determines read (bulk body.now)) }
     {
@@ -53,7 +53,7 @@ impl ReadBulk {
     }
 }
 
-// Reads a body as a bulk, without its edits. `None` if the body has another shape, or a document is not an object.
+// Reads the shape of a body: a bulk whose edits are not read yet. `None` if the body has another shape, or a document is not an object.
 fn read_bulk(body: Part<'_>) -> Option<Bulk<'_>>
     ensures { option_map bulk_seen result ≡ bulk_of body.entry }
 {

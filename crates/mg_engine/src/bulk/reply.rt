@@ -7,7 +7,7 @@ ghost use Rattle.mg_engine.specs.Bulk.{done_entry, entry_before, entry_of, refus
 ghost use Rattle.mg_engine.specs.Outcomes.{entries_seen, reply_in, id_seen};
 
 use crate::body::with_line_feed;
-use crate::bulk::apply::EditEntry;
+use crate::bulk::apply::EditOutcome;
 use crate::refusal::{BAD_HISTORY_ERROR, BAD_HISTORY_REASON, CONFLICT_ERROR, CONFLICT_REASON};
 use json::Writer;
 use mg_revtree::Rev;
@@ -15,16 +15,17 @@ use mg_shard::EditReply;
 use mg_value::NoMemory;
 use std::alloc::Global;
 
-// Bytes reserved for each entry at first. Most entries fit.
+// Bytes reserved for each edit at first. Most entries fit: with a first revision, an entry takes 63 bytes and the id.
 const ENTRY_ROOM: usize = 96;
 
-/// The line of the reply to a bulk, with an entry for each edit that has one: if `new_edits` is false, only refused edits do.
+/// The line of the reply to a bulk: an entry for each edit or, if `new_edits` is false, for each edit that is refused.
 ///
-/// Errors: `NoMemory` if an allocation fails. Cost: the length of the line, in one buffer that grows.
+/// Errors: `NoMemory` if an allocation fails. Cost: the length of the line, in one buffer that has room for 96 bytes an edit at first,
+/// also for edits without an entry.
 pub(crate) fn entries_line(
     alloc: Global,
     new_edits: bool,
-    outcomes: &[EditEntry],
+    outcomes: &[EditOutcome],
 ) -> Result<Vec<u8>, NoMemory>
     ensures { IfOk result (λ b. b.items ≡ line_of (list (entries_seen new_edits outcomes.now))) }
 {
@@ -39,7 +40,7 @@ pub(crate) fn entries_line(
 fn write_entries(
     alloc: Global,
     new_edits: bool,
-    outcomes: &[EditEntry],
+    outcomes: &[EditOutcome],
     out: &mut Writer,
 ) -> Result<(), NoMemory>
     ensures tokens { OnOk result (out.new.tokens
@@ -57,7 +58,7 @@ fn write_entries(
 fn write_entry(
     alloc: Global,
     new_edits: bool,
-    outcome: &EditEntry,
+    outcome: &EditOutcome,
     out: &mut Writer,
 ) -> Result<(), NoMemory>
     ensures tokens { OnOk result ((vs : Items) → out.new.tokens ++ items_tokens_of vs

@@ -5,7 +5,7 @@ use Rattle.mg_doc.specs.Document.{Edit}
 use Rattle.mg_shard.specs.Dealt.{DraftsStandFor}
 use Rattle.mg_shard.specs.Edits.{after_edit, after_edits, id_in, outcomes}
 use Rattle.mg_engine.specs.Outcomes.{reply_in, id_seen}
-use Rattle.mg_engine.specs.declared.bulk.apply.EditEntry.{EditEntry}
+use Rattle.mg_engine.specs.declared.bulk.apply.EditOutcome.{EditOutcome}
 use Rattle.mg_engine.proofs.Editing.{nothing, same_number}
 use Rattle.mg_engine.proofs.bulk.apply.edit_all.Goals as goal
 
@@ -20,16 +20,16 @@ loop-edit-init g c =
       can_next = tt;
       is_finite = tt;
       some = c.requires;
-      ids = sym (ap₂ (λ (os : List EditEntry) (es : List Edit). map id_seen os ++ map id_in es) none all);
+      ids = sym (ap₂ (λ (os : List EditOutcome) (es : List Edit). map id_seen os ++ map id_in es) none all);
       before = refl;
-      goes_on = λ hs st. (hs, st, ap (after_edits hs) (sym all), sym (ap₂ (λ (os : List EditEntry) (es : List Edit). map reply_in os ++ outcomes hs es) none all));
+      goes_on = λ hs st. (hs, st, ap (after_edits hs) (sym all), sym (ap₂ (λ (os : List EditOutcome) (es : List Edit). map reply_in os ++ outcomes hs es) none all));
     }
 
 pub loop-edit-preserved : goal.loop-edit-preserved
 loop-edit-preserved g c =
     let l = c.loop-edit in
     let e : Edit = c.in-Some.edit in
-    let o : EditEntry = c.in_ok-outcome.outcome in
+    let o : EditOutcome = c.in_ok-outcome.outcome in
     let made = l.outcomes.items in
     let rest : List Edit = into_iter_items c.next.new.self in
     let step : into_iter_items l.edit-iterator ≡ e ∷ rest = c.in-Some.ensures.steps.0 in
@@ -38,7 +38,7 @@ loop-edit-preserved g c =
       is_finite = tt;
       some = subst (λ n. 0 < n) (sym (same_number _ _ c.in_ok-outcome.ensures.before)) l.invariant.some;
       ids = l.invariant.ids ∙ ap (λ (es : List Edit). map id_seen made ++ map id_in es) step ∙ ap (λ i. map id_seen made ++ i ∷ map id_in rest) (sym c.in_ok-outcome.ensures.id)
-          ∙ sym (ap (λ (os : List EditEntry). map id_seen os ++ map id_in rest) c.in_ok-push.ensures.items ∙ pushed id_seen made o (map id_in rest));
+          ∙ sym (ap (λ (os : List EditOutcome). map id_seen os ++ map id_in rest) c.in_ok-push.ensures.items ∙ pushed id_seen made o (map id_in rest));
       before = c.in_ok-outcome.ensures.before ∙ l.invariant.before;
       goes_on = λ hs st.
           let inv = l.invariant.goes_on hs st in
@@ -48,7 +48,7 @@ loop-edit-preserved g c =
             c.in_ok-outcome.ensures.stands now inv.1,
             inv.2 ∙ ap (after_edits now) step,
             inv.3 ∙ ap (λ (es : List Edit). map reply_in made ++ outcomes now es) step ∙ ap (λ r. map reply_in made ++ r ∷ left) (sym (c.in_ok-outcome.ensures.reply now inv.1))
-                ∙ sym (ap (λ (os : List EditEntry). map reply_in os ++ left) c.in_ok-push.ensures.items ∙ pushed reply_in made o left),
+                ∙ sym (ap (λ (os : List EditOutcome). map reply_in os ++ left) c.in_ok-push.ensures.items ∙ pushed reply_in made o left),
           );
     }
 

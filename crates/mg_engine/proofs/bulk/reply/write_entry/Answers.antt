@@ -5,7 +5,7 @@ use Rattle.mg_shard.specs.Edits.{outcome_seen}
 use Rattle.mg_shard.specs.declared.reply.EditReply.{EditReply}
 use Rattle.mg_engine.specs.Bulk.{entry_before, entry_of, refused_entry}
 use Rattle.mg_engine.specs.Outcomes.{reply_in, id_seen}
-use Rattle.mg_engine.proofs.Entries.{bad_history_told, conflict_told, tokens_before}
+use Rattle.mg_engine.proofs.Entries.{bad_history_has_entry, conflict_has_entry, tokens_before}
 use Rattle.mg_engine.proofs.bulk.reply.write_entry.Goals as goal
 
 pub returns-in_ok-write_refused-in-Conflict-clause-tokens : goal.returns-in_ok-write_refused-in-Conflict-clause-tokens
@@ -14,7 +14,7 @@ returns-in_ok-write_refused-in-Conflict-clause-tokens c = λ vs.
     let id = id_seen c.args.outcome.now in
     let before = c.args.out.now.tokens in
     let entry = λ (i : List ℕ). refused_entry (codes "conflict") i (codes "Document update conflict.") in
-    let said : entry_of b id (reply_in c.args.outcome.now) ≡ Some (entry id) = ap (λ (r : EditReply). entry_of b id (outcome_seen r)) c.in-Conflict.is ∙ conflict_told b id in
+    let said : entry_of b id (reply_in c.args.outcome.now) ≡ Some (entry id) = ap (λ (r : EditReply). entry_of b id (outcome_seen r)) c.in-Conflict.is ∙ conflict_has_entry b id in
     let written : c.write_refused.new.out.tokens ≡ before ++ tokens_of (entry id) =
     c.in_ok-write_refused-in-Conflict.ensures.tokens ∙ ap (λ (i : List ℕ). before ++ tokens_of (entry i)) c.as_str-id.ensures.value in
     tokens_before before c.write_refused.new.out.tokens (entry id) written vs ∙ ap (λ (o : Option Value). before ++ items_tokens_of (entry_before o vs)) (sym said)
@@ -25,7 +25,7 @@ returns-in_ok-write_refused-in-BadHistory-clause-tokens c = λ vs.
     let id = id_seen c.args.outcome.now in
     let before = c.args.out.now.tokens in
     let entry = λ (i : List ℕ). refused_entry (codes "bad_history") i (codes "Revision history does not fit the document.") in
-    let said : entry_of b id (reply_in c.args.outcome.now) ≡ Some (entry id) = ap (λ (r : EditReply). entry_of b id (outcome_seen r)) c.in-BadHistory.is ∙ bad_history_told b id in
+    let said : entry_of b id (reply_in c.args.outcome.now) ≡ Some (entry id) = ap (λ (r : EditReply). entry_of b id (outcome_seen r)) c.in-BadHistory.is ∙ bad_history_has_entry b id in
     let written : c.write_refused-in-BadHistory.new.out.tokens ≡ before ++ tokens_of (entry id) =
     c.in_ok-write_refused-in-BadHistory.ensures.tokens ∙ ap (λ (i : List ℕ). before ++ tokens_of (entry i)) c.as_str-id.ensures.value in
     tokens_before before c.write_refused-in-BadHistory.new.out.tokens (entry id) written vs ∙ ap (λ (o : Option Value). before ++ items_tokens_of (entry_before o vs)) (sym said)

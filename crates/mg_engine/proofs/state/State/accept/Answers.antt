@@ -10,7 +10,7 @@ use Rattle.mg_engine.specs.Bulk.{counter_after, entries_of, numbered}
 use Rattle.mg_engine.specs.Commands.{Answer}
 use Rattle.mg_engine.specs.Outcomes.{entries_seen, reply_in, id_seen}
 use Rattle.mg_engine.specs.Stands.{StateStandsFor, StateView, definitions_of}
-use Rattle.mg_engine.specs.declared.bulk.apply.EditEntry.{EditEntry}
+use Rattle.mg_engine.specs.declared.bulk.apply.EditOutcome.{EditOutcome}
 use Rattle.mg_engine.proofs.Entries.{by_ids}
 use Rattle.mg_engine.proofs.Indexes.{have_same}
 use Rattle.mg_engine.proofs.Objects.{still_objects}
@@ -52,4 +52,4 @@ returns-clause-reply g c = λ w h.
     let ids : map id_seen outs ≡ map id_in (numbered w.counter given) = c.in_ok-outcomes.ensures.ids ∙ ap (λ (es : List Edit). map id_in es) edits in
     let seen : entries_seen b outs ≡ entries_of b (numbered w.counter given) (outcomes w.docs (numbered w.counter given)) =
     sym (by_ids b (numbered w.counter given) outs (sym ids)) ∙ ap (entries_of b (numbered w.counter given)) replies in
-    ap (λ (t : List ℕ). answer t) (c.in_ok-body.ensures ∙ ap (λ (os : List EditEntry). line_of (list (entries_seen b os))) c.deref-2.ensures.value ∙ ap (λ vs. line_of (list vs)) seen)
+    ap (λ (t : List ℕ). answer t) (c.in_ok-body.ensures ∙ ap (λ (os : List EditOutcome). line_of (list (entries_seen b os))) c.deref-2.ensures.value ∙ ap (λ vs. line_of (list vs)) seen)

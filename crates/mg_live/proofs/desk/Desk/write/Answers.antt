@@ -2,9 +2,9 @@ use Rattle.std.proofs.Common.{◌≡◌, ◌∷◌, [], Some, length, length-app
 use Rattle.mg_engine.specs.View.{asked, said}
 use Rattle.mg_machine.specs.Laws.{IsPrefix}
 use Rattle.mg_machine.specs.Machine.{Commit}
-use Rattle.mg_live.specs.Published.{Nexts, standing}
+use Rattle.mg_live.specs.Published.{WriteLeaves, standing}
 use Rattle.mg_live.specs.View.{commits_seen}
-use Rattle.mg_live.specs.Snapshots.{IsOf, commits_of}
+use Rattle.mg_live.specs.Snapshots.{IsSnapshotOf, commits_of}
 use Rattle.mg_live.specs.declared.commit_log.Prefix.{Prefix}
 use Rattle.mg_live.proofs.Publishing.{added, published}
 use Rattle.mg_live.proofs.desk.Desk.write.Goals as goal
@@ -15,8 +15,8 @@ invariant_of-self g c =
     let write : Commit = (c.args.write.now.seat, asked c.args.write.now.command.value) in
     let cs = commits_of c.published-now.result.now in
     let reply = said c.next-reply.result.0 in
-    let next : Nexts db cs write reply (Some (commits_of c.in-Some.next)) = rw c.in-Some.is at c.next-reply.ensures.next in
-    let there : IsOf g.P.Placement.place g.D.Database.commit_log db g.D.Database.shards c.in-Some.next = rw c.in-Some.is at c.next-reply.ensures.there in
+    let next : WriteLeaves db cs write reply (Some (commits_of c.in-Some.next)) = rw c.in-Some.is at c.next-reply.ensures.next in
+    let there : IsSnapshotOf g.P.Placement.place g.D.Database.commit_log db g.D.Database.shards c.in-Some.next = rw c.in-Some.is at c.next-reply.ensures.there in
     let one = added db cs write reply (commits_of c.in-Some.next) next in
     let before : c.self.inside.tally_book.total ≡ length cs = c.self.invariant.0 ∙ ap (λ s. length (commits_of s)) (sym c.published-now.ensures) in
     rw c.publish-before.ensures (omega (arith, c.add.ensures.tally_book, before, length-append cs (write ∷ []), ap length one), there)
@@ -28,10 +28,10 @@ returns-clause-publishes g c =
     let cs = commits_of c.published-now.result.now in
     let reply = said c.next-reply.result.0 in
     let shown = commits_of c.publish-before.new.writer.desk.shown.value in
-    let next : Nexts db cs write reply (Some (commits_of c.in-Some.next)) = rw c.in-Some.is at c.next-reply.ensures.next in
+    let next : WriteLeaves db cs write reply (Some (commits_of c.in-Some.next)) = rw c.in-Some.is at c.next-reply.ensures.next in
     let now : cs ≡ c.args.self.now = ap commits_of c.published-now.ensures ∙ c.self.view_is in
     let is : commits_of c.in-Some.next ≡ shown = ap commits_of (sym c.publish-before.ensures) in
     let later : IsPrefix (commits_seen c.args.prefix.now.seen.log) c.args.self.now = rw now at c.if-not-begins.ensures.begins in
-    let adds : Nexts db c.args.self.now write reply (Some shown) = rw (now, is) at next in
+    let adds : WriteLeaves db c.args.self.now write reply (Some shown) = rw (now, is) at next in
     let seen : commits_seen c.again-2.result.seen.log ≡ shown = ap (λ (f : Prefix). commits_seen f.seen.log) c.again-2.ensures ∙ is in
     published db write (standing c.args.self.now c.args.prefix.now c.args.tally.now) (standing shown c.again-2.result c.add.new.self) reply later adds seen c.add.ensures.tally

@@ -7,4 +7,4 @@ use Rattle.mg_machine.proofs.seats.Seats.answer.Goals as goal
 pub returns-else-is_write-clause-follow : goal.returns-else-is_write-clause-follow
 returns-else-is_write-clause-follow g c =
     let reads : is_write (asked c.args.command.now) ≡ false = cc in
-    IfOk-weaker c.read.result _ _ (λ r told name m f. rw reads (told name m f, f)) c.read.ensures
+    IfOk-weaker c.read.result _ _ (λ r reply_is name m f. rw reads (reply_is name m f, f)) c.read.ensures

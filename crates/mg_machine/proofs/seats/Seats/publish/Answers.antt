@@ -9,4 +9,4 @@ pub returns-in_ok-enter-clause-follow : goal.returns-in_ok-enter-clause-follow
 returns-in_ok-enter-clause-follow g c =
     let reads : is_write (asked c.args.command.now) ≡ false = cc in
     let looks = c.in_ok-enter.ensures.follow in
-    IfOk-weaker c.read.result _ _ (λ r told name m f. rw reads (told name (entered m c.args.seat) (looks name m f), looks name m f)) c.read.ensures
+    IfOk-weaker c.read.result _ _ (λ r reply_is name m f. rw reads (reply_is name (entered m c.args.seat) (looks name m f), looks name m f)) c.read.ensures

@@ -1,7 +1,7 @@
 use Rattle.std.proofs.Common.{◌∙◌, ap, sym}
 use Rattle.mg_engine.specs.Bulk.{bulk_of}
 use Rattle.mg_engine.specs.BulkView.{bulk_seen, edits_seen}
-use Rattle.mg_engine.proofs.Ahead.{all_read}
+use Rattle.mg_engine.proofs.Preparing.{all_read}
 use Rattle.mg_engine.proofs.bulk.read.ReadBulk.of.Goals as goal
 
 pub returns-in-Ok : goal.returns-in-Ok

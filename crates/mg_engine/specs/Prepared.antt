@@ -1,4 +1,4 @@
--- For private clauses: commands that were prepared, of which a bulk was read without a state.
+-- For private clauses: prepared commands. The documents of a bulk were read before the state was known to which it is applied.
 use Rattle.std.specs.Prelude.{◌≡◌, ℕ, Bool, List}
 use Rattle.mg_doc.specs.Document.{Edit}
 use Rattle.mg_engine.specs.Commands.{Asked, edits_effect, next, refused, reply_of, shards_after}
