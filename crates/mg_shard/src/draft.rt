@@ -72,7 +72,7 @@ impl<'a> Draft<'a> {
     /// Errors: `NoMemory` if an allocation fails. The draft then stands for nothing, and is only good to drop.
     /// Cost: that of `Edit::look` and `ReadyEdit::bring`, and a copy of the document's tree if the draft has not touched the
     /// document yet. No copy of the body.
-    pub fn edit(&mut self, alloc: Global, edit: Edit) -> Result<EditReply, NoMemory>
+    pub fn apply(&mut self, alloc: Global, edit: Edit) -> Result<EditReply, NoMemory>
         ensures outcome { IfOk result
             (λ r. (hs : Histories) → DraftStandsFor self.old hs → outcome_seen r ≡ outcome_in hs edit) }
         ensures stands { OnOk result ((hs : Histories) → DraftStandsFor self.old hs
@@ -87,8 +87,8 @@ impl<'a> Draft<'a> {
 
     /// Applies copies of edits that have ids, in order, and returns what became of each.
     ///
-    /// Errors: those of `edit`. Cost: that of `edit`, and a copy of each edit, with its body.
-    pub fn edit_all(&mut self, alloc: Global, edits: &[Edit]) -> Result<Vec<EditReply>, NoMemory>
+    /// Errors: those of `apply`. Cost: that of `apply`, and a copy of each edit, with its body.
+    pub fn apply_all(&mut self, alloc: Global, edits: &[Edit]) -> Result<Vec<EditReply>, NoMemory>
         ensures outcomes { IfOk result
             (λ rs. (hs : Histories) → DraftStandsFor self.old hs
             → map outcome_seen rs.items ≡ outcomes hs edits.now) }
@@ -99,7 +99,7 @@ impl<'a> Draft<'a> {
         let mut replies = Vec::with_capacity(alloc, edits.len())?;
         for edit in edits {
             let copy = edit.copy(alloc)?;
-            let reply = self.edit(alloc, copy)?;
+            let reply = self.apply(alloc, copy)?;
             replies.push(reply)?;
         }
         Ok(replies)

@@ -215,7 +215,7 @@ impl Shard {
             → map outcome_seen r.1.items ≡ outcomes hs edits.now) }
     {
         let mut draft = Draft::new(alloc, self);
-        let replies = draft.edit_all(alloc, edits)?;
+        let replies = draft.apply_all(alloc, edits)?;
         let next = draft.finish(alloc)?;
         Ok((self.or_shared(alloc, next)?, replies))
     }

@@ -234,13 +234,19 @@ const KEYS: &[&str] = &[
 fn hints_do_not_fall_along_the_rows(rt: HostRuntime) {
     let alloc = rt.alloc();
     let mut last = 0;
+    let mut rises = 0u32;
     for text in KEYS {
         let key = values_of(&rt, alloc, text);
         let row = RowBytes::of(alloc, &key, "b").expect(&rt, "memory");
         check(&rt, row.hint() == value_hint(key.first()), text);
         check(&rt, last <= row.hint(), text);
+        if last < row.hint() {
+            rises = rises.saturating_add(1);
+        }
         last = row.hint();
     }
+    // Hints that are all the same would say nothing.
+    check(&rt, rises > 1, "hints tell rows apart");
 }
 
 // Whether the hints of the rows below the bound are at most the bound's hint, and those of all other rows at least that.

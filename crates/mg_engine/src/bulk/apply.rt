@@ -108,7 +108,7 @@ fn edit_one<P: Placement>(
     let id = String::from_str(alloc, id_in(&edit))?;
     let place = placement.shard_of(id_in(&edit), drafts.len());
     let draft = &mut drafts[place];
-    let reply = draft.edit(alloc, edit)?;
+    let reply = draft.apply(alloc, edit)?;
     Ok(EditOutcome { id, reply })
 }
 

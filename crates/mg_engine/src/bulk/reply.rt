@@ -20,8 +20,7 @@ const ENTRY_ROOM: usize = 96;
 
 /// The line of the reply to a bulk: an entry for each edit or, if `new_edits` is false, for each edit that is refused.
 ///
-/// Errors: `NoMemory` if an allocation fails. Cost: the length of the line, in one buffer that has room for 96 bytes an edit at first,
-/// also for edits without an entry.
+/// Errors: `NoMemory` if an allocation fails. Cost: the length of the line, in one buffer that begins with `first_room`.
 pub(crate) fn entries_line(
     alloc: Global,
     new_edits: bool,
@@ -29,11 +28,20 @@ pub(crate) fn entries_line(
 ) -> Result<Vec<u8>, NoMemory>
     ensures { IfOk result (λ b. b.items ≡ line_of (list (entries_seen new_edits outcomes.now))) }
 {
-    let room = outcomes.len().saturating_mul(ENTRY_ROOM);
+    let room = first_room(new_edits, outcomes.len());
     let mut out = Writer::new(Vec::with_capacity(alloc, room)?);
     out.begin_array()?;
     write_entries(alloc, new_edits, outcomes, &mut out)?;
     Ok(with_line_feed(out.into_inner())?)
+}
+
+// Bytes reserved for the entries of so many edits. If `new_edits` is false, most edits have no entry, and the buffer grows if some do.
+fn first_room(new_edits: bool, edits: usize) -> usize {
+    if new_edits {
+        edits.saturating_mul(ENTRY_ROOM)
+    } else {
+        0
+    }
 }
 
 // Writes the entries and the closing bracket.

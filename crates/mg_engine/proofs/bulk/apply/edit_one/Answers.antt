@@ -24,8 +24,8 @@ returns-clause-stands g c = λ hs st.
     let d = get_or drafts i c.index-drafts-place.result in
     let here : place (id_in c.args.edit) (length drafts) ≡ i = ap (λ id. place id (length drafts)) (sym c.id_in-2.ensures) ∙ sym c.shard_of-place.ensures.place in
     let at = ap (slice_get drafts) here ∙ slice_get-get_or drafts i c.index-drafts-place.result c.shard_of-place.ensures.below in
-    subst (λ i. DraftsStandFor place (slice_set drafts i c.edit-2.new.self) (after_edit hs c.args.edit)) here
-    (c.each_edit_is_made_there.ensures place drafts hs c.args.edit d c.edit-2.new.self at (λ gs h. c.in_ok-reply.ensures.stands gs h) st)
+    subst (λ i. DraftsStandFor place (slice_set drafts i c.apply.new.self) (after_edit hs c.args.edit)) here
+    (c.each_edit_is_made_there.ensures place drafts hs c.args.edit d c.apply.new.self at (λ gs h. c.in_ok-reply.ensures.stands gs h) st)
 
 pub returns-clause-before : goal.returns-clause-before
-returns-clause-before g c = before-set c.args.drafts.now c.shard_of-place.result c.index-drafts-place.result c.edit-2.new.self c.in_ok-reply.ensures.shard c.shard_of-place.ensures.below
+returns-clause-before g c = before-set c.args.drafts.now c.shard_of-place.result c.index-drafts-place.result c.apply.new.self c.in_ok-reply.ensures.shard c.shard_of-place.ensures.below

@@ -3,7 +3,7 @@ use Rattle.std.proofs.Math.ListN.{drop_of_length-le}
 use Rattle.mg_shard.specs.Draft.{DraftStandsFor}
 use Rattle.mg_shard.specs.Edits.{after_edit, after_edits, outcome_seen, outcomes}
 use Rattle.mg_shard.specs.Histories.{Histories}
-use Rattle.mg_shard.proofs.draft.Draft.edit_all.Goals as goal
+use Rattle.mg_shard.proofs.draft.Draft.apply_all.Goals as goal
 
 -- what is left from an item on begins with the item
 drop_item : {A : Type 0} (xs : List A) (i : ℕ) (x : A) → i < length xs → x ≡ get_or xs i x → drop i xs ≡ x ∷ drop (i + 1) xs

@@ -6,7 +6,7 @@ use Rattle.mg_shard.specs.Edits.{id_in}
 use Rattle.mg_shard.specs.Histories.{history_at}
 use Rattle.mg_shard.proofs.Shown.{bytes_cmp, bytes_exact}
 use Rattle.mg_shard.proofs.Touched.{get-touched, get-updated, next_kept, touched_out, tree_touched}
-use Rattle.mg_shard.proofs.draft.Draft.edit.Goals as goal
+use Rattle.mg_shard.proofs.draft.Draft.apply.Goals as goal
 
 pub edit_first-requires : goal.edit_first-requires
 edit_first-requires c =

@@ -2,7 +2,7 @@ use Rattle.std.proofs.Common.{◌≡◌, ◌++◌, drop, map}
 use Rattle.mg_shard.specs.Draft.{DraftStandsFor}
 use Rattle.mg_shard.specs.Edits.{after_edits, outcome_seen, outcomes}
 use Rattle.mg_shard.specs.Histories.{Histories}
-use Rattle.mg_shard.proofs.draft.Draft.edit_all.Given as goal
+use Rattle.mg_shard.proofs.draft.Draft.apply_all.Given as goal
 
 -- what is left decides, from the histories for which the draft stands now
 abbrev pub invariant-loop-edit : goal.invariant-loop-edit
