@@ -19,10 +19,11 @@ pub data Hint : Type 0 where
   in_document : List ℕ → Hint
   exactly : List ℕ → List ℕ → Hint
 
--- the path of `_id`, and below that of `_rev`: each served document has both
+-- the path of `_id`, which each served document has
 abbrev pub id_path : Steps
 id_path = codes "_id" ∷ []
 
+-- the path of `_rev`, which each served document has
 abbrev pub rev_path : Steps
 rev_path = codes "_rev" ∷ []
 

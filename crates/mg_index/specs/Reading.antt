@@ -15,7 +15,7 @@ use Rattle.mg_index.specs.Definition.{Steps, IndexDefinition, fields_digest, des
 use Rattle.mg_index.specs.declared.error.IndexError.{IndexError}
 use Rattle.mg_index.specs.declared.error.IndexError.TheVariants.{Shape, Mixed, NoMemory}
 
--- what f gives of each item, if it gives something of all
+-- what f gives for each item; `None` if it gives nothing for one of them
 abbrev pub each_of : {A B : Type 0} → (A → Option B) → List A → Option (List B)
 each_of f [] = Some []
 each_of f (x ∷ xs) = option_and_then (λ y. option_map (λ ys. y ∷ ys) (each_of f xs)) (f x)
@@ -59,7 +59,7 @@ is_same Asc Asc = true
 is_same Desc Desc = true
 is_same a b = false
 
--- the direction that all columns have, of which there is at least one
+-- the direction that all columns have; `Shape` without columns, `Mixed` if the directions differ
 abbrev pub one_direction : List Direction → Result Direction IndexError
 one_direction [] = Err Shape
 one_direction (d ∷ ds) = if list_all (is_same d) ds then Ok d else Err Mixed

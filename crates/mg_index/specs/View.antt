@@ -1,4 +1,4 @@
--- What the code's hints, bounds and choices stand for.
+-- What the code's columns and hints stand for, and when a choice is right.
 use Rattle.std.specs.Prelude.{◌≡◌, List, Option, Some, None, Result, Ok, Err, map, slice_get, string_bytes}
 use Rattle.mg_index.specs.Choice.{Hint, no_hint, in_document, exactly, Source, all_docs, defined}
 use Rattle.mg_index.specs.Definition.{IndexDefinition}

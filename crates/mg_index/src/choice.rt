@@ -44,7 +44,8 @@ pub(crate) struct Candidate<'a> {
 /// sort, or with a sort by `_id` alone.
 ///
 /// Errors: `NoUsableIndex` if that index cannot serve either.
-/// Cost: for each definition its columns times the atoms. Source: the selection of indexes in CouchDB.
+/// Cost: for each definition, its columns times the atoms and the paths of the sort. Source: the selection of
+/// indexes in CouchDB.
 pub fn choose(
     catalog: &Catalog,
     normal: &Normal,

@@ -22,7 +22,7 @@ pub(crate) struct Columns {
     pub(crate) direction: Direction,
 }
 
-// The columns of `fields`, an array that is not empty.
+// The columns of the array `fields`, or its first fault; an empty array has the fault `Shape`.
 pub(crate) fn read_columns(alloc: Global, fields: &[Json]) -> Result<Columns, IndexError>
     ensures { ReadsAs columns_seen result (columns_read (Some (list (items_view fields.now)))) }
 {

@@ -26,7 +26,7 @@ pub fn design_document(alloc: Global, text: &str) -> Result<String, NoMemory>
 /// The index of all documents as it is listed:
 /// `{"ddoc":null,"def":{"fields":[{"_id":"asc"}]},"name":"_all_docs","type":"special"}`.
 ///
-/// Errors: `NoMemory` if an allocation fails. Source: `_index` of CouchDB's API reference.
+/// Errors: `NoMemory` if an allocation fails. Cost: constant. Source: `_index` of CouchDB's API reference.
 pub fn all_docs_listed(alloc: Global) -> Result<Json, NoMemory>
     ensures { IfOk result (λ v. view v ≡ listed_all_docs) }
 {

@@ -37,7 +37,7 @@ fn read_fields(alloc: Global, fields: Option<&Json>) -> Result<Columns, IndexErr
     }
 }
 
-// A text that is not empty, if it is there.
+// The text, if the value is there; `Shape` if it is an empty text or no text.
 pub(crate) fn text_given(value: Option<&Json>) -> Result<Option<&str>, IndexError>
     ensures text { ReadsAs (option_map (λ t. t.now)) result
         (or_fault IndexError.Shape (given_text (option_map (λ j. view j.now) value.entry))) }

@@ -1,5 +1,5 @@
 -- Children of a level, and the last element beside each part.
-use Rattle.std.proofs.Common.{◌≡◌, ℕ, ◌+◌, ◌-◌, ◌<◌, List, [], ◌∷◌, ◌++◌, length, take, drop, get_or, false, Ordering, Less, Equal, is_lt, is_gt, Option, Some, None, IfSome, refl, sym, ap, ap₂, ◌∙◌, subst, arith, append_assoc, append-nil}
+use Rattle.std.proofs.Common.{◌≡◌, ℕ, ◌+◌, ◌-◌, ◌<◌, List, [], ◌∷◌, ◌++◌, length, take, drop, get_or, false, Ordering, Less, Equal, is_lt, is_gt, Some, refl, sym, ap, ap₂, ◌∙◌, subst, arith, append_assoc, append-nil}
 use Rattle.std.proofs.lemmas.List.{drop_all, length-append}
 use Rattle.std.proofs.lemmas.List.Elements.{filter-append}
 use Rattle.std.specs.Arc.{arc_value}
@@ -12,7 +12,7 @@ use Rattle.mg_pages.specs.Parts.{IsLast, AreWhole, child_seen, child_value, chil
 use Rattle.mg_pages.specs.declared.child.Child.{Child}
 use Rattle.mg_pages.specs.declared.child.Node.{Node}
 use Rattle.mg_pages.proofs.Sorted.{above_first, found_cut, found_one, split_at, above_of_below, above_one_less, above_one_not, before_one}
-use Rattle.mg_pages.proofs.Parts.{mapped_at, mapped_length, whole_at, ascends_at, seen_split}
+use Rattle.mg_pages.proofs.Parts.{mapped_at, mapped_length, whole_at, ascends_at}
 
 -- the i-th child of a level, as its last element and its part
 pub part_at : {T P : Type 0} (xs : List (Child T P)) (i : ℕ) (c : Child T P) (n : Node T P) → i < length xs → c ≡ get_or xs i c → n ≡ arc_value c.node → node_value n ≡ get_or (children xs) i (node_value n)
@@ -93,17 +93,6 @@ removed_run_last xs low run x e r n at = last_of_end xs r.rest run x (e ∙ r.is
 pub removed_run_none : {T : Type 0} (xs low run : List T) → xs ≡ low → IsEndRun run low → length run ≡ 0 → xs ≡ []
 removed_run_none xs low run e r n = e ∙ r.some n
 
--- an element of one part is among the elements of all parts
-pub among_part : {P T : Type 0} (seen : P → List T) (ps : List P) (i : ℕ) (p : P) (x : T) → i < length ps → p ≡ get_or ps i p → IsAmong (seen p) x → IsAmong (flat_map seen ps) x
-among_part seen ps i p x l e it =
-    let before = flat_map seen (take i ps) in
-    let after = flat_map seen (drop (i + 1) ps) in
-    record {
-      front = before ++ it.front;
-      rest = it.rest ++ after;
-      is = seen_split seen ps i p l e ∙ ap (λ us. before ++ (us ++ after)) it.is ∙ ap (λ us. before ++ us) (append_assoc it.front (x ∷ it.rest) after) ∙ sym (append_assoc before it.front (x ∷ (it.rest ++ after)));
-    }
-
 -- an element that ties with the key is the one that is found
 pub found_among : {T : Type 0} (order : T → T → Ordering) (against : T → Ordering) → IsProbe order against → (xs : List T) (x : T) → Ascends order xs → IsAmong xs x → against x ≡ Equal → found against xs ≡ Some x
 found_among order against p xs x s it e =
@@ -111,8 +100,3 @@ found_among order against p xs x s it e =
     let low = before_one order against p it.front x it.rest rises (ap is_lt e) in
     let high = above_first order against p it.front x it.rest rises (ap is_gt e) in
     ap (found against) it.is ∙ found_cut against it.front (x ∷ []) it.rest low high ∙ found_one against x e
-
--- where P implies Q, an optional value with P has Q
-pub if_there : {A : Type 0} (P Q : A → Type 0) (o : Option A) → ((a : A) → P a → Q a) → IfSome o P → IfSome o Q
-if_there P Q None step h = h
-if_there P Q (Some a) step h = step a h

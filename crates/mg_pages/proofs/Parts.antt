@@ -166,12 +166,12 @@ on_err_when (Err e) p = p
 
 -- ---- runs
 
-pub nothing : {X : Type 0} (xs : List X) → length xs ≡ 0 → xs ≡ []
-nothing [] e = refl
-nothing (x ∷ xs) e = absurd (omega (arith, e))
+pub empty_of_length : {X : Type 0} (xs : List X) → length xs ≡ 0 → xs ≡ []
+empty_of_length [] e = refl
+empty_of_length (x ∷ xs) e = absurd (omega (arith, e))
 
 pub run_whole : {X : Type 0} (run xs : List X) → run ≡ xs → IsRun run xs
-run_whole run xs e = record { rest = []; is = sym e ∙ sym (append-nil run); some = λ n. sym e ∙ nothing run n }
+run_whole run xs e = record { rest = []; is = sym e ∙ sym (append-nil run); some = λ n. sym e ∙ empty_of_length run n }
 
 pub run_more : {X : Type 0} (run xs ys zs : List X) → IsRun run xs → 0 < length run → zs ≡ xs ++ ys → IsRun run zs
 run_more run xs ys zs r n e = record {
@@ -201,7 +201,7 @@ continued_above order o against p run xs r s =
 
 -- the only element of a list
 pub only_one : {T : Type 0} (order : T → T → Ordering) (ys : List T) (x a : T) (xs : List T) → ys ≡ x ∷ xs → length ys ≤ 1 → a ≡ get_or ys 0 a → (xs ≡ []) × (a ≡ x)
-only_one order ys x a xs e l h = let n : length ys ≡ length (x ∷ xs) = ap length e in (nothing xs (omega (arith, n)), h ∙ ap (λ us. get_or us 0 a) e)
+only_one order ys x a xs e l h = let n : length ys ≡ length (x ∷ xs) = ap length e in (empty_of_length xs (omega (arith, n)), h ∙ ap (λ us. get_or us 0 a) e)
 
 -- ---- a removal
 
@@ -250,7 +250,7 @@ whole_without f W xs i b l h =
 -- ---- runs from the end
 
 pub end_whole : {X : Type 0} (run xs : List X) → run ≡ xs → IsEndRun run xs
-end_whole run xs e = record { rest = []; is = sym e; some = λ n. sym e ∙ nothing run n }
+end_whole run xs e = record { rest = []; is = sym e; some = λ n. sym e ∙ empty_of_length run n }
 
 pub end_more : {X : Type 0} (run xs ys zs : List X) → IsEndRun run xs → 0 < length run → zs ≡ ys ++ xs → IsEndRun run zs
 end_more run xs ys zs r n e = record {
@@ -273,7 +273,3 @@ pub ended_below : {T : Type 0} (order : T → T → Ordering) → IsTotalOrder o
 ended_below order o against p run xs r s =
     let cut = below_prefix order against p xs s in
     ended_is order o xs r.rest run cut.0 (cut.1 ∙ ap (λ us. us ++ cut.0) r.is) s (λ n. sym r.is ∙ r.some n) ∙ sym r.is
-
--- a run without its last element
-pub ended_front : {T : Type 0} (order : T → T → Ordering) (xs front : List T) (x y : T) → ended order xs ((x ∷ front) ++ y ∷ []) ≡ ended order xs (x ∷ front) ++ y ∷ []
-ended_front order xs front x y = sym (append_assoc (below (order x) xs) (x ∷ front) (y ∷ []))

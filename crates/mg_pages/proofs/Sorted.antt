@@ -64,32 +64,32 @@ greater_from_test Equal h = absurd cc
 
 -- ---- the elements that a key is above, below, or ties with
 
-passing : {X : Type 0} (test : X → Bool) (P : X → Type 0) → ((x : X) → P x → test x ≡ true) → (xs : List X) → AllByRecursion P xs → filter test xs ≡ xs
-passing test P w [] h = refl
-passing test P w (x ∷ xs) h = ap (λ b. cond b (x ∷ filter test xs) (filter test xs)) (w x h.0) ∙ ap (λ ys. x ∷ ys) (passing test P w xs h.1)
+filter_keeps_all : {X : Type 0} (test : X → Bool) (P : X → Type 0) → ((x : X) → P x → test x ≡ true) → (xs : List X) → AllByRecursion P xs → filter test xs ≡ xs
+filter_keeps_all test P w [] h = refl
+filter_keeps_all test P w (x ∷ xs) h = ap (λ b. cond b (x ∷ filter test xs) (filter test xs)) (w x h.0) ∙ ap (λ ys. x ∷ ys) (filter_keeps_all test P w xs h.1)
 
-failing : {X : Type 0} (test : X → Bool) (P : X → Type 0) → ((x : X) → P x → test x ≡ false) → (xs : List X) → AllByRecursion P xs → filter test xs ≡ []
-failing test P w [] h = refl
-failing test P w (x ∷ xs) h = ap (λ b. cond b (x ∷ filter test xs) (filter test xs)) (w x h.0) ∙ failing test P w xs h.1
+filter_keeps_none : {X : Type 0} (test : X → Bool) (P : X → Type 0) → ((x : X) → P x → test x ≡ false) → (xs : List X) → AllByRecursion P xs → filter test xs ≡ []
+filter_keeps_none test P w [] h = refl
+filter_keeps_none test P w (x ∷ xs) h = ap (λ b. cond b (x ∷ filter test xs) (filter test xs)) (w x h.0) ∙ filter_keeps_none test P w xs h.1
 
 module _ {T : Type 0} (against : T → Ordering) where
   pub below_of_below : (xs : List T) → AllBelow against xs → below against xs ≡ xs
-  below_of_below xs h = passing (λ x. is_gt (against x)) (λ x. against x ≡ Greater) (λ x e. ap is_gt e) xs h
+  below_of_below xs h = filter_keeps_all (λ x. is_gt (against x)) (λ x. against x ≡ Greater) (λ x e. ap is_gt e) xs h
 
   pub above_of_below : (xs : List T) → AllBelow against xs → above against xs ≡ []
-  above_of_below xs h = failing (λ x. is_lt (against x)) (λ x. against x ≡ Greater) (λ x e. ap is_lt e) xs h
+  above_of_below xs h = filter_keeps_none (λ x. is_lt (against x)) (λ x. against x ≡ Greater) (λ x e. ap is_lt e) xs h
 
   tied_of_below : (xs : List T) → AllBelow against xs → filter (λ x. is_eq (against x)) xs ≡ []
-  tied_of_below xs h = failing (λ x. is_eq (against x)) (λ x. against x ≡ Greater) (λ x e. ap is_eq e) xs h
+  tied_of_below xs h = filter_keeps_none (λ x. is_eq (against x)) (λ x. against x ≡ Greater) (λ x e. ap is_eq e) xs h
 
   pub below_of_above : (xs : List T) → AllAbove against xs → below against xs ≡ []
-  below_of_above xs h = failing (λ x. is_gt (against x)) (λ x. against x ≡ Less) (λ x e. ap is_gt e) xs h
+  below_of_above xs h = filter_keeps_none (λ x. is_gt (against x)) (λ x. against x ≡ Less) (λ x e. ap is_gt e) xs h
 
   pub above_of_above : (xs : List T) → AllAbove against xs → above against xs ≡ xs
-  above_of_above xs h = passing (λ x. is_lt (against x)) (λ x. against x ≡ Less) (λ x e. ap is_lt e) xs h
+  above_of_above xs h = filter_keeps_all (λ x. is_lt (against x)) (λ x. against x ≡ Less) (λ x e. ap is_lt e) xs h
 
   tied_of_above : (xs : List T) → AllAbove against xs → filter (λ x. is_eq (against x)) xs ≡ []
-  tied_of_above xs h = failing (λ x. is_eq (against x)) (λ x. against x ≡ Less) (λ x e. ap is_eq e) xs h
+  tied_of_above xs h = filter_keeps_none (λ x. is_eq (against x)) (λ x. against x ≡ Less) (λ x e. ap is_eq e) xs h
 
   filter_cut : (test : T → Bool) (front mid rest : List T) → filter test (front ++ (mid ++ rest)) ≡ filter test front ++ (filter test mid ++ filter test rest)
   filter_cut test front mid rest = filter-append test front (mid ++ rest) ∙ ap (λ xs. filter test front ++ xs) (filter-append test mid rest)
@@ -298,7 +298,7 @@ pub removed_ascends : {T : Type 0} (order : T → T → Ordering) (against : T �
 removed_ascends order against p xs s =
     let cut = above_suffix order against p xs s in
     let rest = above against xs in
-    let none : below against rest ≡ [] = failing (λ x. is_gt (against x)) (λ x. is_lt (against x) ≡ true) (λ x h. not_both (against x) h) rest (all_pass (λ x. is_lt (against x)) xs) in
+    let none : below against rest ≡ [] = filter_keeps_none (λ x. is_gt (against x)) (λ x. is_lt (against x) ≡ true) (λ x h. not_both (against x) h) rest (all_pass (λ x. is_lt (against x)) xs) in
     let low : below against xs ≡ below against cut.0 = ap (below against) cut.1 ∙ filter-append (λ x. is_gt (against x)) cut.0 rest ∙ ap (λ us. below against cut.0 ++ us) none ∙ append-nil (below against cut.0) in
     subst (λ us. Ascends order (us ++ rest)) (sym low) (ascends_filter_front order (λ x. is_gt (against x)) cut.0 rest (subst (Ascends order) cut.1 s))
 

@@ -1,4 +1,4 @@
--- Sorted lists without ties, and keys that are looked up in them, as in a sorted map: what a collection stands for.
+-- A collection stands for a sorted list without ties, in which keys are looked up, as in a sorted map.
 -- A key is compared to an element by `against`: `Less` where the key is below the element.
 use Rattle.std.specs.Prelude.{◌≡◌, false, List, [], ◌∷◌, ◌++◌, Option, Some, None, refl}
 use Rattle.std.specs.Cmp.{IsTotalOrder}

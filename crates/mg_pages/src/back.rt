@@ -25,8 +25,8 @@ impl<'a, T: Keyed> Model for Back<'a, T> {
     ghost view = { λ it. reverse (ended T.order it.pages.now it.run.now) };
 }
 
-// Where to continue before `last`: with `run`, which is what is left before it, or with an earlier run.
-fn run_to<'a, T: Keyed>(pages: &'a Pages<T>, run: &'a [T], last: &'a T) -> &'a [T]
+// The run with which to continue before `last`: `run`, which is what is left before it, or an earlier one if that is empty.
+fn run_before_last<'a, T: Keyed>(pages: &'a Pages<T>, run: &'a [T], last: &'a T) -> &'a [T]
     ensures { ended T.order pages.now (run.now ++ last.now ∷ [])
         ≡ ended T.order pages.now result.now ++ last.now ∷ [] }
 {
@@ -36,8 +36,8 @@ fn run_to<'a, T: Keyed>(pages: &'a Pages<T>, run: &'a [T], last: &'a T) -> &'a [
     pages.run_before(last)
 }
 
-// Where to continue after skipping the last `count` elements: with what is left of the run, or with an earlier run.
-fn run_ahead<'a, T: Keyed>(pages: &'a Pages<T>, run: &'a [T], count: usize) -> &'a [T]
+// The run with which to continue after skipping the last `count` elements: what is left of this run, or an earlier one.
+fn run_before_skip<'a, T: Keyed>(pages: &'a Pages<T>, run: &'a [T], count: usize) -> &'a [T]
     ensures { reverse (ended T.order pages.now result.now)
         ≡ drop count (reverse (ended T.order pages.now run.now)) }
 {
@@ -64,7 +64,7 @@ impl<'a, T: Keyed> Back<'a, T> {
         ensures { self.new ≡ drop count self.old }
     {
         let run = self.run;
-        self.run = run_ahead(self.pages, run, count);
+        self.run = run_before_skip(self.pages, run, count);
     }
 
     /// The last element of the run that is being read, which is the rest of one page, and its place among the elements that are left;
@@ -92,7 +92,7 @@ impl<'a, T: Keyed> Iterator for Back<'a, T> {
         let run = self.run;
         if run.len() > 0 {
             let (rest, last) = run.split_at(run.len() - 1);
-            self.run = run_to(self.pages, rest, &last[0]);
+            self.run = run_before_last(self.pages, rest, &last[0]);
             return Some(&last[0]);
         }
         None

@@ -11,11 +11,13 @@ use std::sync::Arc;
 /// An element that several pages can have.
 pub trait Element: Drop + Sized {
     /// Duplicates the element: a copy of its bytes, or one more owner of its block. Takes no memory.
+    ///
+    /// Errors: `AllocError` where the block has 2^63 - 1 owners.
     fn again(&self) -> Result<Self, AllocError>
         ensures { IfOk result (λ e. e ≡ self.now) };
 
     /// Appends a duplicate to a list, which has room for it. Takes no memory. A type overrides it where the duplicate can be written to
-    /// its place at once.
+    /// its place at once. Errors: those of `again`.
     #[inline(always)]
     fn push_again(&self, list: &mut Vec<Self>) -> Result<(), AllocError>
         requires { vec_len list.old < vec_capacity list.old }
@@ -49,7 +51,7 @@ impl<X: Drop> Model for Shared<X> {
 }
 
 impl<X: Drop> Shared<X> {
-    /// Puts the value into a block of its own. Errors: `NoMemory` where the block was refused.
+    /// Puts the value into a block of its own. Errors: `NoMemory` if the allocation fails.
     pub fn new(alloc: Global, value: X) -> Result<Shared<X>, NoMemory>
         ensures { IfOk result (λ s. s ≡ value) }
     {

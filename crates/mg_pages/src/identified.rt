@@ -6,7 +6,7 @@ use crate::hint::text_hint;
 use crate::keyed::{Keyed, Probe};
 use std::cmp::Ordering;
 
-/// Elements that have an id.
+/// Values that have an id. In a `Shared` block such a value is an element; elements are in the order of their ids, byte by byte.
 pub trait Identified: Drop {
     // the bytes of the id
     ghost id: { Self → List ℕ };

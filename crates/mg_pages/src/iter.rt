@@ -25,9 +25,9 @@ impl<'a, T: Keyed> Model for Iter<'a, T> {
     ghost view = { λ it. continued T.order it.pages.now it.run.now };
 }
 
-// Where to continue after the first element of a run: with what is left of the run, or with the next run.
+// The run with which to continue after the first element of a run: what is left of it, or the next one.
 #[inline(always)]
-fn rest_of<'a, T: Keyed>(pages: &'a Pages<T>, run: &'a [T]) -> &'a [T]
+fn run_after_first<'a, T: Keyed>(pages: &'a Pages<T>, run: &'a [T]) -> &'a [T]
     requires { 0 < length run.now }
     ensures { (x : T) (xs : List T) → run.now ≡ x ∷ xs
         → continued T.order pages.now result.now ≡ continued_after T.order pages.now x xs }
@@ -38,8 +38,8 @@ fn rest_of<'a, T: Keyed>(pages: &'a Pages<T>, run: &'a [T]) -> &'a [T]
     pages.run_after(&run[0])
 }
 
-// Where to continue after skipping the first `count` elements: with what is left of the run, or with a later run.
-fn run_behind<'a, T: Keyed>(pages: &'a Pages<T>, run: &'a [T], count: usize) -> &'a [T]
+// The run with which to continue after skipping `count` elements: what is left of this run, or a later one.
+fn run_after_skip<'a, T: Keyed>(pages: &'a Pages<T>, run: &'a [T], count: usize) -> &'a [T]
     ensures { continued T.order pages.now result.now
         ≡ drop count (continued T.order pages.now run.now) }
 {
@@ -67,7 +67,7 @@ impl<'a, T: Keyed> Iter<'a, T> {
         ensures { self.new ≡ drop count self.old }
     {
         let run = self.run;
-        self.run = run_behind(self.pages, run, count);
+        self.run = run_after_skip(self.pages, run, count);
     }
 
     /// The last element of the run that is being read, which is the rest of one page, and its place among the elements that are left;
@@ -95,7 +95,7 @@ impl<'a, T: Keyed> Iterator for Iter<'a, T> {
     fn next(&mut self) -> Option<&'a T> {
         let run = self.run;
         if run.len() > 0 {
-            self.run = rest_of(self.pages, run);
+            self.run = run_after_first(self.pages, run);
             return Some(&run[0]);
         }
         None

@@ -42,7 +42,7 @@ pub trait Probe<T: Keyed> {
     fn against(&self, element: &T) -> Ordering
         ensures { result ≡ against self.now element.now };
 
-    /// Whether the key ties with an element. Takes no memory. Keys that test this faster than they compare have a test of their own.
+    /// Whether the key ties with an element. Takes no memory. A type overrides it where this test is faster than a comparison.
     fn ties(&self, element: &T) -> bool
         ensures { result ≡ is_eq (against self.now element.now) }
     {

@@ -26,8 +26,8 @@ impl<T: Drop, P: Drop> Drop for Level<T, P> {
     }
 }
 
-// Guesses the index of the part where a key with this hint belongs: that of the first part whose hint is not below it. For at most 64
-// parts, steps of a fixed length take fewer instructions than halving.
+// Guesses the index of the part where a key with this hint belongs: that of the first part whose hint is not below it. Steps of a fixed
+// length take fewer instructions than halving for at most 64 parts; only the top level, which has no such limit, can have more.
 fn guess_among<T: Keyed, P: Subtree<T>>(parts: &[Child<T, P>], number: u64) -> usize {
     let mut first = stride_among::<T, P>(parts, number);
     while first < parts.len() && parts[first].hint < number {
@@ -56,7 +56,8 @@ fn guess_for<T: Keyed, P: Subtree<T>, Q: Probe<T>>(parts: &[Child<T, P>], key: &
 }
 
 // The index of the part where a key belongs: the elements of earlier parts are below the key, those of later parts above it.
-// Cost: the logarithm of the number of parts, in comparisons with last elements. It reads no part.
+// Cost: the logarithm of the number of parts, in comparisons with last elements, and a read of the hint of every eighth part before
+// the guess. It reads no part.
 fn place<T: Keyed, P: Subtree<T>, Q: Probe<T>>(parts: &[Child<T, P>], key: &Q) -> usize
     requires some { 0 < length parts.now }
     requires whole { AreWhole (child_whole P.is_whole P.seen) (children parts.now) }
@@ -274,6 +275,7 @@ impl<T: Keyed, P: Subtree<T>> Subtree<T> for Level<T, P> {
     }
 
     fn count_below<Q: Probe<T>>(&self, key: &Q) -> usize {
+        // only for its contract: the elements are fewer than 2^64, so that the sum does not overflow
         let _all = self.count();
         let i = place::<T, P, Q>(&self.parts, key);
         let before = count_of::<T, P>(&self.parts[..i]);

@@ -75,7 +75,7 @@ fn parts_of<T: Keyed>(
 }
 
 impl<T: Keyed> Pages<T> {
-    /// Builds a collection of pages, in their order. None of them is empty, and all their elements ascend.
+    /// Builds a collection of pages, in their order. No page may be empty, and the elements of all pages, in this order, must ascend.
     ///
     /// Errors: `NoMemory` if an allocation fails. Cost: a step for each page.
     pub fn from_pages(alloc: Global, pages: Vec<NewPage<T>>) -> Result<Pages<T>, NoMemory>

@@ -85,7 +85,7 @@ fn take_out<T: Keyed, Q: Probe<T>>(
 
 // The element that ties with a key, if the hints lead to it. Cost: one comparison.
 #[inline(always)]
-fn tied<'a, T: Keyed, Q: Probe<T>>(root: &'a Root<T>, key: &Q) -> Option<&'a T>
+fn find_tie<'a, T: Keyed, Q: Probe<T>>(root: &'a Root<T>, key: &Q) -> Option<&'a T>
     requires { IsSound T.order root.now }
     ensures { IfSome result (λ t. found (Q.against key.now) (root_seen root.now) ≡ Some t.now) }
 {
@@ -102,8 +102,8 @@ fn tied<'a, T: Keyed, Q: Probe<T>>(root: &'a Root<T>, key: &Q) -> Option<&'a T>
     None
 }
 
-// The first elements above a key, up to the end of their page, if the hints lead to a page with elements on both sides of the key.
-// Cost: a few comparisons.
+// The first elements above a key, up to the end of their page, if the hints lead to a page with elements on both sides of the key, none
+// of which ties with it. Cost: the logarithm of the elements of one page, in comparisons.
 fn guessed_run_after<'a, T: Keyed, Q: Probe<T>>(root: &'a Root<T>, key: &Q) -> Option<&'a [T]>
     requires { IsSound T.order root.now }
     ensures { IfSome result (λ run. IsRun run.now (above (Q.against key.now) (root_seen root.now))) }
@@ -116,8 +116,8 @@ fn guessed_run_after<'a, T: Keyed, Q: Probe<T>>(root: &'a Root<T>, key: &Q) -> O
     Some(&page[i..])
 }
 
-// The last elements below a key, from the start of their page, if the hints lead to a page with elements on both sides of the key.
-// Cost: a few comparisons.
+// The last elements below a key, from the start of their page, if the hints lead to a page with elements on both sides of the key, none
+// of which ties with it. Cost: that of `guessed_run_after`.
 fn guessed_run_before<'a, T: Keyed, Q: Probe<T>>(root: &'a Root<T>, key: &Q) -> Option<&'a [T]>
     requires { IsSound T.order root.now }
     ensures { IfSome result (λ run. IsEndRun run.now (below (Q.against key.now) (root_seen root.now))) }
@@ -141,8 +141,8 @@ fn vec_of<X: Drop>(alloc: Global, thing: X) -> Result<Vec<X>, AllocError>
 
 /// An ordered collection of elements, no two of which tie. Contracts see their list.
 ///
-/// A page has at most 64 elements, and a level below the top at most 64 parts. Collections share the pages and levels
-/// that they have in common; pages and levels that no other collection shares are changed in place.
+/// A page has at most 64 elements, unless a `NewPage` had more, and a level below the top at most 64 parts. Collections share the pages
+/// and levels that they have in common; pages and levels that no other collection shares are changed in place.
 #[derive(Drop)]
 pub struct Pages<T: Keyed> {
     pub(crate) root: Root<T>,
@@ -204,20 +204,20 @@ impl<T: Keyed> Pages<T> {
         self.root.count == 0
     }
 
-    /// Does nothing: its contract tells proofs of callers that the elements ascend.
+    /// Does nothing. From its contract the proofs of callers know that the elements ascend.
     pub fn ascends(&self)
         ensures { Ascends T.order self.now }
     {
         let _ = &self.root;
     }
 
-    /// The element that ties with the key. Cost: one comparison where the hints lead to it, otherwise the logarithm of the number
-    /// of elements. Takes no memory.
+    /// The element that ties with the key, if there is one. Cost: one comparison where the hints lead to it, otherwise the logarithm of
+    /// the number of elements; besides, a read of the hint of every eighth part before the element's, on each level. Takes no memory.
     #[inline(always)]
     pub fn get<Q: Probe<T>>(&self, key: &Q) -> Option<&T>
         ensures { option_map (λ t. t.now) result ≡ found (Q.against key.now) self.now }
     {
-        if let Some(element) = tied::<T, Q>(&self.root, key) {
+        if let Some(element) = find_tie::<T, Q>(&self.root, key) {
             return Some(element);
         }
         if self.root.parts.is_empty() {
@@ -298,7 +298,7 @@ impl<T: Keyed> Pages<T> {
         &[]
     }
 
-    /// The elements in ascending order. Cost: the logarithm of the number of elements, and then a step for each element.
+    /// The elements in ascending order. Cost: constant, and then a step for each element and a look-up for each further page.
     pub fn iter(&self) -> Iter<'_, T>
         ensures { result ≡ self.now }
     {
@@ -318,7 +318,8 @@ impl<T: Keyed> Pages<T> {
         Some(run)
     }
 
-    /// The elements above the key, in ascending order. Cost: one look-up, and then a step for each element.
+    /// The elements above the key, in ascending order. Cost: one look-up, and then a step for each element and a look-up for each
+    /// further page.
     pub fn after<Q: Probe<T>>(&self, key: &Q) -> Iter<'_, T>
         ensures { result ≡ above (Q.against key.now) self.now }
     {
@@ -439,11 +440,10 @@ impl<T: Keyed> Pages<T> {
         Ok(had)
     }
 
-    /// Removes the element that ties with the key, and returns whether there was one. Where there is no such element,
-    /// nothing is copied.
+    /// Removes the element that ties with the key, and returns whether there was one. Without such an element it takes no memory,
+    /// and so does not fail.
     ///
-    /// Errors: `NoMemory` if an allocation fails, but never where there is no such element; then nothing has changed.
-    /// Cost: that of `insert`.
+    /// Errors: `NoMemory` if an allocation fails; then nothing has changed. Cost: that of `insert`.
     pub fn remove<Q: Probe<T>>(&mut self, alloc: Global, key: &Q) -> Result<bool, NoMemory>
         ensures had { IfOk result (λ had. had ≡ is_some (found (Q.against key.now) self.old)) }
         ensures ok { OnOk result (self.new ≡ removed (Q.against key.now) self.old) }

@@ -7,11 +7,11 @@ ghost use Rattle.mg_pages.specs.Parts.{IsLast, IsCopy, AreHalves};
 use crate::keyed::{Keyed, Probe};
 use std::alloc::{AllocError, Global};
 
-/// The most elements of a page, and the most parts of a level below the top.
+/// The most elements of a page, unless `NewPage::of` was given more, and the most parts of a level below the top.
 pub const LIMIT: usize = 64;
 
-/// How many elements a page has, and how many parts a level, if it is made of a whole list: fewer than the most, so that the next
-/// insertions find room.
+/// How many elements a page gets, and how many parts a level, when a collection is built from a list: fewer than `LIMIT`, so that the
+/// next insertions find room.
 pub const FILL: usize = 48;
 
 /// A page or a level, with the elements in it, in order. It is a part of the level above it, if there is one.

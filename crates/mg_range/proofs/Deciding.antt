@@ -12,7 +12,7 @@ use Rattle.mg_index.specs.Definition.{Steps}
 use Rattle.mg_index.specs.Key.{key_of}
 use Rattle.mg_range.proofs.Bounded.{bounds_hold}
 use Rattle.mg_range.proofs.Contained.{contained}
-use Rattle.mg_range.proofs.Limits.{and_true, four}
+use Rattle.mg_range.proofs.Limits.{and_true, and_swap_inner}
 use Rattle.mg_range.specs.Decided.{decides_of, is_decided}
 use Rattle.mg_range.specs.Laws.{HasKey, RangeDecides, RangeDecidesAtoms, RangeDecidesForm}
 use Rattle.mg_range.specs.RangeSide.{has_key}
@@ -26,7 +26,7 @@ all_same p q e (x ∷ xs) = ap₂ (λ s t. s && t) (e x) (all_same p q e xs)
 
 all_both : {X : Type 0} (p q : X → Bool) (xs : List X) → list_all (λ x. p x && q x) xs ≡ (list_all p xs && list_all q xs)
 all_both p q [] = refl
-all_both p q (x ∷ xs) = ap (λ t. (p x && q x) && t) (all_both p q xs) ∙ four (p x) (q x) (list_all p xs) (list_all q xs)
+all_both p q (x ∷ xs) = ap (λ t. (p x && q x) && t) (all_both p q xs) ∙ and_swap_inner (p x) (q x) (list_all p xs) (list_all q xs)
 
 all_true : {X : Type 0} (xs : List X) → list_all (λ x. true) xs ≡ true
 all_true [] = refl

@@ -51,8 +51,3 @@ placed_past None ends row h = absurd (let e = h.1 in cc)
 placed_past (Some s) ends row h =
     past_at (is_before s.equal s.lower (item_list row.0)) (is_past s.equal s.upper (item_list row.0)) (past_apart s.equal s.lower s.upper (item_list row.0) h.0)
     ∙ above_is ends s row (same_ends ends s h.1)
-
--- a range with no ends is empty
-pub placed_none : (range : Range) (row : RowValue) → HasEnds range None → side_of range (item_list row.0) ≡ Past
-placed_none None row h = refl
-placed_none (Some s) row h = absurd (let e = h.1 in cc)

@@ -21,8 +21,8 @@ none_bounds c (a ∷ atoms) h =
 -- ---- the bounded columns, one after another
 
 -- a column that no atom bounds is not bounded by this one
-abbrev ReadsAs : List Atom → Atom → Type 0
-ReadsAs atoms a = (c : Steps) → is_bounded atoms c ≡ false → is_some (bound_on c a) ≡ false
+abbrev BoundsBoundedOnly : List Atom → Atom → Type 0
+BoundsBoundedOnly atoms a = (c : Steps) → is_bounded atoms c ≡ false → is_some (bound_on c a) ≡ false
 
 at_column : (c : Steps) (cs : List Steps) (a : Atom) (n : ℕ) (decided fixed bounded : Bool) → bounds_one (take n cs) a ≡ decided → (bounded ≡ false → is_some (bound_on c a) ≡ false)
     → bounds_one (take (if fixed then suc n else if bounded then 1 else 0) (c ∷ cs)) a ≡ (is_some (bound_on c a) || (fixed && decided))
@@ -30,7 +30,7 @@ at_column c cs a n decided true bounded e free = ap (λ t. is_some (bound_on c a
 at_column c cs a n decided false true e free = refl
 at_column c cs a n decided false false e free = sym (ap (λ t. t || false) (free refl))
 
-decided_leading : (atoms : List Atom) (a : Atom) → ReadsAs atoms a → (columns : List Steps) → bounds_one (take (bounded_count atoms columns) columns) a ≡ is_decided atoms columns a
+decided_leading : (atoms : List Atom) (a : Atom) → BoundsBoundedOnly atoms a → (columns : List Steps) → bounds_one (take (bounded_count atoms columns) columns) a ≡ is_decided atoms columns a
 decided_leading atoms a gives [] = refl
 decided_leading atoms a gives (c ∷ cs) =
     at_column c cs a (bounded_count atoms cs) (is_decided atoms cs a) (is_fixed atoms c) (is_bounded atoms c) (decided_leading atoms a gives cs) (gives c)

@@ -36,10 +36,10 @@ and_assoc : (a b c : Bool) → ((a && b) && c) ≡ (a && (b && c))
 and_assoc true b c = refl
 and_assoc false b c = refl
 
-pub four : (a d s t : Bool) → ((a && d) && (s && t)) ≡ ((a && s) && (d && t))
-four true true s t = refl
-four true false s t = and_false s
-four false d s t = refl
+pub and_swap_inner : (a d s t : Bool) → ((a && d) && (s && t)) ≡ ((a && s) && (d && t))
+and_swap_inner true true s t = refl
+and_swap_inner true false s t = and_false s
+and_swap_inner false d s t = refl
 
 -- ---- the order of values from below and from above
 
@@ -228,7 +228,7 @@ both_sides : (v : Value) (bounds : List Bound) → meets_all v bounds ≡ (list_
 both_sides v [] = refl
 both_sides v (b ∷ bounds) =
     ap₂ ◌&&◌ (by_comparison b.comparison v b.value) (both_sides v bounds)
-    ∙ four (limit_admits Asc v b) (limit_admits Desc v b) (list_all (limit_admits Asc v) bounds) (list_all (limit_admits Desc v) bounds)
+    ∙ and_swap_inner (limit_admits Asc v b) (limit_admits Desc v b) (list_all (limit_admits Asc v) bounds) (list_all (limit_admits Desc v) bounds)
 
 -- a value meets bounds exactly where it is within their tightest limits
 pub meets_tightest : (v : Value) (bounds : List Bound) → meets_all v bounds ≡ (is_within_some Asc (tightest Asc bounds) v && is_within_some Desc (tightest Desc bounds) v)

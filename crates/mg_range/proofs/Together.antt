@@ -58,9 +58,9 @@ rises_at direction l v w h Greater e k = ap (admits l.inclusive) (above_too (ord
 rises : (direction : Direction) (l : Limit) (v w : Value) → is_gt (order_from direction v w) ≡ false → is_within direction l v ≡ true → is_within direction l w ≡ true
 rises direction l v w h k = rises_at direction l v w h (order_from direction v l.value) refl k
 
-contrary : (a b : Bool) → (a ≡ true → b ≡ true) → not b ≡ true → not a ≡ true
-contrary true b f h = sym (ap not (f refl)) ∙ h
-contrary false b f h = refl
+contrapositive : (a b : Bool) → (a ≡ true → b ≡ true) → not b ≡ true → not a ≡ true
+contrapositive true b f h = sym (ap not (f refl)) ∙ h
+contrapositive false b f h = refl
 
 -- ---- the first values of two keys in order
 
@@ -112,7 +112,7 @@ before_falls : (es : List Value) (lower : Option Limit) (a b : List Value) → N
 before_falls [] None a b h k = k
 before_falls [] (Some l) [] b h k = refl
 before_falls [] (Some l) (v ∷ vs) [] h k = absurd (not_after_end v vs h)
-before_falls [] (Some l) (v ∷ vs) (w ∷ ws) h k = contrary (is_within Asc l v) (is_within Asc l w) (rises Asc l v w (not_above v w vs ws h)) k
+before_falls [] (Some l) (v ∷ vs) (w ∷ ws) h k = contrapositive (is_within Asc l v) (is_within Asc l w) (rises Asc l v w (not_above v w vs ws h)) k
 before_falls (e ∷ es) lower [] b h k = refl
 before_falls (e ∷ es) lower (v ∷ vs) [] h k = absurd (not_after_end v vs h)
 before_falls (e ∷ es) lower (v ∷ vs) (w ∷ ws) h k =
@@ -134,7 +134,7 @@ past_rises : (es : List Value) (upper : Option Limit) (a b : List Value) → Not
 past_rises [] None a b h k = absurd (false≢true k)
 past_rises [] (Some u) [] b h k = absurd (false≢true k)
 past_rises [] (Some u) (v ∷ vs) [] h k = absurd (not_after_end v vs h)
-past_rises [] (Some u) (v ∷ vs) (w ∷ ws) h k = contrary (is_within Desc u w) (is_within Desc u v) (rises Desc u w v (back_not_above v w (not_above v w vs ws h))) k
+past_rises [] (Some u) (v ∷ vs) (w ∷ ws) h k = contrapositive (is_within Desc u w) (is_within Desc u v) (rises Desc u w v (back_not_above v w (not_above v w vs ws h))) k
 past_rises (e ∷ es) upper [] b h k = absurd (false≢true k)
 past_rises (e ∷ es) upper (v ∷ vs) [] h k = absurd (not_after_end v vs h)
 past_rises (e ∷ es) upper (v ∷ vs) (w ∷ ws) h k =

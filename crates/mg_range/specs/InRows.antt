@@ -14,7 +14,7 @@ BothEnds = (Edge × Items) × (Edge × Items)
 abbrev pub ends_of : Span → BothEnds
 ends_of s = (low_end s, high_end s)
 
--- the ends of the code
+-- the ends that a `SpanEnds` of the code holds
 abbrev pub ends_at : SpanEnds → BothEnds
 ends_at ends = (ends.low, ends.high)
 

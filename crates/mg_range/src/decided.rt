@@ -10,11 +10,12 @@ use mg_path::Path;
 
 /// Whether the range that the atoms give an index of these columns decides every atom, so that a document's
 /// key shows whether all of them hold. It does if every atom bounds a bounded column: one of the leading
-/// columns that an `$eq` bounds, or the next one. Takes no memory. Cost: the columns times the atoms.
+/// columns that an `$eq` or a negated `$ne` bounds, or the next one. Takes no memory. Cost: the columns times
+/// the atoms.
 pub fn decides(columns: &[Path], atoms: &[Atom]) -> bool
     ensures { result ≡ decides_of (atoms_view atoms.now) columns.now }
 {
-    let bounded = bounded(columns, atoms);
+    let bounded = bounded_columns(columns, atoms);
     for atom in atoms {
         if !bounds_one(bounded, atom) {
             return false;
@@ -24,7 +25,7 @@ pub fn decides(columns: &[Path], atoms: &[Atom]) -> bool
 }
 
 // The bounded columns: the leading ones whose value the atoms fix, and the next one if they bound it.
-fn bounded<'a>(columns: &'a [Path], atoms: &[Atom]) -> &'a [Path]
+fn bounded_columns<'a>(columns: &'a [Path], atoms: &[Atom]) -> &'a [Path]
     ensures { result.now ≡ take (count_of (atoms_view atoms.now) columns.now) columns.now }
 {
     &columns[..bounded_count(columns, atoms)]

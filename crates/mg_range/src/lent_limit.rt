@@ -14,7 +14,7 @@ use mg_path::Path;
 use mg_value::Json;
 use std::cmp::Ordering;
 
-// A limit on the values of a column.
+// A limit on the values of a column. An atom lends its value.
 #[derive(Clone, Copy, Debug)]
 pub(crate) struct LentLimit<'a> {
     pub(crate) value: &'a Json,

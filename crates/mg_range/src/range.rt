@@ -43,8 +43,8 @@ impl Model for KeyRange {
 impl KeyRange {
     /// The range of an index of these columns for a query.
     ///
-    /// The bounds come from the atoms alone, as `Bound::on` gives them. A leading column that an `$eq` bounds
-    /// has its value, and the next column lies between its tightest bounds.
+    /// The bounds come from the atoms alone, as `Bound::on` gives them. A leading column that an `$eq` bounds, or
+    /// a negated `$ne`, has its value, and the next column lies between its tightest bounds.
     ///
     /// Errors: `NoMemory` if an allocation fails. Cost: the columns times the atoms, and a copy of each bound
     /// that is kept.

@@ -18,7 +18,7 @@ use mg_value::{Json, NoMemory};
 use std::alloc::Global;
 use std::cmp::Ordering;
 
-// A limit on the values of a column.
+// A limit on the values of a column, with a copy of its value.
 #[derive(Debug, Drop)]
 pub(crate) struct Limit {
     pub(crate) value: Json,

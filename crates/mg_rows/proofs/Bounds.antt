@@ -14,7 +14,7 @@ use Rattle.mg_rows.specs.Stored.{IsStoredRow}
 use Rattle.mg_rows.specs.declared.edge.Edge.{Edge}
 use Rattle.mg_rows.specs.declared.edge.Edge.TheVariants.{Before, After}
 use Rattle.mg_rows.proofs.Joined.{columns_append}
-use Rattle.mg_rows.specs.Only.{PlaceOf, BeginsLow, value_low, below_value}
+use Rattle.mg_rows.specs.Only.{BoundOf, BeginsLow, value_low, below_value}
 use Rattle.mg_rows.specs.Ranked.{value_cmp, then_two, above_zero}
 
 -- ---- what follows a column
@@ -48,7 +48,7 @@ front_cmp edge (item v vs) (item w ws) id f g =
     ∙ then_two (value_order v w) (items_order vs (first_columns vs ws)) (edge_order edge) _ (front_cmp edge vs ws id f.1 g.1)
     ∙ ap (λ o. ordering_then o (edge_order edge)) (sym (items_order-item v w vs (first_columns vs ws)))
 
-pub bound_rows : (o : Ordering) (x y : List ℕ) (kept : PlaceOf x) (place : Edge × Items) (a : RowValue) → kept.0 ≡ place → o ≡ bytes_order x y → y ≡ row_bytes a → IsStoredRow a → o ≡ bound_order place.0 place.1 a
+pub bound_rows : (o : Ordering) (x y : List ℕ) (kept : BoundOf x) (place : Edge × Items) (a : RowValue) → kept.0 ≡ place → o ≡ bytes_order x y → y ≡ row_bytes a → IsStoredRow a → o ≡ bound_order place.0 place.1 a
 bound_rows o x y kept place a is h e f =
     h ∙ ap₂ bytes_order kept.1.1 e ∙ front_cmp kept.0.0 kept.0.1 a.0 a.1 kept.1.0 f.0 ∙ ap (λ (p : Edge × Items). bound_order p.0 p.1 a) is
 

@@ -60,8 +60,8 @@ columns_turn all i v front out new low at e h =
     turn (view v) front out _ (h ∙ ap (λ vs. out ++ columns_before (items_view vs) []) (drop_more all i v low ∙ ap (λ x. x ∷ drop (i + 1) all) (sym at)))
     ∙ ap (λ y. y ++ columns_before (items_view (drop (i + 1) all)) []) (sym e)
 
-pub here : (all : List Json) (i : ℕ) (v : Json) → i < length all → v ≡ get_or all i v → drop i all ≡ v ∷ drop (i + 1) all
-here all i v low at = drop_more all i v low ∙ ap (λ x. x ∷ drop (i + 1) all) (sym at)
+pub drop_cons_at : (all : List Json) (i : ℕ) (v : Json) → i < length all → v ≡ get_or all i v → drop i all ≡ v ∷ drop (i + 1) all
+drop_cons_at all i v low at = drop_more all i v low ∙ ap (λ x. x ∷ drop (i + 1) all) (sym at)
 
 past_end : (s : List ℕ) (i : ℕ) → length s ≤ i → drop i s ≡ []
 past_end [] zero h = refl
@@ -96,8 +96,8 @@ more_stored (item w vs) v h k = (h.0, more_stored vs v h.1 k)
 pub made_key : (old new : List ℕ) (key : Items) (v : Value) → IsKey old key → IsStored v → new ≡ old ++ value_before v [] → IsKey new (joined_items key (item v no_items))
 made_key old new key v h k e = (more_stored key v h.0 k, e ∙ ap (λ s. s ++ value_before v []) h.1 ∙ sym (columns_append key [] (value_before v [])) ∙ sym (columns_more key v []))
 
-pub made_place : (bytes columns : List ℕ) (edge : Edge) (key : Items) → IsKey columns key → bytes ≡ columns ++ edge_bytes edge → IsRowBound edge bytes key
-made_place bytes columns edge key h e = (h.0, e ∙ ap (λ s. s ++ edge_bytes edge) h.1 ∙ sym (columns_append key [] (edge_bytes edge)))
+pub made_bound : (bytes columns : List ℕ) (edge : Edge) (key : Items) → IsKey columns key → bytes ≡ columns ++ edge_bytes edge → IsRowBound edge bytes key
+made_bound bytes columns edge key h e = (h.0, e ∙ ap (λ s. s ++ edge_bytes edge) h.1 ∙ sym (columns_append key [] (edge_bytes edge)))
 
 -- ---- rows
 

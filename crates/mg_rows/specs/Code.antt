@@ -1,4 +1,4 @@
--- How the logic stores rows and places.
+-- How the logic stores rows and bounds.
 use Rattle.std.specs.Coded.{Coded, coded×, coded_ℕ, coded_list}
 use Rattle.mg_value.specs.Value.{Items}
 use Rattle.mg_value.specs.Code.{items_code}
@@ -10,6 +10,6 @@ use Rattle.mg_rows.specs.declared.edge.Edge.{Edge}
 abbrev pub row_code : Coded RowValue
 row_code = coded× items_code (coded_list coded_ℕ)
 
--- how the logic stores a place
-abbrev pub place_code : Coded (Edge × Items)
-place_code = coded× edge.the_row.coded items_code
+-- how the logic stores a bound: its edge and its values
+abbrev pub bound_code : Coded (Edge × Items)
+bound_code = coded× edge.the_row.coded items_code

@@ -1,4 +1,4 @@
--- What bytes stand for, for ghost fields beside them: bytes are those of at most one row, one key or one place.
+-- What bytes stand for, for ghost fields beside them: bytes are those of at most one row, one key or one bound.
 use Rattle.std.proofs.Common.{◌≡◌, ℕ, ◌<◌, List, [], ◌∷◌, Equal, Less, refl, sym, subst, ap, ap₂, ◌∙◌, arith, true, false, IsUtf8}
 use Rattle.std.specs.Prelude.{⊤}
 use Rattle.std.specs.Coded.{×_prop, Unit-prop, Coded-set, coded×, coded_list, coded_ℕ}
@@ -26,9 +26,9 @@ RowOf parts = (row : RowValue) × IsRow parts row
 abbrev pub KeyOf : List ℕ → Type 0
 KeyOf bytes = (key : Items) × IsKey bytes key
 
--- the place whose bytes these are
-abbrev pub PlaceOf : List ℕ → Type 0
-PlaceOf bytes = (place : Edge × Items) × IsRowBound place.0 bytes place.1
+-- the bound whose bytes these are
+abbrev pub BoundOf : List ℕ → Type 0
+BoundOf bytes = (place : Edge × Items) × IsRowBound place.0 bytes place.1
 
 -- ---- what is known of stored values has at most one proof
 
@@ -132,13 +132,13 @@ one_end e f (item v vs) (item w ws) g h k =
     let q = one_end e f vs ws g.1 h.1 p.1 in
     (q.0, ap₂ item p.0 q.1)
 
-pub one_place : (bytes : List ℕ) (a b : Edge × Items) → IsRowBound a.0 bytes a.1 → IsRowBound b.0 bytes b.1 → a ≡ b
-one_place bytes a b f g = let p = one_end a.0 b.0 a.1 b.1 f.0 g.0 (sym f.1 ∙ g.1) in ap₂ (λ e vs. (e, vs)) p.0 p.1
+pub one_bound : (bytes : List ℕ) (a b : Edge × Items) → IsRowBound a.0 bytes a.1 → IsRowBound b.0 bytes b.1 → a ≡ b
+one_bound bytes a b f g = let p = one_end a.0 b.0 a.1 b.1 f.0 g.0 (sym f.1 ∙ g.1) in ap₂ (λ e vs. (e, vs)) p.0 p.1
 
 pub one_key : (bytes : List ℕ) (a b : Items) → IsKey bytes a → IsKey bytes b → a ≡ b
 one_key bytes a b f g = (one_end Before Before a b f.0 g.0 (sym f.1 ∙ g.1)).1
 
--- ---- one row, one key, one place
+-- ---- one row, one key, one bound
 
 -- two parts of bytes are those of at most one row
 pub RowOf-prop : (parts : List ℕ × List ℕ) → IsProp (RowOf parts)
@@ -148,9 +148,9 @@ RowOf-prop parts = λ x y. Σ_prop_path (IsRow-prop parts) (one_row_of_parts par
 pub KeyOf-prop : (bytes : List ℕ) → IsProp (KeyOf bytes)
 KeyOf-prop bytes = λ x y. Σ_prop_path (IsKey-prop bytes) (one_key bytes x.0 y.0 x.1 y.1)
 
--- bytes are those of at most one place
-pub PlaceOf-prop : (bytes : List ℕ) → IsProp (PlaceOf bytes)
-PlaceOf-prop bytes = λ x y. Σ_prop_path (IsRowBound-prop bytes) (one_place bytes x.0 y.0 x.1 y.1)
+-- bytes are those of at most one bound
+pub BoundOf-prop : (bytes : List ℕ) → IsProp (BoundOf bytes)
+BoundOf-prop bytes = λ x y. Σ_prop_path (IsRowBound-prop bytes) (one_bound bytes x.0 y.0 x.1 y.1)
 
 -- ---- the ghost fields hold what the bytes are known to stand for
 
@@ -160,5 +160,5 @@ the_row parts kept row h = one_row_of_parts parts kept.0 row kept.1 h
 pub the_key : (bytes : List ℕ) (kept : KeyOf bytes) (key : Items) → IsKey bytes key → kept.0 ≡ key
 the_key bytes kept key h = one_key bytes kept.0 key kept.1 h
 
-pub the_place : (bytes : List ℕ) (kept : PlaceOf bytes) (place : Edge × Items) → IsRowBound place.0 bytes place.1 → kept.0 ≡ place
-the_place bytes kept place h = one_place bytes kept.0 place kept.1 h
+pub the_bound : (bytes : List ℕ) (kept : BoundOf bytes) (place : Edge × Items) → IsRowBound place.0 bytes place.1 → kept.0 ≡ place
+the_bound bytes kept place h = one_bound bytes kept.0 place kept.1 h

@@ -1,4 +1,4 @@
--- Places between rows: before or after all rows whose key begins with some values.
+-- Bounds: places before or after all rows whose key begins with some values.
 use Rattle.std.specs.Prelude.{◌≡◌, ℕ, List, [], ◌∷◌}
 use Rattle.std.specs.Ordering.{ordering_then}
 use Rattle.std.specs.declared.cmp.Ordering.{Ordering}
@@ -31,6 +31,6 @@ abbrev pub edge_bytes : Edge → List ℕ
 edge_bytes Before = []
 edge_bytes After = 255 ∷ []
 
--- these are the bytes of the place
+-- these are the bytes of the bound with this edge and these values
 abbrev pub IsRowBound : Edge → List ℕ → Items → Type 0
 IsRowBound edge bytes values = AreStored values × (bytes ≡ columns_before values (edge_bytes edge))

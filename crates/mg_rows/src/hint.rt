@@ -2,7 +2,7 @@
 //! longer, but does not change its result.
 use mg_value::Json;
 
-// The bits of a hint from this one up are the type of a value. The bits below are of what the value holds.
+// In a hint, the bits from this one up say the type of a value, and the bits below say what the value holds.
 const TYPE_SHIFT: u32 = 61;
 
 // The lower seven bits of each of eight bytes.
@@ -11,14 +11,16 @@ const LOW_BITS: u64 = 0x7f7f_7f7f_7f7f_7f7f;
 // 1 in each of eight bytes: a row stores each byte of a text plus 1.
 const ONES: u64 = 0x0101_0101_0101_0101;
 
-// How many whole numbers on each side of 0 have a hint of their own.
+// Whole numbers from `-NEAR` to `NEAR - 1` have different hints; all below have the hint of the lowest of these, all above
+// that of the greatest.
 const NEAR: u64 = 1 << 59;
 
-// The bits below the type, in the hint of the greatest of these whole numbers and of all above it.
+// The bits below the type, in the hint of `NEAR - 1` and of all whole numbers above it.
 const FARTHEST: u64 = ((1 << 60) - 1) << 1;
 
-/// The hint of a value: the type, and then how the value begins. Every row whose key begins with the value has this
-/// hint. It is even: a place before or after all these rows can have the odd hint below or above.
+/// The hint of a value: its type, and then the first bits of what it holds; 0 for `None`, the start of a key without
+/// columns. Every row whose key begins with the value has this hint. It is even, so that a place before or after all
+/// these rows can have the odd hint below or above.
 pub fn value_hint(value: Option<&Json>) -> u64 {
     match value {
         None => 0,
@@ -49,7 +51,7 @@ pub(crate) fn row_hint(bytes: &[u8]) -> u64 {
 
 /// The hint of a place, from its bytes: that of its first value. Where that hint determines the value, and the place
 /// has no other value, it is the odd hint below or above.
-pub(crate) fn place_hint(bytes: &[u8]) -> u64 {
+pub(crate) fn bound_hint(bytes: &[u8]) -> u64 {
     let number = row_hint(bytes);
     match bytes.get(first_end(bytes, number)) {
         None => number.saturating_sub(1),
@@ -82,7 +84,8 @@ fn type_hint(tag: u8) -> u64 {
     u64::from(tag.min(7)) << TYPE_SHIFT
 }
 
-// The hint of a whole number whose sign bit is turned. It determines the number, unless that is beyond 2^59.
+// The hint of a whole number whose sign bit is turned. It determines the number, unless it is the lowest or the greatest
+// of these hints.
 fn turned_hint(turned: u64) -> u64 {
     let lowest = (1 << 63) - NEAR;
     let near = turned.max(lowest).min((1 << 63) + NEAR - 1) - lowest;

@@ -76,7 +76,7 @@ impl RowBytes {
 
     /// Duplicates the row: copies up to 45 bytes, and shares the block of a longer row.
     ///
-    /// Errors: `NoMemory` where a longer row has 2^64 - 1 copies. Takes no memory.
+    /// Errors: `NoMemory` where the block of a longer row has 2^63 - 1 owners. Takes no memory.
     #[inline(always)]
     pub fn again(&self) -> Result<RowBytes, NoMemory>
         ensures { IfOk result (λ row. row ≡ self.now) }

@@ -1,5 +1,5 @@
 use crate::edge::Edge;
-use crate::hint::place_hint;
+use crate::hint::bound_hint;
 use crate::row::RowBytes;
 use crate::write::write_columns;
 use mg_value::{Json, NoMemory};
@@ -12,24 +12,24 @@ const ABOVE_ALL: u8 = 255;
 
 ghost use Rattle.std.specs.Prelude.{◌≡◌, ◌++◌, OnOk};
 ghost use Rattle.mg_rows.specs.RowBound.{edge_bytes};
-ghost use Rattle.mg_rows.specs.Only.{PlaceOf, PlaceOf-prop};
+ghost use Rattle.mg_rows.specs.Only.{BoundOf, BoundOf-prop};
 
-/// A place among rows: before or after all rows whose key begins with some values. Contracts see the side and the
+/// A place among rows: before or after all rows whose key begins with some values. Contracts see the edge and the
 /// values.
 #[derive(Drop)]
 pub struct RowBound {
     bytes: Vec<u8>,
-    ghost place: { PlaceOf bytes.items } by { PlaceOf-prop bytes.items },
+    ghost place: { BoundOf bytes.items } by { BoundOf-prop bytes.items },
 }
 
 impl Model for RowBound {
     ghost use Rattle.mg_value.specs.Value.{Items};
     ghost use Rattle.mg_rows.specs.declared.edge.Edge.{Edge as Side};
-    ghost use Rattle.mg_rows.specs.Code.{place_code};
+    ghost use Rattle.mg_rows.specs.Code.{bound_code};
 
     ghost Value = { Side × Items };
 
-    ghost coded = { place_code };
+    ghost coded = { bound_code };
 
     ghost view = { λ bound. bound.place.0 };
 }
@@ -78,7 +78,7 @@ impl RowBound {
 
     /// The hint of the place, in the order of the hints of rows: it says where a search begins. Takes no memory.
     pub fn hint(&self) -> u64 {
-        place_hint(self.bytes.as_slice())
+        bound_hint(self.bytes.as_slice())
     }
 }
 

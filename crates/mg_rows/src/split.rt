@@ -70,7 +70,7 @@ impl SplitBytes {
         lend(&self.held).split_at(end)
     }
 
-    /// A copy, which shares the block if there is one. Takes no memory. Errors: `NoMemory` if too many copies share the block.
+    /// A copy, which shares the block if there is one. Takes no memory. Errors: `NoMemory` where the block has 2^63 - 1 owners.
     #[inline(always)]
     pub(crate) fn again(&self) -> Result<SplitBytes, NoMemory>
         ensures { IfOk result (λ split. split ≡ self.now) }

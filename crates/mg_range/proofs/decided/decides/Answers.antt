@@ -8,4 +8,4 @@ use Rattle.mg_range.proofs.decided.decides.Goals as goal
 pub loop-atom-init : goal.loop-atom-init
 loop-atom-init c =
     let atoms = atoms_view c.args.atoms.now in
-    all_leading atoms c.args.columns.now ∙ ap (λ cs. list_all (bounds_one cs) atoms) (sym c.bounded-bounded.ensures)
+    all_leading atoms c.args.columns.now ∙ ap (λ cs. list_all (bounds_one cs) atoms) (sym c.bounded_columns-bounded.ensures)

@@ -4,7 +4,7 @@ use Rattle.mg_pages.specs.Order.{probe_from_total}
 use Rattle.mg_pages.specs.Runs.{continued}
 use Rattle.mg_pages.proofs.Children.{last_at}
 use Rattle.mg_pages.proofs.Passed.{continued_behind, continued_drop, continued_from, continued_none}
-use Rattle.mg_pages.proofs.iter.run_behind.Goals as goal
+use Rattle.mg_pages.proofs.iter.run_after_skip.Goals as goal
 
 pub returns-then-count-run : goal.returns-then-count-run
 returns-then-count-run g c =

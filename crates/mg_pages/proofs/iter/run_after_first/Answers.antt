@@ -3,7 +3,7 @@ use Rattle.mg_pages.specs.Order.{above}
 use Rattle.mg_pages.specs.Runs.{continued_after}
 use Rattle.mg_pages.proofs.Parts.{only_one, continued_above}
 use Rattle.mg_pages.specs.Order.{probe_from_total}
-use Rattle.mg_pages.proofs.iter.rest_of.Goals as goal
+use Rattle.mg_pages.proofs.iter.run_after_first.Goals as goal
 
 pub returns : goal.returns
 returns g c = λ x xs e.

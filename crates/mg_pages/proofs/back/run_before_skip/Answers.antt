@@ -1,7 +1,7 @@
 use Rattle.std.proofs.Common.{◌-◌, length, reverse, arith, ap, ◌∙◌}
 use Rattle.mg_pages.specs.Order.{below, probe_from_total}
 use Rattle.mg_pages.proofs.Passed.{ended_before, ended_from, ended_none, ended_take}
-use Rattle.mg_pages.proofs.back.run_ahead.Goals as goal
+use Rattle.mg_pages.proofs.back.run_before_skip.Goals as goal
 
 pub returns-then-count-run : goal.returns-then-count-run
 returns-then-count-run g c =

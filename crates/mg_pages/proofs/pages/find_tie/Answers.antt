@@ -3,7 +3,7 @@ use Rattle.mg_pages.specs.Parts.{root_seen}
 use Rattle.mg_pages.proofs.Sorted.{equal_from_test}
 use Rattle.mg_pages.proofs.Children.{found_among}
 use Rattle.mg_pages.proofs.Pieces.{piece_among}
-use Rattle.mg_pages.proofs.pages.tied.Goals as goal
+use Rattle.mg_pages.proofs.pages.find_tie.Goals as goal
 
 pub returns-then-ties : goal.returns-then-ties
 returns-then-ties g c =
