@@ -13,7 +13,7 @@ use Rattle.mg_value.proofs.Compact.{reads_compact}
 use Rattle.mg_collate.specs.Direction.{direction_word}
 use Rattle.mg_collate.specs.declared.direction.Direction.{Direction}
 use Rattle.mg_collate.specs.declared.direction.Direction.TheVariants.{Asc, Desc}
-use Rattle.mg_bookmark.specs.Bookmark.{CanBeSpelled, Place, Spells, ddoc_value, place_value, spelled}
+use Rattle.mg_bookmark.specs.Bookmark.{CanBeSpelled, RowPosition, Spells, ddoc_value, place_value, spelled}
 use Rattle.mg_bookmark.specs.Reading.{bookmark_read, place_read}
 use Rattle.mg_bookmark.proofs.Readings.{bookmark_of_place, read_of_spelled}
 
@@ -44,10 +44,10 @@ flat : (d : Option (List ℕ)) → depth (ddoc_value d) ≡ 0
 flat None = refl
 flat (Some s) = refl
 
-place_depth : (p : Place) → depth (place_value p) ≡ suc (suc (items_depth p.key))
+place_depth : (p : RowPosition) → depth (place_value p) ≡ suc (suc (items_depth p.key))
 place_depth p = omega (arith, flat p.ddoc)
 
-array_of_place : (p : Place) → CanBeSpelled p → Reads (compact (place_value p)) (place_value p)
+array_of_place : (p : RowPosition) → CanBeSpelled p → Reads (compact (place_value p)) (place_value p)
 array_of_place p h =
     let word = IsUtf8-quoted (direction_word p.direction) (direction_utf8 p.direction) in
     let parts : Items = item (ddoc_value p.ddoc) (item (text p.name) (item (text (direction_word p.direction)) (item (list p.key) (item (text p.id) no_items)))) in
@@ -62,10 +62,10 @@ no_place : place_read (codes "nil") ≡ None
 unfolding base64_on_literals
 no_place = refl
 
-not_nil : (p : Place) → Spells (spelled p) p → spelled p ≡ codes "nil" → ⊥
+not_nil : (p : RowPosition) → Spells (spelled p) p → spelled p ≡ codes "nil" → ⊥
 not_nil p s e = let some = read_of_spelled (spelled p) p s in let none = ap place_read e ∙ no_place in cc
 
-pub read_back : (p : Place) → CanBeSpelled p → bookmark_read (spelled p) ≡ Some (Some p)
+pub read_back : (p : RowPosition) → CanBeSpelled p → bookmark_read (spelled p) ≡ Some (Some p)
 read_back p h =
     let s : Spells (spelled p) p = (refl, array_of_place p h) in
     bookmark_of_place (spelled p) (Some p) (not_nil p s) (read_of_spelled (spelled p) p s)

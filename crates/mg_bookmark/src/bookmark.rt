@@ -23,7 +23,7 @@ pub struct Bookmark {
 }
 
 impl Bookmark {
-    ghost use Rattle.mg_bookmark.specs.Bookmark.{Place, Spells, spelled};
+    ghost use Rattle.mg_bookmark.specs.Bookmark.{RowPosition, Spells, spelled};
     ghost use Rattle.mg_bookmark.specs.Reading.{bookmark_read};
     ghost use Rattle.mg_bookmark.specs.Seen.{place_at, bookmark_place};
 
@@ -61,7 +61,7 @@ impl Bookmark {
         ensures none { (result ≡ Ok None) ↔ (text.now ≡ codes "nil") }
         ensures some { IfOk result (λ found. IfSome found (λ b. Spells text.now (bookmark_place b))) }
         ensures invalid { result ≡ Err BookmarkError.Invalid
-            → (¬ (text.now ≡ codes "nil")) × ((p : Place) → ¬ Spells text.now p) }
+            → (¬ (text.now ≡ codes "nil")) × ((p : RowPosition) → ¬ Spells text.now p) }
         ensures read { IfOk result
             (λ found. bookmark_read text.now ≡ Some (option_map bookmark_place found)) }
         ensures unread { result ≡ Err BookmarkError.Invalid → bookmark_read text.now ≡ None }

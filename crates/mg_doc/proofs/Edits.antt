@@ -25,13 +25,13 @@ use Rattle.mg_doc.specs.Conversions.{error_of_merge, error_of_tree}
 use Rattle.mg_doc.specs.declared.change.Change.TheVariants.{New, Replica}
 use Rattle.mg_doc.specs.declared.error.EditError.{EditError}
 use Rattle.mg_doc.specs.declared.error.EditError.TheVariants.{Conflict as conflict, BadHistory as bad_history, NoMemory as no_memory}
-use Rattle.mg_doc.specs.declared.error.Refused.{Refused}
-use Rattle.mg_doc.specs.declared.error.Refused.TheVariants.{Conflict, BadHistory}
+use Rattle.mg_doc.specs.declared.error.EditRefusal.{EditRefusal}
+use Rattle.mg_doc.specs.declared.error.EditRefusal.TheVariants.{Conflict, BadHistory}
 use Rattle.mg_doc.proofs.Cases.{two}
 
 -- ---- errors
 
-pub refusal_in_error : (refused : Refused) → refusal_in (error_of refused) ≡ Some refused
+pub refusal_in_error : (refused : EditRefusal) → refusal_in (error_of refused) ≡ Some refused
 refusal_in_error Conflict = refl
 refusal_in_error BadHistory = refl
 
@@ -118,14 +118,14 @@ made_over_base h d b base id copy n t e f r p s =
     subst Q (sym (f ∙ e)) (made_now h d b base n t (subst R e r) p (subst S e s))
 
 -- where there is nothing to extend
-pub no_base : (h : Paths) (d : Bool) (b : Value) (named : Option Revision) (o : Option Refused) → Missing (base_found h named) o → Missing (extended_by h d b named) o
+pub no_base : (h : Paths) (d : Bool) (b : Value) (named : Option Revision) (o : Option EditRefusal) → Missing (base_found h named) o → Missing (extended_by h d b named) o
 no_base h d b named None k = tt
 no_base h d b named (Some refused) k = ap (made_found h d b) k
 
 -- where there is a base
 pub found_made : (h : Paths) (d : Bool) (b : Value) (named base : Option Revision) (r : Result Revision EditError) (t : Tree) → base_found h named ≡ Ok base
     → Brings h d b (made_on h d b base) r t → Brings h d b (extended_by h d b named) r t
-found_made h d b named base r t e k = let P : Result Accepted Refused → Type 0 = λ s. Brings h d b s r t in subst P (sym (ap (made_found h d b) e)) k
+found_made h d b named base r t e k = let P : Result Accepted EditRefusal → Type 0 = λ s. Brings h d b s r t in subst P (sym (ap (made_found h d b) e)) k
 
 -- the steps of the code make what an edit makes
 pub extended_is : (h : Paths) (d : Bool) (b : Value) (named : Option Revision) → extended_by h d b named ≡ extended h d b named
@@ -135,7 +135,7 @@ pub first_is : (h : Paths) (named : Option Revision) → unplaced h (base_found 
 first_is h named = elim (two (is_unnamed h named)) [ inl t ↦ rw t refl | inr f ↦ rw f refl ]
 
 -- why nothing is made over a base, as far as it is known before the revision is made
-pub base_refused : (h : Paths) (named : Option Revision) (refused : Refused) → base_found h named ≡ Err refused → first_refusal h (New named) ≡ Some refused
+pub base_refused : (h : Paths) (named : Option Revision) (refused : EditRefusal) → base_found h named ≡ Err refused → first_refusal h (New named) ≡ Some refused
 base_refused h named refused e = sym (first_is h named) ∙ ap (unplaced h) e
 
 pub place_refused : (h : Paths) (named base : Option Revision) (refusal : TreeRefusal) → base_found h named ≡ Ok base → Err refusal ≡ next_position h base → first_refusal h (New named) ≡ Some (refused_by refusal)
@@ -145,7 +145,7 @@ pub not_refused_yet : (h : Paths) (named base : Option Revision) (n : ℕ) → b
 not_refused_yet h named base n e k = sym (first_is h named) ∙ ap (unplaced h) e ∙ ap (λ o. option_map refused_by (result_err o)) (sym k)
 
 -- what is refused before a revision is made is refused
-unplaced_over : (h : Paths) (d : Bool) (b : Value) (base : Option Revision) (o : Result ℕ TreeRefusal) (refused : Refused) → next_position h base ≡ o → option_map refused_by (result_err o) ≡ Some refused → made_on h d b base ≡ Err refused
+unplaced_over : (h : Paths) (d : Bool) (b : Value) (base : Option Revision) (o : Result ℕ TreeRefusal) (refused : EditRefusal) → next_position h base ≡ o → option_map refused_by (result_err o) ≡ Some refused → made_on h d b base ≡ Err refused
 unplaced_over h d b base (Ok n) refused e k = absurd cc
 unplaced_over h d b base (Err refusal) refused e k =
     let id = digest_of d base b in
@@ -153,13 +153,13 @@ unplaced_over h d b base (Err refusal) refused e k =
     let is : refusal_of h base id ≡ Some refusal = sym (refused_position h base id refusal (sym e)) in
     ap (λ o. unless (option_map refused_by o) (made_over base id)) is ∙ ap Err same
 
-unplaced_found : (h : Paths) (d : Bool) (b : Value) (base : Result (Option Revision) Refused) (refused : Refused) → unplaced h base ≡ Some refused → made_found h d b base ≡ Err refused
+unplaced_found : (h : Paths) (d : Bool) (b : Value) (base : Result (Option Revision) EditRefusal) (refused : EditRefusal) → unplaced h base ≡ Some refused → made_found h d b base ≡ Err refused
 unplaced_found h d b (Err x) refused k = let e : x ≡ refused = cc in ap Err e
 unplaced_found h d b (Ok base) refused k = unplaced_over h d b base (next_position h base) refused refl k
 
-pub refuses_new : (h : Paths) (e : Edit) (named : Option Revision) (x : EditError) (refused : Refused) → e.change ≡ New named → first_refusal h (New named) ≡ Some refused → x ≡ error_of refused → Refuses h e (refusal_in x)
+pub refuses_new : (h : Paths) (e : Edit) (named : Option Revision) (x : EditError) (refused : EditRefusal) → e.change ≡ New named → first_refusal h (New named) ≡ Some refused → x ≡ error_of refused → Refuses h e (refusal_in x)
 refuses_new h e named x refused is k to =
-    let P : Option Refused → Type 0 = Refuses h e in
+    let P : Option EditRefusal → Type 0 = Refuses h e in
     let made : extended h e.deleted e.body named ≡ Err refused =
     sym (extended_is h e.deleted e.body named) ∙ unplaced_found h e.deleted e.body (base_found h named) refused (first_is h named ∙ k) in
     let said : accepted_by h e ≡ Err refused = rw is made in
@@ -171,7 +171,7 @@ module _ (h : Paths) (e : Edit) (run : List Revision) (is : e.change ≡ Replica
   accepted_run : accepted_by h e ≡ replicated h run
   accepted_run = rw is refl
 
-  refuses_run : (o : Option Refused) → Misfits h run o → Refuses h e o
+  refuses_run : (o : Option EditRefusal) → Misfits h run o → Refuses h e o
   refuses_run None k = rw is (rw k refl)
   refuses_run (Some refused) k = ap newest_accepted (accepted_run ∙ misfits h run k.1) ∙ ap Err (sym k.0)
 

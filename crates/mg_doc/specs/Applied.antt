@@ -11,22 +11,22 @@ use Rattle.mg_doc.specs.declared.edit.apply.Look.{Look}
 use Rattle.mg_doc.specs.declared.edit.apply.Look.TheVariants.{Known, Ready}
 use Rattle.mg_doc.specs.declared.error.EditError.{EditError}
 use Rattle.mg_doc.specs.declared.error.EditError.TheVariants.{Conflict as conflict, BadHistory as bad_history, NoMemory as no_memory}
-use Rattle.mg_doc.specs.declared.error.Refused.{Refused}
-use Rattle.mg_doc.specs.declared.error.Refused.TheVariants.{Conflict, BadHistory}
+use Rattle.mg_doc.specs.declared.error.EditRefusal.{EditRefusal}
+use Rattle.mg_doc.specs.declared.error.EditRefusal.TheVariants.{Conflict, BadHistory}
 
 -- the refusal that an error reports; `NoMemory` reports no refusal
-abbrev pub refusal_in : EditError → Option Refused
+abbrev pub refusal_in : EditError → Option EditRefusal
 refusal_in conflict = Some Conflict
 refusal_in bad_history = Some BadHistory
 refusal_in no_memory = None
 
 -- the error that reports a refusal
-abbrev pub error_of : Refused → EditError
+abbrev pub error_of : EditRefusal → EditError
 error_of Conflict = conflict
 error_of BadHistory = bad_history
 
 -- the error of an edit is right: it is the edit's refusal; or memory ran out, and no refusal was found before that
-abbrev pub Refuses : Paths → Edit → Option Refused → Type 0
+abbrev pub Refuses : Paths → Edit → Option EditRefusal → Type 0
 Refuses h e (Some refused) = outcome_of h e ≡ Err refused
 Refuses h e None = first_refusal h e.change ≡ None
 

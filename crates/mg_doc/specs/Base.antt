@@ -13,39 +13,39 @@ use Rattle.mg_doc.specs.Edit.{Accepted, base_of, is_unnamed, made_over, refused_
 use Rattle.mg_doc.specs.declared.edit.apply.Look.{Look}
 use Rattle.mg_doc.specs.declared.edit.apply.Look.TheVariants.{Known, Ready}
 use Rattle.mg_doc.specs.declared.error.EditError.{EditError}
-use Rattle.mg_doc.specs.declared.error.Refused.{Refused}
-use Rattle.mg_doc.specs.declared.error.Refused.TheVariants.{BadHistory, Conflict}
+use Rattle.mg_doc.specs.declared.error.EditRefusal.{EditRefusal}
+use Rattle.mg_doc.specs.declared.error.EditRefusal.TheVariants.{BadHistory, Conflict}
 
 -- the base that is extended, or why the edit is refused
-abbrev pub base_found : Paths → Option Revision → Result (Option Revision) Refused
+abbrev pub base_found : Paths → Option Revision → Result (Option Revision) EditRefusal
 base_found h named = if is_unnamed h named then Err Conflict else Ok (base_of h named)
 
 -- what is made over a base
-abbrev pub made_on : Paths → Bool → Value → Option Revision → Result Accepted Refused
+abbrev pub made_on : Paths → Bool → Value → Option Revision → Result Accepted EditRefusal
 made_on h deleted body base =
     unless (option_map refused_by (refusal_of h base (digest_of deleted base body))) (made_over base (digest_of deleted base body))
 
 -- what is made over the base that is found
-abbrev pub made_found : Paths → Bool → Value → Result (Option Revision) Refused → Result Accepted Refused
+abbrev pub made_found : Paths → Bool → Value → Result (Option Revision) EditRefusal → Result Accepted EditRefusal
 made_found h deleted body (Ok base) = made_on h deleted body base
 made_found h deleted body (Err refused) = Err refused
 
 -- a new edit, by the steps of the code
-abbrev pub extended_by : Paths → Bool → Value → Option Revision → Result Accepted Refused
+abbrev pub extended_by : Paths → Bool → Value → Option Revision → Result Accepted EditRefusal
 extended_by h deleted body named = made_found h deleted body (base_found h named)
 
 -- the refusal that is found before a revision is made: that of the base, or that of the position over it
-abbrev pub unplaced : Paths → Result (Option Revision) Refused → Option Refused
+abbrev pub unplaced : Paths → Result (Option Revision) EditRefusal → Option EditRefusal
 unplaced h (Ok base) = option_map refused_by (result_err (next_position h base))
 unplaced h (Err refused) = Some refused
 
 -- a copied base, or why there is none
-abbrev pub CopyIs : Result (Option Revision) Refused → Result (Option Revision) EditError → Type 0
+abbrev pub CopyIs : Result (Option Revision) EditRefusal → Result (Option Revision) EditError → Type 0
 CopyIs said (Ok base) = said ≡ Ok base
 CopyIs said (Err x) = Missing said (refusal_in x)
 
 -- a reported refusal of a path is that it does not fit; without a refusal the path fits
-abbrev pub Misfits : Paths → List Revision → Option Refused → Type 0
+abbrev pub Misfits : Paths → List Revision → Option EditRefusal → Type 0
 Misfits h run (Some refused) = (refused ≡ BadHistory) × (fits h run ≡ false)
 Misfits h run None = fits h run ≡ true
 

@@ -8,14 +8,14 @@ use Rattle.mg_revtree.specs.Tree.{Tree, StandsFor}
 use Rattle.mg_doc.specs.Applied.{refusal_in}
 use Rattle.mg_doc.specs.Edit.{Accepted}
 use Rattle.mg_doc.specs.declared.error.EditError.{EditError}
-use Rattle.mg_doc.specs.declared.error.Refused.{Refused}
+use Rattle.mg_doc.specs.declared.error.EditRefusal.{EditRefusal}
 
 -- a reported refusal is the one that the definition gives
-abbrev pub Missing : {A : Type 0} → Result A Refused → Option Refused → Type 0
+abbrev pub Missing : {A : Type 0} → Result A EditRefusal → Option EditRefusal → Type 0
 Missing said (Some refused) = said ≡ Err refused
 Missing said None = Unit {0}
 
 -- a path is accepted, and the tree then stands for the history with it; or an error says why it is not
-abbrev pub Brings : Paths → Bool → Value → Result Accepted Refused → Result Revision EditError → Tree → Type 0
+abbrev pub Brings : Paths → Bool → Value → Result Accepted EditRefusal → Result Revision EditError → Tree → Type 0
 Brings h deleted body said (Ok r) t = (rs : List Revision) × (said ≡ Ok (r, rs)) × StandsFor t (with_path h (path_of (r ∷ rs) deleted body))
 Brings h deleted body said (Err x) t = Missing said (refusal_in x)

@@ -12,8 +12,8 @@ use Rattle.mg_doc.specs.Document.{Edit}
 use Rattle.mg_doc.specs.declared.change.Change.{Change}
 use Rattle.mg_doc.specs.declared.change.Change.TheVariants.{New, Replica}
 use Rattle.mg_doc.specs.Digest.{digest_of}
-use Rattle.mg_doc.specs.declared.error.Refused.{Refused}
-use Rattle.mg_doc.specs.declared.error.Refused.TheVariants.{Conflict, BadHistory}
+use Rattle.mg_doc.specs.declared.error.EditRefusal.{EditRefusal}
+use Rattle.mg_doc.specs.declared.error.EditRefusal.TheVariants.{Conflict, BadHistory}
 
 -- the revision that is accepted, and those after it in its path
 abbrev pub Accepted : Type 0
@@ -36,14 +36,14 @@ base_of h None = option_map (λ l. l.rev) (winner_of h)
 base_of h (Some r) = Some r
 
 -- the refusal of an edit for the refusal of its revision
-abbrev pub refused_by : TreeRefusal → Refused
+abbrev pub refused_by : TreeRefusal → EditRefusal
 refused_by NotLeaf = Conflict
 refused_by Full = BadHistory
 refused_by Known = Conflict
 
 -- why a new edit is refused, if it is: it names no revision, though the winner is not deleted; or a revision of this id
 -- cannot be made over its base
-abbrev pub refusal_over : Paths → Option Revision → List ℕ → Option Refused
+abbrev pub refusal_over : Paths → Option Revision → List ℕ → Option EditRefusal
 refusal_over h named id = if is_unnamed h named then Some Conflict else option_map refused_by (refusal_of h (base_of h named) id)
 
 -- the path that a new edit brings: the revision of this id, and after it the base, if there is one
@@ -51,12 +51,12 @@ abbrev pub made_over : Option Revision → List ℕ → Accepted
 made_over base id = (next_revision base id, option_to_list base)
 
 -- the accepted path, unless there is a refusal
-abbrev pub unless : Option Refused → Accepted → Result Accepted Refused
+abbrev pub unless : Option EditRefusal → Accepted → Result Accepted EditRefusal
 unless None accepted = Ok accepted
 unless (Some refused) accepted = Err refused
 
 -- the path that a new edit brings, if the new revision's id is the digest of mark, base and body; or why the edit is refused
-abbrev pub extended : Paths → Bool → Value → Option Revision → Result Accepted Refused
+abbrev pub extended : Paths → Bool → Value → Option Revision → Result Accepted EditRefusal
 extended h deleted body named =
     let base = base_of h named in
     let id = digest_of deleted base body in
@@ -65,23 +65,23 @@ extended h deleted body named =
 -- ---- an edit that a replica made
 
 -- the path of a replica is accepted if it fits
-abbrev pub replicated : Paths → List Revision → Result Accepted Refused
+abbrev pub replicated : Paths → List Revision → Result Accepted EditRefusal
 replicated h [] = Err BadHistory
 replicated h (r ∷ rs) = if fits h (r ∷ rs) then Ok (r, rs) else Err BadHistory
 
 -- ---- either
 
 -- the accepted path, or why the edit is refused
-abbrev pub accepted_of : Paths → Bool → Value → Change → Result Accepted Refused
+abbrev pub accepted_of : Paths → Bool → Value → Change → Result Accepted EditRefusal
 accepted_of h deleted body (New named) = extended h deleted body named
 accepted_of h deleted body (Replica run) = replicated h run
 
 -- the path that an edit adds, or why the edit is refused
-abbrev pub accepted_by : Paths → Edit → Result Accepted Refused
+abbrev pub accepted_by : Paths → Edit → Result Accepted EditRefusal
 accepted_by h e = accepted_of h e.deleted e.body e.change
 
 -- the history with the accepted path
-abbrev pub history_after : Paths → Edit → Result Accepted Refused → Paths
+abbrev pub history_after : Paths → Edit → Result Accepted EditRefusal → Paths
 history_after h e (Ok a) = with_path h (path_of (a.0 ∷ a.1) e.deleted e.body)
 history_after h e (Err refused) = h
 
@@ -90,17 +90,17 @@ abbrev pub edited : Paths → Edit → Paths
 edited h e = history_after h e (accepted_by h e)
 
 -- the newest revision of the accepted path
-abbrev pub newest_accepted : Result Accepted Refused → Result Revision Refused
+abbrev pub newest_accepted : Result Accepted EditRefusal → Result Revision EditRefusal
 newest_accepted (Ok a) = Ok a.0
 newest_accepted (Err refused) = Err refused
 
 -- the revision that the edit brings, or why it is refused
-abbrev pub outcome_of : Paths → Edit → Result Revision Refused
+abbrev pub outcome_of : Paths → Edit → Result Revision EditRefusal
 outcome_of h e = newest_accepted (accepted_by h e)
 
 -- ---- what is refused before a revision is made
 
 -- every refusal but that of a made revision that is already known
-abbrev pub first_refusal : Paths → Change → Option Refused
+abbrev pub first_refusal : Paths → Change → Option EditRefusal
 first_refusal h (New named) = if is_unnamed h named then Some Conflict else option_map refused_by (result_err (next_position h (base_of h named)))
 first_refusal h (Replica run) = if fits h run then None else Some BadHistory

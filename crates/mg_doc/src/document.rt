@@ -45,7 +45,7 @@ fn served_form(alloc: Global, id: &str, leaf: &Leaf) -> Result<Json, NoMemory>
 /// Errors: `NoMemory` if an allocation fails, or if there are too many references to the block; if there is no document, no memory is
 /// needed. Cost: that of `Body::form`; if the winner's body is already in the block of this form, the block is shared and no body is
 /// copied. Source: `GET` of a document in CouchDB's API reference.
-pub fn served_packed(alloc: Global, id: &str, tree: &mut RevTree) -> Result<Option<Form>, NoMemory>
+pub fn serve_form(alloc: Global, id: &str, tree: &mut RevTree) -> Result<Option<Form>, NoMemory>
     ensures served { IfOk result (λ o. (h : Paths) → StandsFor tree.old h → o ≡ served_of id.now h) }
     ensures form { IfOk result (λ o. IfSome o (λ form. (l : Winner) × (form ≡ form_of id.now l))) }
     ensures none { (h : Paths) → StandsFor tree.old h → served_of id.now h ≡ None → IsOk result }

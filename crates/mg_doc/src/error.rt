@@ -22,7 +22,7 @@ pub enum DocError {
 
 /// Why an edit is refused.
 #[derive(Clone, Copy, PartialEq, Eq, Debug, Drop, Error)]
-pub enum Refused {
+pub enum EditRefusal {
     /// The named revision is not a leaf; or none is named, but the winner is not deleted; or the revision that the edit makes is
     /// already known.
     #[error("Document update conflict.")]
@@ -116,30 +116,30 @@ impl From<AllocError> for EditError {
     }
 }
 
-impl From<TreeRefusal> for Refused {
+impl From<TreeRefusal> for EditRefusal {
     ghost use Rattle.std.specs.Prelude.{◌≡◌};
     ghost use Rattle.mg_doc.specs.Edit.{refused_by};
 
     ghost from_gives = { λ refusal refused. refused ≡ refused_by refusal };
 
-    fn from(refusal: TreeRefusal) -> Refused {
+    fn from(refusal: TreeRefusal) -> EditRefusal {
         match refusal {
-            TreeRefusal::NotLeaf | TreeRefusal::Known => Refused::Conflict,
-            TreeRefusal::Full => Refused::BadHistory,
+            TreeRefusal::NotLeaf | TreeRefusal::Known => EditRefusal::Conflict,
+            TreeRefusal::Full => EditRefusal::BadHistory,
         }
     }
 }
 
-impl From<Refused> for EditError {
+impl From<EditRefusal> for EditError {
     ghost use Rattle.std.specs.Prelude.{◌≡◌};
     ghost use Rattle.mg_doc.specs.Applied.{error_of};
 
     ghost from_gives = { λ refused error. error ≡ error_of refused };
 
-    fn from(refused: Refused) -> EditError {
+    fn from(refused: EditRefusal) -> EditError {
         match refused {
-            Refused::Conflict => EditError::Conflict,
-            Refused::BadHistory => EditError::BadHistory,
+            EditRefusal::Conflict => EditError::Conflict,
+            EditRefusal::BadHistory => EditError::BadHistory,
         }
     }
 }

@@ -29,7 +29,7 @@ pub(crate) fn id_in<'a>(members: &Object<'a>) -> Option<Option<&'a str>>
 pub(crate) fn own_body(alloc: Global, members: &Object<'_>) -> Result<Packed, NoMemory>
     ensures { IfOk result (λ body. body ≡ object (own members.now)) }
 {
-    members.without_front(alloc, b'_')
+    members.without_names_beginning(alloc, b'_')
 }
 
 // Whether each reserved name is one that a document may have.

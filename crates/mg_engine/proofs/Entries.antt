@@ -4,7 +4,7 @@ use Rattle.json.specs.Token.{Token}
 use Rattle.mg_value.specs.Held.{items_tokens_of, tokens_of}
 use Rattle.mg_value.specs.Value.{Items, Value, item}
 use Rattle.mg_doc.specs.Document.{Edit}
-use Rattle.mg_doc.specs.declared.error.Refused.TheVariants.{BadHistory, Conflict}
+use Rattle.mg_doc.specs.declared.error.EditRefusal.TheVariants.{BadHistory, Conflict}
 use Rattle.mg_shard.specs.Edits.{id_in}
 use Rattle.mg_engine.specs.Bulk.{entries_of, entry_before, entry_of, refused_entry}
 use Rattle.mg_engine.specs.Outcomes.{entries_seen, reply_in, id_seen}

@@ -13,7 +13,7 @@ use Rattle.mg_doc.specs.Edit.{Accepted, accepted_by, edited, history_after}
 use Rattle.mg_doc.specs.Served.{served_form, shown_leaf}
 use Rattle.mg_doc.specs.declared.error.DocError.{DocError}
 use Rattle.mg_doc.specs.declared.error.DocError.TheVariants.{BadId, BadRev}
-use Rattle.mg_doc.specs.declared.error.Refused.{Refused}
+use Rattle.mg_doc.specs.declared.error.EditRefusal.{EditRefusal}
 use Rattle.mg_range.specs.Laws.{Has}
 use Rattle.mg_index.specs.Choice.{id_path, rev_path}
 use Rattle.mg_path.specs.Part.{part_of}
@@ -108,7 +108,7 @@ with_object : (h : Paths) (p : Path) → HasObjects h → is_object p.body ≡ t
 with_object [] p hs o = (o, tt)
 with_object (q ∷ h) p hs o = (hs.0, with_object h p hs.1 o)
 
-after_object : (h : Paths) (e : Edit) (r : Result Accepted Refused) → HasObjects h → is_object e.body ≡ true → HasObjects (history_after h e r)
+after_object : (h : Paths) (e : Edit) (r : Result Accepted EditRefusal) → HasObjects h → is_object e.body ≡ true → HasObjects (history_after h e r)
 after_object h e (Ok a) hs o = with_object h (record { revs = a.0 ∷ a.1; deleted = e.deleted; body = e.body }) hs o
 after_object h e (Err x) hs o = hs
 
@@ -120,7 +120,7 @@ put_object : (b : Bool) (new : Paths) (o : Option Paths) (h : Paths) → cond b 
 put_object true new o h e n each = subst HasObjects (the_some new h e) n
 put_object false new o h e n each = each h e
 
-put_objects : (hs : Histories) (e : Edit) (r : Result Revision Refused) → HaveObjects hs → is_object e.body ≡ true → HaveObjects (history_put hs e r)
+put_objects : (hs : Histories) (e : Edit) (r : Result Revision EditRefusal) → HaveObjects hs → is_object e.body ≡ true → HaveObjects (history_put hs e r)
 put_objects hs e (Ok r) had o = record {
   each = λ q h at.
       let new = edited (history_at hs (id_in e)) e in

@@ -9,8 +9,8 @@ use Rattle.mg_revtree.specs.Revision.{Revision, revision_text}
 use Rattle.mg_doc.specs.Document.{Edit, edit_of, is_object, then_read}
 use Rattle.mg_doc.specs.declared.error.DocError.{DocError}
 use Rattle.mg_doc.specs.declared.error.DocError.TheVariants as document_fault
-use Rattle.mg_doc.specs.declared.error.Refused.{Refused}
-use Rattle.mg_doc.specs.declared.error.Refused.TheVariants.{Conflict, BadHistory}
+use Rattle.mg_doc.specs.declared.error.EditRefusal.{EditRefusal}
+use Rattle.mg_doc.specs.declared.error.EditRefusal.TheVariants.{Conflict, BadHistory}
 use Rattle.mg_shard.specs.Edits.{id_in}
 use Rattle.mg_engine.specs.declared.refusal.Refusal.{Refusal}
 use Rattle.mg_engine.specs.declared.refusal.Refusal.TheVariants.{WrongShape, BadMember, BadId, BadRev, OutOfMemory}
@@ -117,7 +117,7 @@ abbrev pub refused_entry : List ℕ → List ℕ → List ℕ → Value
 refused_entry error id reason = object (member (codes "error") (text error) (member (codes "id") (text id) (member (codes "reason") (text reason) no_members)))
 
 -- the entry of an edit: an applied edit has one only if edits are new; a refused edit always has one
-abbrev pub entry_of : Bool → List ℕ → Result Revision Refused → Option Value
+abbrev pub entry_of : Bool → List ℕ → Result Revision EditRefusal → Option Value
 entry_of true id (Ok r) = Some (done_entry id r)
 entry_of false id (Ok r) = None
 entry_of new_edits id (Err Conflict) = Some (refused_entry (codes "conflict") id (codes "Document update conflict."))
@@ -129,6 +129,6 @@ entry_before None vs = vs
 entry_before (Some v) vs = item v vs
 
 -- the entries of the reply, in the order of the documents, by each edit and what became of it
-abbrev pub entries_of : Bool → List Edit → List (Result Revision Refused) → Items
+abbrev pub entries_of : Bool → List Edit → List (Result Revision EditRefusal) → Items
 entries_of new_edits (e ∷ es) (o ∷ os) = entry_before (entry_of new_edits (id_in e) o) (entries_of new_edits es os)
 entries_of new_edits es os = no_items

@@ -2,7 +2,7 @@
 use Rattle.std.specs.Prelude.{ℕ, Bool, List, [], ◌∷◌, string_bytes, Result}
 use Rattle.mg_value.specs.Value.{Items, no_items}
 use Rattle.mg_revtree.specs.Revision.{Revision}
-use Rattle.mg_doc.specs.declared.error.Refused.{Refused}
+use Rattle.mg_doc.specs.declared.error.EditRefusal.{EditRefusal}
 use Rattle.mg_shard.specs.Edits.{outcome_seen}
 use Rattle.mg_engine.specs.Bulk.{entry_before, entry_of}
 use Rattle.mg_engine.specs.declared.bulk.apply.EditOutcome.{EditOutcome}
@@ -12,7 +12,7 @@ abbrev pub id_seen : EditOutcome → List ℕ
 id_seen o = string_bytes o.id
 
 -- what became of the edit
-abbrev pub reply_in : EditOutcome → Result Revision Refused
+abbrev pub reply_in : EditOutcome → Result Revision EditRefusal
 reply_in o = outcome_seen o.reply
 
 -- the entries of the reply, by the outcomes of the edits

@@ -69,7 +69,8 @@ pub enum Refusal {
     InvalidOperator,
     /// An operator of a selector has an argument that it does not take.
     BadArg,
-    /// The bookmark of a query is malformed, or belongs to another index or direction.
+    /// The bookmark of a query is malformed, or belongs to another index or direction, or its key has another number of values than the
+    /// index has columns.
     BadBookmark,
     /// A sort, or an index, has columns in both directions.
     MixedSort,

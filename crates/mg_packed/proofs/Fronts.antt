@@ -8,7 +8,7 @@ use Rattle.std.specs.List.{concat}
 use Rattle.mg_value.specs.Held.{AllAfter}
 use Rattle.mg_value.specs.Value.{Value, object, Members, no_members, member, member_list}
 use Rattle.mg_value.specs.Stored.{IsStored, MembersAreStored}
-use Rattle.mg_packed.specs.Front.{begins_with, without_front}
+use Rattle.mg_packed.specs.Front.{begins_with, without_names_beginning}
 use Rattle.mg_packed.specs.Packed.{packed, word, offsets, named, member_entries, table}
 use Rattle.mg_packed.specs.Gap.{begin_of, entries_in, IsObjectBlock}
 use Rattle.mg_packed.specs.Ranks.{rank_of, ranked_below, without_entries}
@@ -78,12 +78,12 @@ none_below n k no_members a h = refl
 none_below n k (member l v ms) a h = below_no n l v ms (omega (arith, h, ranks_ascend k l a.0))
 
 -- one more member, by whether its name is below, at or above the byte
-module _ (b : ℕ) (k : List ℕ) (v : Value) (ms : Members) (rest : member_entries (without_front b ms) ≡ without_entries (ranked_below (suc b) ms) (ranked_below (suc (suc b)) ms) (member_entries ms)) where
+module _ (b : ℕ) (k : List ℕ) (v : Value) (ms : Members) (rest : member_entries (without_names_beginning b ms) ≡ without_entries (ranked_below (suc b) ms) (ranked_below (suc (suc b)) ms) (member_entries ms)) where
   abbrev Goal : Type 0
-  Goal = member_entries (without_front b (member k v ms)) ≡ without_entries (ranked_below (suc b) (member k v ms)) (ranked_below (suc (suc b)) (member k v ms)) (member_entries (member k v ms))
+  Goal = member_entries (without_names_beginning b (member k v ms)) ≡ without_entries (ranked_below (suc b) (member k v ms)) (ranked_below (suc (suc b)) (member k v ms)) (member_entries (member k v ms))
 
-  kept : begins_with b k ≡ false → member_entries (without_front b (member k v ms)) ≡ named k (packed v) ∷ member_entries (without_front b ms)
-  kept e = ap (λ x. member_entries (if x then without_front b ms else member k v (without_front b ms))) e
+  kept : begins_with b k ≡ false → member_entries (without_names_beginning b (member k v ms)) ≡ named k (packed v) ∷ member_entries (without_names_beginning b ms)
+  kept e = ap (λ x. member_entries (if x then without_names_beginning b ms else member k v (without_names_beginning b ms))) e
 
   below : begins_with b k ≡ false → rank_of k < suc b → Goal
   below e h =
@@ -92,7 +92,7 @@ module _ (b : ℕ) (k : List ℕ) (v : Value) (ms : Members) (rest : member_entr
 
   at : AllAfter k ms → begins_with b k ≡ true → rank_of k ≡ suc b → Goal
   at a e h =
-      ap (λ x. member_entries (if x then without_front b ms else member k v (without_front b ms))) e
+      ap (λ x. member_entries (if x then without_names_beginning b ms else member k v (without_names_beginning b ms))) e
       ∙ rest ∙ ap (λ i. without_entries i (ranked_below (suc (suc b)) ms) (member_entries ms)) (none_below (suc b) k ms a (omega (arith, h)))
       ∙ sym (ap₂ (λ i j. without_entries i j (member_entries (member k v ms))) (below_no (suc b) k v ms (omega (arith, h))) (below_yes (suc (suc b)) k v ms (omega (arith, h))))
 
@@ -102,7 +102,7 @@ module _ (b : ℕ) (k : List ℕ) (v : Value) (ms : Members) (rest : member_entr
       ∙ ap₂ (λ i j. named k (packed v) ∷ without_entries i j (member_entries ms)) (none_below (suc b) k ms a (omega (arith, h))) (none_below (suc (suc b)) k ms a h)
       ∙ sym (ap₂ (λ i j. without_entries i j (member_entries (member k v ms))) (below_no (suc b) k v ms (omega (arith, h))) (below_no (suc (suc b)) k v ms h))
 
-pub front_entries : (b : ℕ) (ms : Members) → MembersAreStored ms → member_entries (without_front b ms) ≡ without_entries (ranked_below (suc b) ms) (ranked_below (suc (suc b)) ms) (member_entries ms)
+pub front_entries : (b : ℕ) (ms : Members) → MembersAreStored ms → member_entries (without_names_beginning b ms) ≡ without_entries (ranked_below (suc b) ms) (ranked_below (suc (suc b)) ms) (member_entries ms)
 front_entries b no_members stored = refl
 front_entries b (member [] v ms) stored = below b [] v ms (front_entries b ms stored.3) refl (omega arith)
 front_entries b (member (c ∷ s) v ms) stored =
@@ -119,17 +119,17 @@ after_by : (x : Bool) (l k : List ℕ) (v : Value) (rest : Members) → slice_cm
 after_by true l k v rest e a = a
 after_by false l k v rest e a = (e, a)
 
-after_without : (b : ℕ) (l : List ℕ) (ms : Members) → AllAfter l ms → AllAfter l (without_front b ms)
+after_without : (b : ℕ) (l : List ℕ) (ms : Members) → AllAfter l ms → AllAfter l (without_names_beginning b ms)
 after_without b l no_members a = tt
-after_without b l (member k v ms) a = after_by (begins_with b k) l k v (without_front b ms) a.0 (after_without b l ms a.1)
+after_without b l (member k v ms) a = after_by (begins_with b k) l k v (without_names_beginning b ms) a.0 (after_without b l ms a.1)
 
 stored_by : (x : Bool) (k : List ℕ) (v : Value) (rest : Members) → AllAfter k rest → IsUtf8 k → IsStored v → MembersAreStored rest → MembersAreStored (if x then rest else member k v rest)
 stored_by true k v rest a utf8 stored more = more
 stored_by false k v rest a utf8 stored more = (a, utf8, stored, more)
 
-stored_without : (b : ℕ) (ms : Members) → MembersAreStored ms → MembersAreStored (without_front b ms)
+stored_without : (b : ℕ) (ms : Members) → MembersAreStored ms → MembersAreStored (without_names_beginning b ms)
 stored_without b no_members stored = tt
-stored_without b (member k v ms) stored = stored_by (begins_with b k) k v (without_front b ms) (after_without b k ms stored.0) stored.1 stored.2 (stored_without b ms stored.3)
+stored_without b (member k v ms) stored = stored_by (begins_with b k) k v (without_names_beginning b ms) (after_without b k ms stored.0) stored.1 stored.2 (stored_without b ms stored.3)
 
 -- ---- the new block
 
@@ -149,19 +149,19 @@ without_short entries i j le within =
     )
 
 pub front_block : (b new : List ℕ) (front : ℕ) (ms : Members) (i j : ℕ) → IsObjectBlock b → ms ≡ members_in b → i ≡ ranked_below (front + 1) ms → j ≡ ranked_below (front + 2) ms
-    → i ≤ j → j ≤ length (entries_in b) → new ≡ 6 ∷ table (without_entries i j (entries_in b)) → IsBlockOf new (object (without_front front ms))
+    → i ≤ j → j ≤ length (entries_in b) → new ≡ 6 ∷ table (without_entries i j (entries_in b)) → IsBlockOf new (object (without_names_beginning front ms))
 front_block b new front ms i j o same first next le within is =
     let one : front + 1 ≡ suc front = omega arith in
     let two : front + 2 ≡ suc (suc front) = omega arith in
     let from : i ≡ ranked_below (suc front) ms = first ∙ ap (λ n. ranked_below n ms) one in
     let up_to : j ≡ ranked_below (suc (suc front)) ms = next ∙ ap (λ n. ranked_below n ms) two in
     let stored : MembersAreStored ms = subst MembersAreStored (sym same) o.0.stored in
-    let entries : member_entries (without_front front ms) ≡ without_entries i j (entries_in b) =
+    let entries : member_entries (without_names_beginning front ms) ≡ without_entries i j (entries_in b) =
     front_entries front ms stored ∙ ap₂ (λ m n. without_entries m n (member_entries ms)) (sym from) (sym up_to) ∙ ap (λ x. without_entries i j (member_entries x)) same in
-    let made : new ≡ packed (object (without_front front ms)) = is ∙ ap (λ x. 6 ∷ table x) (sym entries) in
-    let size : length (packed (object (without_front front ms))) ≡ suc (length (table (without_entries i j (entries_in b)))) = ap (λ x. length (6 ∷ table x)) entries in
-    let short : length (packed (object (without_front front ms))) < 2 ^ 32 = omega (arith, size, without_short (entries_in b) i j le within, o.0.short) in
-    (record { stored = stored_without front ms stored; short = short; rest = []; begins = made ∙ sym (append-nil (packed (object (without_front front ms)))) }, made)
+    let made : new ≡ packed (object (without_names_beginning front ms)) = is ∙ ap (λ x. 6 ∷ table x) (sym entries) in
+    let size : length (packed (object (without_names_beginning front ms))) ≡ suc (length (table (without_entries i j (entries_in b)))) = ap (λ x. length (6 ∷ table x)) entries in
+    let short : length (packed (object (without_names_beginning front ms))) < 2 ^ 32 = omega (arith, size, without_short (entries_in b) i j le within, o.0.short) in
+    (record { stored = stored_without front ms stored; short = short; rest = []; begins = made ∙ sym (append-nil (packed (object (without_names_beginning front ms)))) }, made)
 
 pub without_made : (none tag counted placed new : List ℕ) (entries : List (List ℕ)) (i j n : ℕ) → none ≡ [] → tag ≡ none ++ 6 ∷ [] → counted ≡ tag ++ word n → n ≡ length (without_entries i j entries)
     → placed ≡ counted ++ (offsets 0 (take i entries) ++ offsets (begin_of entries i) (drop j entries)) → new ≡ placed ++ (concat (take i entries) ++ concat (drop j entries))

@@ -8,6 +8,6 @@ begins_with b [] = false
 begins_with b (c ∷ s) = c == b
 
 -- the members whose names do not begin with the byte b
-abbrev pub without_front : ℕ → Members → Members
-without_front b no_members = no_members
-without_front b (member k v ms) = if begins_with b k then without_front b ms else member k v (without_front b ms)
+abbrev pub without_names_beginning : ℕ → Members → Members
+without_names_beginning b no_members = no_members
+without_names_beginning b (member k v ms) = if begins_with b k then without_names_beginning b ms else member k v (without_names_beginning b ms)

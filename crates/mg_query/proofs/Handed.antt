@@ -9,7 +9,7 @@ use Rattle.mg_value.specs.Value.{item_list}
 use Rattle.mg_collate.specs.declared.direction.Direction.{Direction}
 use Rattle.mg_collate.specs.Row.{RowValue, directed_order}
 use Rattle.mg_collate.specs.Sorted.{IsInOrder, sorted_with, sorted, sorted_rows}
-use Rattle.mg_bookmark.specs.Bookmark.{Place}
+use Rattle.mg_bookmark.specs.Bookmark.{RowPosition}
 use Rattle.mg_index.specs.Choice.{is_usable}
 use Rattle.mg_index.specs.Definition.{Steps}
 use Rattle.mg_merge.specs.Merged.{IsInOrderBy, contents_of, joined, merged, merged_by, order_by}
@@ -45,7 +45,7 @@ use Rattle.mg_query.specs.declared.found.Plan.{Plan}
 use Rattle.mg_query.proofs.Answered.{is_wanted_by, rows_of_answer}
 use Rattle.mg_query.proofs.Gathered.{listed_rows, listed_sorted, lists_in_order, rows_asked}
 
-follows_same : (o : Option Place) (direction : Direction) (r : RowValue)
+follows_same : (o : Option RowPosition) (direction : Direction) (r : RowValue)
     → option_map_or (λ p. is_gt (directed_order direction r p)) (option_map row_at o) true ≡ option_map_or (λ p. is_gt (directed_order direction r (p.key, p.id))) o true
 follows_same None direction r = refl
 follows_same (Some p) direction r = refl

@@ -2,7 +2,7 @@
 use Rattle.std.specs.Prelude.{◌≡◌, ◌+◌, ◌==◌, Bool, not, ◌&&◌, List, length, option_map}
 use Rattle.std.specs.List.{AllZip}
 use Rattle.mg_collate.specs.Row.{RowValue}
-use Rattle.mg_bookmark.specs.Bookmark.{Place}
+use Rattle.mg_bookmark.specs.Bookmark.{RowPosition}
 use Rattle.mg_index.specs.Definition.{Steps}
 use Rattle.mg_normal.specs.Normal.{NormalForm}
 use Rattle.mg_range.specs.Range.{range_of}
@@ -17,7 +17,7 @@ use Rattle.mg_query.specs.Page.{Candidate, row_by}
 use Rattle.mg_query.specs.Query.{Query}
 
 -- the row at a bookmark's place, after which the page begins
-abbrev pub row_at : Place → RowValue
+abbrev pub row_at : RowPosition → RowValue
 row_at p = (p.key, p.id)
 
 -- what a shard lists for a query, in an index of these columns: at most as many rows as the page skips and shows

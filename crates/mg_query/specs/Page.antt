@@ -20,7 +20,7 @@ use Rattle.mg_doc.specs.Conflicts.{with_conflicts_of}
 use Rattle.mg_selector.specs.Meaning.{holds_in}
 use Rattle.mg_selector.specs.declared.sense.Sense.TheVariants.{Plain}
 use Rattle.mg_normal.specs.Atoms.{atoms_of}
-use Rattle.mg_bookmark.specs.Bookmark.{Place, spelled}
+use Rattle.mg_bookmark.specs.Bookmark.{RowPosition, spelled}
 use Rattle.mg_index.specs.Choice.{Source, all_docs, defined, choice_of, id_path}
 use Rattle.mg_index.specs.Definition.{IndexDefinition, Steps}
 use Rattle.mg_index.specs.Reading.{is_same}
@@ -144,7 +144,7 @@ is_ddoc (Some a) (Some b) = bytes_eq a b
 is_ddoc a b = false
 
 -- whether a bookmark's place fits the index, read in the query's direction
-abbrev pub fits_source : Source → Query → Place → Bool
+abbrev pub fits_source : Source → Query → RowPosition → Bool
 fits_source s q p =
     is_ddoc p.ddoc (ddoc_of s) && (bytes_eq p.name (name_of s) && (is_same p.direction q.direction && (length (item_list p.key) == length (source_columns s))))
 

@@ -14,7 +14,7 @@ use Rattle.mg_selector.specs.Reading.{reading}
 use Rattle.mg_selector.specs.declared.error.SelError.{SelError}
 use Rattle.mg_selector.specs.declared.error.SelError.TheVariants as selector_fault
 use Rattle.mg_selector.specs.Fault.{◌>>=◌, or_fault}
-use Rattle.mg_bookmark.specs.Bookmark.{Place}
+use Rattle.mg_bookmark.specs.Bookmark.{RowPosition}
 use Rattle.mg_bookmark.specs.Reading.{bookmark_read}
 use Rattle.mg_index.specs.Choice.{Hint, no_hint, in_document, exactly}
 use Rattle.mg_index.specs.Definition.{Steps, design_document}
@@ -33,7 +33,7 @@ pub record Query : Type 0 where
   pub sort : List Steps
   pub direction : Direction
   pub hint : Hint
-  pub bookmark : Option Place
+  pub bookmark : Option RowPosition
   pub conflicts : Bool
   pub given_selector : Value
   pub given_fields : Value

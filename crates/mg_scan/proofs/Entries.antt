@@ -19,7 +19,7 @@ use Rattle.mg_scan.specs.Walked.{id_row}
 use Rattle.mg_scan.specs.Begins.{id_rows}
 use Rattle.mg_shard.specs.Documents.{KeptDocument, KeptDocuments, doc_entry, docs_of, form_at}
 use Rattle.mg_shard.specs.Histories.{ServedDocument}
-use Rattle.mg_shard.specs.Own.{HasOwnId, all_columns}
+use Rattle.mg_shard.specs.Own.{HasOwnId, id_columns}
 use Rattle.mg_shard.specs.Rows.{row_of, rows_of}
 use Rattle.mg_shard.specs.Walk.{beyond}
 use Rattle.mg_shard.proofs.Rows.{sorted_is}
@@ -88,7 +88,7 @@ all_forms ds = served_forms ds (entries ds) (all_kept ds)
 -- ---- the row of an entry among all documents
 
 abbrev pub entry_row : Entry → Option RowValue
-entry_row e = option_and_then (row_of all_columns) (doc_entry e)
+entry_row e = option_and_then (row_of id_columns) (doc_entry e)
 
 -- the row is that of the id
 abbrev pub IsOwnRow : Entry → Type 0
@@ -100,7 +100,7 @@ own_part id None r own e = absurd cc
 own_part id (Some part) r own e = let same : ◌≡◌ {A = RowValue} (item part no_items, id) r = cc in sym same ∙ ap (λ v. (item v no_items, id)) (own part refl)
 
 pub own_form : (id : List ℕ) (o : Option Value) (r : RowValue) → ((form : Value) → o ≡ Some form → HasOwnId id form)
-    → option_and_then (row_of all_columns) (option_map (λ form. (id, form)) o) ≡ Some r → r ≡ id_row id
+    → option_and_then (row_of id_columns) (option_map (λ form. (id, form)) o) ≡ Some r → r ≡ id_row id
 own_form id None r own e = absurd cc
 own_form id (Some form) r own e = own_part id (part_of (codes "_id" ∷ []) form) r (own form refl) e
 
@@ -134,17 +134,17 @@ rows_rise [] h own = tt
 rows_rise (e ∷ es) h own =
     rise_step e (entry_row e) es (first (below_all bytes_cmp e.0 es) (is_sorted bytes_cmp es) h) own.0 own.1 (rows_rise es (second (below_all bytes_cmp e.0 es) (is_sorted bytes_cmp es) h) own.1)
 
-fused_step : (o : Option ServedDocument) (rest : List ServedDocument) (rows : List RowValue) → filter_map (row_of all_columns) rest ≡ rows
-    → filter_map (row_of all_columns) (cons_option o rest) ≡ cons_option (option_and_then (row_of all_columns) o) rows
+fused_step : (o : Option ServedDocument) (rest : List ServedDocument) (rows : List RowValue) → filter_map (row_of id_columns) rest ≡ rows
+    → filter_map (row_of id_columns) (cons_option o rest) ≡ cons_option (option_and_then (row_of id_columns) o) rows
 fused_step None rest rows e = e
-fused_step (Some d) rest rows e = ap (cons_option (row_of all_columns d)) e
+fused_step (Some d) rest rows e = ap (cons_option (row_of id_columns d)) e
 
-fused : (es : List Entry) → filter_map (row_of all_columns) (filter_map doc_entry es) ≡ entry_rows es
+fused : (es : List Entry) → filter_map (row_of id_columns) (filter_map doc_entry es) ≡ entry_rows es
 fused [] = refl
 fused (e ∷ es) = fused_step (doc_entry e) (filter_map doc_entry es) (entry_rows es) (fused es)
 
 -- the rows of all documents are those of the entries, in their order
-pub all_rows : (ds : KeptDocuments) → ((id : List ℕ) (form : Value) → form_at ds id ≡ Some form → HasOwnId id form) → entry_rows (entries ds) ≡ rows_of all_columns (docs_of ds)
+pub all_rows : (ds : KeptDocuments) → ((id : List ℕ) (form : Value) → form_at ds id ≡ Some form → HasOwnId id form) → entry_rows (entries ds) ≡ rows_of id_columns (docs_of ds)
 all_rows ds own =
     sorted_is (entry_rows (entries ds)) (entry_rows (entries ds)) (rows_rise (entries ds) (entries_sorted ds) (own_rows ds own)) (λ z. refl)
     ∙ ap (sorted row_value_order) (sym (fused (entries ds)))

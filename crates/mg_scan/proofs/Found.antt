@@ -21,7 +21,7 @@ use Rattle.mg_scan.specs.declared.target.Target.TheVariants.{AllDocs, Index}
 use Rattle.mg_scan.proofs.Entries.{Entry, all_beyond, all_forms, all_kept, all_mapped, all_rows, own_rows, rows-beyond}
 use Rattle.mg_scan.proofs.Walking.{found_rows}
 use Rattle.mg_shard.specs.Documents.{KeptDocuments, docs_of, kept_entry, form_at, id_bytes, kept_of}
-use Rattle.mg_shard.specs.Own.{HasOwnId, all_columns}
+use Rattle.mg_shard.specs.Own.{HasOwnId, id_columns}
 use Rattle.mg_shard.specs.Rows.{rows_of}
 use Rattle.mg_shard.specs.Shard.{ShardView}
 use Rattle.mg_shard.specs.Walk.{beyond}
@@ -37,13 +37,13 @@ all_owned ds direction order documents is =
     (subst (λ (es : List Entry). AllByRecursion (λ e. get ds e.0 ≡ Some e.1) es) (sym is) (all_beyond (λ e. get ds e.0 ≡ Some e.1) direction order (entries ds) (all_kept ds)))
 
 pub all_found : (s : Search) (ds : KeptDocuments) (es : List Entry) → ((id : List ℕ) (form : Value) → form_at ds id ≡ Some form → HasOwnId id form) → es ≡ beyond s.direction (λ e. begin_at s (id_row e.0)) (entries ds)
-    → walked_by s ds s.take (entry_rows es) ≡ scanned (search_input s all_columns) (docs_of ds)
+    → walked_by s ds s.take (entry_rows es) ≡ scanned (search_input s id_columns) (docs_of ds)
 all_found s ds es own is =
     ap (λ (x : List Entry). walked_by s ds s.take (entry_rows x)) is
     ∙ ap (walked_by s ds s.take) (rows-beyond s.direction (begin_at s) (entries ds) (own_rows ds own) ∙ ap (beyond s.direction (begin_at s)) (all_rows ds own))
-    ∙ found_rows (search_input s all_columns) ds (beyond s.direction (begin_at s) (rows_of all_columns (docs_of ds))) (all_forms ds) refl
+    ∙ found_rows (search_input s id_columns) ds (beyond s.direction (begin_at s) (rows_of id_columns (docs_of ds))) (all_forms ds) refl
 
-pub gives_all : (s : Search) (shard : ShardView) (hits : List Hit) → s.target ≡ AllDocs → hit_rows hits ≡ scanned (search_input s all_columns) (docs_of shard.documents) → AreHitsOf shard.documents hits → AreHitsFound s shard hits
+pub gives_all : (s : Search) (shard : ShardView) (hits : List Hit) → s.target ≡ AllDocs → hit_rows hits ≡ scanned (search_input s id_columns) (docs_of shard.documents) → AreHitsOf shard.documents hits → AreHitsFound s shard hits
 gives_all s shard hits e is documents = record { rows = is ∙ ap (λ t. found_in t (search_input s) shard) (sym e); documents = documents }
 
 -- ---- an index

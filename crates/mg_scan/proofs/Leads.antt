@@ -23,7 +23,7 @@ use Rattle.mg_scan.proofs.Decided.{all_alike}
 use Rattle.mg_scan.proofs.Sources.{InOneOf, all_given, sources_in_order, sources_merged, sources_size}
 use Rattle.mg_scan.proofs.Steps.{rows-push}
 use Rattle.mg_shard.specs.Documents.{KeptDocument, KeptDocuments, form_at, form_of, id_bytes, kept_of}
-use Rattle.mg_shard.specs.Own.{all_columns}
+use Rattle.mg_shard.specs.Own.{id_columns}
 use Rattle.mg_shard.specs.Rows.{row_key}
 use Rattle.mg_shard.specs.Shard.{ShardView}
 use Rattle.mg_shard.specs.declared.document.Document.{Document}
@@ -36,16 +36,16 @@ pub on_lead : (late : RowValue → Bool) (holds : Bool) (total : List RowValue) 
 on_lead late holds total r rest e f is = is ∙ ap₂ (λ (b c : Bool). if b then [] else if c then r ∷ rest else rest) e f
 
 -- nothing is asked of a document that has a key
-pub keyed_holds : (o : Option Value) (key : Items) → Some key ≡ option_and_then (row_key all_columns) o → option_map_or (λ form. normal_holds everything (Some form)) o false ≡ true
+pub keyed_holds : (o : Option Value) (key : Items) → Some key ≡ option_and_then (row_key id_columns) o → option_map_or (λ form. normal_holds everything (Some form)) o false ≡ true
 keyed_holds None key e = absurd cc
 keyed_holds (Some form) key e = refl
 
-form_there : (o : Option Value) (key : Items) → Some key ≡ option_and_then (row_key all_columns) o → is_some o ≡ true
+form_there : (o : Option Value) (key : Items) → Some key ≡ option_and_then (row_key id_columns) o → is_some o ≡ true
 form_there None key e = absurd cc
 form_there (Some form) key e = refl
 
 -- a document that is kept and has a key is served
-pub keyed_served : (ds : KeptDocuments) (d : Document) (key : Items) → get ds (id_bytes d) ≡ Some (kept_of d) → Some key ≡ option_and_then (row_key all_columns) (form_of d) → is_some (form_at ds (id_bytes d)) ≡ true
+pub keyed_served : (ds : KeptDocuments) (d : Document) (key : Items) → get ds (id_bytes d) ≡ Some (kept_of d) → Some key ≡ option_and_then (row_key id_columns) (form_of d) → is_some (form_at ds (id_bytes d)) ≡ true
 keyed_served ds d key kept e = ap (λ (o : Option KeptDocument). is_some (option_and_then (λ (k : KeptDocument). k.1) o)) kept ∙ form_there (form_of d) key e
 
 -- what holds of it where a fact does

@@ -11,25 +11,25 @@ use Rattle.mg_scan.proofs.Sources.{among_some}
 use Rattle.mg_scan.proofs.Steps.{keyed, rows_some}
 use Rattle.mg_shard.proofs.Owned.{own_document}
 use Rattle.mg_shard.specs.Documents.{form_of, id_bytes, kept_entry}
-use Rattle.mg_shard.specs.Own.{all_columns}
+use Rattle.mg_shard.specs.Own.{id_columns}
 use Rattle.mg_shard.specs.Rows.{row_key}
 use Rattle.mg_shard.specs.declared.document.Document.{Document}
 use Rattle.mg_value.specs.Value.{Items}
 
 -- the row of a document that has a key
-pub own_lent : (d : Document) (key : Items) → Some key ≡ option_and_then (row_key all_columns) (form_of d) → ◌≡◌ {A = RowValue} (key, id_bytes d) (id_row (id_bytes d))
+pub own_lent : (d : Document) (key : Items) → Some key ≡ option_and_then (row_key id_columns) (form_of d) → ◌≡◌ {A = RowValue} (key, id_bytes d) (id_row (id_bytes d))
 own_lent d key e =
     let id = id_bytes d in
     own_form id (form_of d) (key, id) (own_document d) (keyed id (form_of d) ∙ ap (option_map (λ (k : Items). (k, id))) (sym e))
 
 -- such a document is looked at, by the row of its id
-pub among_own : (s : Search) (d : Document) (documents : List Document) (key : Items) (id : List ℕ) → Some key ≡ option_and_then (row_key all_columns) (form_of d) → id ≡ id_bytes d
+pub among_own : (s : Search) (d : Document) (documents : List Document) (key : Items) (id : List ℕ) → Some key ≡ option_and_then (row_key id_columns) (form_of d) → id ≡ id_bytes d
     → walked_documents s (d ∷ documents) ≡ walked_on (is_late_row s.direction s.range.now) (holds_for s.normal.now d) (Some (id_row id)) (walked_documents s documents)
 among_own s d documents key id e same =
     let late = is_late_row s.direction s.range.now in
     among_some s d documents key e
     ∙ ap (λ (r : RowValue). walked_on late (holds_for s.normal.now d) (Some r) (walked_documents s documents)) (own_lent d key e ∙ ap id_row (sym same))
 
-pub rows_own : (d : Document) (ds : List Document) (key : Items) (id : List ℕ) → Some key ≡ option_and_then (row_key all_columns) (form_of d) → id ≡ id_bytes d
+pub rows_own : (d : Document) (ds : List Document) (key : Items) (id : List ℕ) → Some key ≡ option_and_then (row_key id_columns) (form_of d) → id ≡ id_bytes d
     → entry_rows (map kept_entry (d ∷ ds)) ≡ id_row id ∷ entry_rows (map kept_entry ds)
 rows_own d ds key id e same = rows_some d ds key e ∙ ap (λ (r : RowValue). r ∷ entry_rows (map kept_entry ds)) (own_lent d key e ∙ ap id_row (sym same))

@@ -32,7 +32,7 @@ use Rattle.mg_scan.proofs.Steps.{holds_of, if_none, if_some, row_lent}
 use Rattle.mg_scan.proofs.Walking.{all_found_rows, named_id}
 use Rattle.mg_shard.proofs.Rows.{rises_where}
 use Rattle.mg_shard.specs.Documents.{KeptDocuments, docs_of, form_at, form_of, id_bytes, kept_entry, kept_of}
-use Rattle.mg_shard.specs.Own.{HasOwnId, all_columns}
+use Rattle.mg_shard.specs.Own.{HasOwnId, id_columns}
 use Rattle.mg_shard.specs.Rows.{row_key, row_of, rows_of}
 use Rattle.mg_shard.specs.Shard.{ShardView, shards_seen}
 use Rattle.mg_shard.specs.Walk.{beyond}
@@ -74,12 +74,12 @@ docs_step s ds d (Some r) rest rows own is e =
     ap₂ (λ h xs. walked_on (is_late_row s.direction s.range.now) h (Some r) xs) (holds_of s.normal.now ds d is ∙ ap (holds_at s.normal.now ds) (sym (own r refl))) e
 
 -- a document that has no row is passed over
-pub among_none : (s : Search) (d : Document) (documents : List Document) → None ≡ option_and_then (row_key all_columns) (form_of d) → walked_documents s (d ∷ documents) ≡ walked_documents s documents
+pub among_none : (s : Search) (d : Document) (documents : List Document) → None ≡ option_and_then (row_key id_columns) (form_of d) → walked_documents s (d ∷ documents) ≡ walked_documents s documents
 among_none s d documents e =
     let late = is_late_row s.direction s.range.now in
     ap (λ o. walked_on late (holds_for s.normal.now d) (option_map (λ key. (key, id_bytes d)) o) (walked_documents s documents)) (sym e)
 
-pub among_some : (s : Search) (d : Document) (documents : List Document) (key : Items) → Some key ≡ option_and_then (row_key all_columns) (form_of d)
+pub among_some : (s : Search) (d : Document) (documents : List Document) (key : Items) → Some key ≡ option_and_then (row_key id_columns) (form_of d)
     → walked_documents s (d ∷ documents) ≡ walked_on (is_late_row s.direction s.range.now) (holds_for s.normal.now d) (Some (key, id_bytes d)) (walked_documents s documents)
 among_some s d documents key e =
     let late = is_late_row s.direction s.range.now in
@@ -89,17 +89,17 @@ among_some s d documents key e =
 walked_rows : (s : Search) (ds : KeptDocuments) (documents : List Document) → AreKept ds documents → walked_documents s documents ≡ walked_all_by s ds (entry_rows (map kept_entry documents))
 walked_rows s ds [] h = refl
 walked_rows s ds (d ∷ documents) h =
-    docs_step s ds d (row_among d) (walked_documents s documents) (entry_rows (map kept_entry documents)) (λ r e. named_id (id_bytes d) (option_and_then (row_key all_columns) (form_of d)) r e) h.0 (walked_rows s ds documents h.1)
-    ∙ ap (λ o. walked_all_by s ds (cons_option o (entry_rows (map kept_entry documents)))) (sym (row_lent d (option_and_then (row_key all_columns) (form_of d)) refl))
+    docs_step s ds d (row_among d) (walked_documents s documents) (entry_rows (map kept_entry documents)) (λ r e. named_id (id_bytes d) (option_and_then (row_key id_columns) (form_of d)) r e) h.0 (walked_rows s ds documents h.1)
+    ∙ ap (λ o. walked_all_by s ds (cons_option o (entry_rows (map kept_entry documents)))) (sym (row_lent d (option_and_then (row_key id_columns) (form_of d)) refl))
 
 -- all that is found among all documents
 pub source_rows : (s : Search) (ds : KeptDocuments) (documents : List Document) → AreKept ds documents → ((id : List ℕ) (form : Value) → form_at ds id ≡ Some form → HasOwnId id form)
-    → map kept_entry documents ≡ beyond s.direction (λ e. begin_at s (id_row e.0)) (entries ds) → walked_documents s documents ≡ all_scanned (search_input s all_columns) (docs_of ds)
+    → map kept_entry documents ≡ beyond s.direction (λ e. begin_at s (id_row e.0)) (entries ds) → walked_documents s documents ≡ all_scanned (search_input s id_columns) (docs_of ds)
 source_rows s ds documents kept own is =
     walked_rows s ds documents kept
     ∙ ap (λ (x : List Entry). walked_all_by s ds (entry_rows x)) is
     ∙ ap (walked_all_by s ds) (rows-beyond s.direction (begin_at s) (entries ds) (own_rows ds own) ∙ ap (beyond s.direction (begin_at s)) (all_rows ds own))
-    ∙ all_found_rows (search_input s all_columns) ds (beyond s.direction (begin_at s) (rows_of all_columns (docs_of ds))) (all_forms ds) refl
+    ∙ all_found_rows (search_input s id_columns) ds (beyond s.direction (begin_at s) (rows_of id_columns (docs_of ds))) (all_forms ds) refl
 
 -- ---- all that is found, and as much of it as is asked for
 

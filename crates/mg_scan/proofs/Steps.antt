@@ -12,7 +12,7 @@ use Rattle.std.specs.FinMap.{get}
 use Rattle.std.specs.Option.{option_and_then, option_map_or}
 use Rattle.mg_scan.specs.declared.hit.Hit.{Hit}
 use Rattle.mg_shard.specs.Documents.{KeptDocument, KeptDocuments, kept_entry, form_of, id_bytes, kept_of}
-use Rattle.mg_shard.specs.Own.{all_columns}
+use Rattle.mg_shard.specs.Own.{id_columns}
 use Rattle.mg_shard.specs.Rows.{row_key, row_of}
 use Rattle.mg_shard.specs.declared.document.Document.{Document}
 use Rattle.mg_value.specs.Value.{Value, Items}
@@ -115,18 +115,18 @@ hits_one ds hits (Some hit) h k = hits-push ds hits hit h k
 
 -- ---- documents
 
-pub keyed : (id : List ℕ) (o : Option Value) → option_and_then (row_of all_columns) (option_map (λ form. (id, form)) o) ≡ option_map (λ key. (key, id)) (option_and_then (row_key all_columns) o)
+pub keyed : (id : List ℕ) (o : Option Value) → option_and_then (row_of id_columns) (option_map (λ form. (id, form)) o) ≡ option_map (λ key. (key, id)) (option_and_then (row_key id_columns) o)
 keyed id None = refl
 keyed id (Some form) = refl
 
 -- the row of a document, by the key that it lends
-pub row_lent : (d : Document) (o : Option Items) → o ≡ option_and_then (row_key all_columns) (form_of d) → entry_row (kept_entry d) ≡ option_map (λ key. (key, id_bytes d)) o
+pub row_lent : (d : Document) (o : Option Items) → o ≡ option_and_then (row_key id_columns) (form_of d) → entry_row (kept_entry d) ≡ option_map (λ key. (key, id_bytes d)) o
 row_lent d o e = keyed (id_bytes d) (form_of d) ∙ ap (option_map (λ key. (key, id_bytes d))) (sym e)
 
-pub rows_none : (d : Document) (ds : List Document) → None ≡ option_and_then (row_key all_columns) (form_of d) → entry_rows (map kept_entry (d ∷ ds)) ≡ entry_rows (map kept_entry ds)
+pub rows_none : (d : Document) (ds : List Document) → None ≡ option_and_then (row_key id_columns) (form_of d) → entry_rows (map kept_entry (d ∷ ds)) ≡ entry_rows (map kept_entry ds)
 rows_none d ds e = ap (λ o. cons_option o (entry_rows (map kept_entry ds))) (row_lent d None e)
 
-pub rows_some : (d : Document) (ds : List Document) (key : Items) → Some key ≡ option_and_then (row_key all_columns) (form_of d) → entry_rows (map kept_entry (d ∷ ds)) ≡ (key, id_bytes d) ∷ entry_rows (map kept_entry ds)
+pub rows_some : (d : Document) (ds : List Document) (key : Items) → Some key ≡ option_and_then (row_key id_columns) (form_of d) → entry_rows (map kept_entry (d ∷ ds)) ≡ (key, id_bytes d) ∷ entry_rows (map kept_entry ds)
 rows_some d ds key e = ap (λ o. cons_option o (entry_rows (map kept_entry ds))) (row_lent d (Some key) e)
 
 -- whether the selector holds of it

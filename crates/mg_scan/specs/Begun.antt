@@ -9,7 +9,7 @@ use Rattle.mg_scan.specs.declared.left.Unread.{Unread}
 use Rattle.mg_scan.specs.declared.left.Unread.TheVariants as left
 use Rattle.mg_scan.specs.declared.search.Search.{Search}
 use Rattle.mg_shard.specs.Documents.{KeptDocuments, docs_of, form_at, kept_entry}
-use Rattle.mg_shard.specs.Own.{HasOwnId, all_columns}
+use Rattle.mg_shard.specs.Own.{HasOwnId, id_columns}
 use Rattle.mg_shard.specs.Rows.{rows_of}
 use Rattle.mg_shard.specs.Shard.{ShardView}
 use Rattle.mg_shard.specs.Walk.{beyond}
@@ -24,7 +24,7 @@ pub record AreBegun (s : Search) (ds : KeptDocuments) (documents : List Document
 -- what is left is all from where the search begins, in these columns, if the shard has them
 abbrev pub IsBegunIn : Option (List Steps) → Search → ShardView → Unread → Type 0
 IsBegunIn at s shard (left.Rows rows) = (columns : List Steps) × (at ≡ Some columns) × (rows ≡ beyond s.direction (begin_at s) (rows_of columns (docs_of shard.documents)))
-IsBegunIn at s shard (left.Documents documents) = (at ≡ Some all_columns) × AreBegun s shard.documents documents
+IsBegunIn at s shard (left.Documents documents) = (at ≡ Some id_columns) × AreBegun s shard.documents documents
 IsBegunIn at s shard left.Nothing = at ≡ None
 
 -- what is left is all from where the search begins in its target

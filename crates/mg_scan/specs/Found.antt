@@ -11,12 +11,12 @@ use Rattle.mg_scan.specs.Scan.{ScanInput, all_scanned, scanned}
 use Rattle.mg_scan.specs.declared.target.Target.{Target}
 use Rattle.mg_scan.specs.declared.target.Target.TheVariants.{AllDocs, Index}
 use Rattle.mg_shard.specs.Documents.{docs_of}
-use Rattle.mg_shard.specs.Own.{all_columns}
+use Rattle.mg_shard.specs.Own.{id_columns}
 use Rattle.mg_shard.specs.Shard.{ShardView}
 
 -- the columns of a target in a shard that has these indexes; `None` if it has no such index. All documents have the one column `_id`
 abbrev pub target_columns : Target → List IndexDefinition → Option (List Steps)
-target_columns AllDocs definitions = Some all_columns
+target_columns AllDocs definitions = Some id_columns
 target_columns (Index ddoc name) definitions = option_map (λ d. d.columns) (definition_at ddoc.now name.now definitions)
 
 -- what a scan is asked; the columns come last

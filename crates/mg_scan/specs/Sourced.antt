@@ -14,7 +14,7 @@ use Rattle.mg_scan.specs.declared.left.Unread.{Unread}
 use Rattle.mg_scan.specs.declared.left.Unread.TheVariants as left
 use Rattle.mg_scan.specs.declared.source.HitSource.{HitSource}
 use Rattle.mg_shard.specs.Documents.{KeptDocuments, form_of, id_bytes, kept_of}
-use Rattle.mg_shard.specs.Own.{all_columns}
+use Rattle.mg_shard.specs.Own.{id_columns}
 use Rattle.mg_shard.specs.Rows.{row_key}
 use Rattle.mg_shard.specs.Shard.{ShardView}
 use Rattle.mg_shard.specs.declared.document.Document.{Document}
@@ -25,7 +25,7 @@ holds_for normal d = option_map_or (λ form. normal_holds normal (Some form)) (f
 
 -- the row of a document among all, if it is served with an id
 abbrev pub row_among : Document → Option RowValue
-row_among d = option_map (λ key. (key, id_bytes d)) (option_and_then (row_key all_columns) (form_of d))
+row_among d = option_map (λ key. (key, id_bytes d)) (option_and_then (row_key id_columns) (form_of d))
 
 -- what is found from a document on, given its row and what is found after it
 abbrev pub walked_on : (RowValue → Bool) → Bool → Option RowValue → List RowValue → List RowValue

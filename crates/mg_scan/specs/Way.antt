@@ -10,7 +10,7 @@ use Rattle.mg_scan.specs.Search.{after_of, search_input}
 use Rattle.mg_scan.specs.Walked.{begin_order, holds_at, is_late_row, walked, walked_all}
 use Rattle.mg_scan.specs.declared.search.Search.{Search}
 use Rattle.mg_shard.specs.Documents.{KeptDocument, KeptDocuments, doc_entry}
-use Rattle.mg_shard.specs.Own.{all_columns}
+use Rattle.mg_shard.specs.Own.{id_columns}
 use Rattle.mg_shard.specs.Rows.{row_of}
 use Rattle.mg_shard.specs.Shard.{ShardView}
 use Rattle.mg_value.specs.Value.{item_list}
@@ -33,4 +33,4 @@ walked_all_by s ds = walked_all (is_late_row s.direction s.range.now) (λ r. hol
 
 -- the rows that documents have among all documents, where an id is the key
 abbrev pub entry_rows : List (List ℕ × KeptDocument) → List RowValue
-entry_rows es = filter_map (λ e. option_and_then (row_of all_columns) (doc_entry e)) es
+entry_rows es = filter_map (λ e. option_and_then (row_of id_columns) (doc_entry e)) es

@@ -6,7 +6,7 @@ ghost use Rattle.std.specs.Option.{option_map_or};
 ghost use Rattle.mg_normal.specs.Normal.{normal_holds};
 ghost use Rattle.mg_index.specs.Catalog.{definition_at};
 ghost use Rattle.mg_shard.specs.Documents.{KeptDocuments, docs_of, kept_entry, form_of, id_bytes, kept_of};
-ghost use Rattle.mg_shard.specs.Own.{all_columns};
+ghost use Rattle.mg_shard.specs.Own.{id_columns};
 ghost use Rattle.mg_scan.specs.Hit.{AreHitsOf, IsHitOf, hit_row, hit_rows};
 ghost use Rattle.mg_scan.specs.HitRow.{lent_row};
 ghost use Rattle.mg_scan.specs.Scan.{scanned};
@@ -147,7 +147,7 @@ fn hits_of_all<'a>(
 ) -> Result<Vec<Hit<'a>>, NoMemory>
     ensures rows { IfOk result
         (λ v. hit_rows v.items
-        ≡ scanned (search_input search.entry all_columns) (docs_of shard.now.documents)) }
+        ≡ scanned (search_input search.entry id_columns) (docs_of shard.now.documents)) }
     ensures documents { IfOk result (λ v. AreHitsOf shard.now.documents v.items) }
 {
     shard.ids_are_own();

@@ -1,4 +1,4 @@
-ghost use Rattle.std.specs.Prelude.{◌≡◌, ◌<◌, ◌≤◌, ◌&&◌, false, true, if◌then◌else◌};
+ghost use Rattle.std.specs.Prelude.{◌≡◌, ◌<◌, ◌≤◌, ◌&&◌, false, true};
 
 use std::marker::Model;
 
@@ -61,17 +61,5 @@ impl Workers {
         ensures { result ≡ (self.1 && is_small) }
     {
         self.is_maximum && is_small
-    }
-
-    /// How many workers do the work, given whether it is small.
-    pub fn needed(self, is_small: bool) -> usize
-        ensures count { result ≡ if self.1 && is_small then 1 else self.0 }
-        ensures range { (0 < result) × (result ≤ 32) }
-    {
-        if self.is_alone(is_small) {
-            1
-        } else {
-            self.count
-        }
     }
 }

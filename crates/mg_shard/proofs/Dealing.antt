@@ -8,7 +8,7 @@ use Rattle.std.specs.Ordering.{eq_by_cmp}
 use Rattle.std.specs.FinMap.{FinMap, empty, get, get-empty, get-insert, get-retain_keys, insert, retain_keys, same_map}
 use Rattle.mg_doc.specs.Document.{Edit}
 use Rattle.mg_doc.specs.Edit.{edited, outcome_of}
-use Rattle.mg_doc.specs.declared.error.Refused.{Refused}
+use Rattle.mg_doc.specs.declared.error.EditRefusal.{EditRefusal}
 use Rattle.mg_revtree.specs.Revision.{Revision}
 use Rattle.mg_revtree.specs.History.{Paths}
 use Rattle.mg_shard.specs.Dealt.{AreDealt, Placing, ShardsStandFor, histories_on, kept_at}
@@ -108,7 +108,7 @@ stands_at place shards hs id st = kept_there place shards hs id (slice_get shard
 
 -- ---- an edit
 
-put_here : (place : Placing) (n i : ℕ) (hs : Histories) (e : Edit) (r : Result Revision Refused) → place (id_in e) n ≡ i → outcome_in hs e ≡ r
+put_here : (place : Placing) (n i : ℕ) (hs : Histories) (e : Edit) (r : Result Revision EditRefusal) → place (id_in e) n ≡ i → outcome_in hs e ≡ r
     → histories_on place n i (after_edit hs e) ≡ after_edit (histories_on place n i hs) e
 put_here place n i hs e (Ok r) at is =
     let id = id_in e in
@@ -129,7 +129,7 @@ not_there a b h = decided (eqb a b) (λ e. h (eqb-true a b e))
     decided true h = absurd (h refl)
     decided false h = refl
 
-put_elsewhere : (place : Placing) (n i : ℕ) (hs : Histories) (e : Edit) (r : Result Revision Refused) → (place (id_in e) n ≡ i → ⊥) → outcome_in hs e ≡ r
+put_elsewhere : (place : Placing) (n i : ℕ) (hs : Histories) (e : Edit) (r : Result Revision EditRefusal) → (place (id_in e) n ≡ i → ⊥) → outcome_in hs e ≡ r
     → histories_on place n i (after_edit hs e) ≡ histories_on place n i hs
 put_elsewhere place n i hs e (Ok r) away is =
     let id = id_in e in
@@ -139,7 +139,7 @@ put_elsewhere place n i hs e (Ok r) away is =
     ∙ ap (λ b. cond b (insert (histories_on place n i hs) id h) (histories_on place n i hs)) (not_there (place id n) i away)
 put_elsewhere place n i hs e (Err x) away is = ap (λ m. histories_on place n i m) (after_refused hs e x is)
 
-still_placed : (place : Placing) (n : ℕ) (hs : Histories) (e : Edit) (r : Result Revision Refused) (q : List ℕ) (h : Paths) → outcome_in hs e ≡ r → place (id_in e) n < n
+still_placed : (place : Placing) (n : ℕ) (hs : Histories) (e : Edit) (r : Result Revision EditRefusal) (q : List ℕ) (h : Paths) → outcome_in hs e ≡ r → place (id_in e) n < n
     → ((id : List ℕ) (h : Paths) → get hs id ≡ Some h → place id n < n) → get (after_edit hs e) q ≡ Some h → place q n < n
 still_placed place n hs e (Ok r) q h is below before s =
     let id = id_in e in
@@ -174,7 +174,7 @@ edit_dealt {X} Stands place xs hs e i after st at below stands =
         (st.each j x (sym (slice_get-set_other xs i j after apart) ∙ s))
 
 -- an edit that was applied on its shard was applied to the histories
-pub applied_there : {X : Type 0} (Stands : X → Histories → Type 0) (place : Placing) (xs : List X) (hs : Histories) (e : Edit) (i : ℕ) (before after : X) (o : Result Revision Refused)
+pub applied_there : {X : Type 0} (Stands : X → Histories → Type 0) (place : Placing) (xs : List X) (hs : Histories) (e : Edit) (i : ℕ) (before after : X) (o : Result Revision EditRefusal)
     → place (id_in e) (length xs) ≡ i → slice_get xs i ≡ Some before
     → ((gs : Histories) → Stands before gs → o ≡ outcome_in gs e)
     → ((gs : Histories) → Stands before gs → Stands after (after_edit gs e))

@@ -15,7 +15,7 @@ use Rattle.mg_revtree.specs.Revision.{revision_text}
 use Rattle.mg_value.specs.Value.{Value, null, flag, whole, text, list, object, Members, no_members, member, no_items, item, get_member, member_of, put, with_member}
 use Rattle.mg_value.specs.View.{items_of}
 use Rattle.mg_shard.specs.Documents.{KeptDocument, kept_entry, form_at, form_of, id_bytes, kept_of, shown}
-use Rattle.mg_shard.specs.Own.{HasOwnId, IsServedOwn, all_columns, form_in, has_own_id}
+use Rattle.mg_shard.specs.Own.{HasOwnId, IsServedOwn, id_columns, form_in, has_own_id}
 use Rattle.mg_shard.specs.Rows.{row_key}
 use Rattle.mg_shard.specs.declared.document.Document.{Document}
 use Rattle.mg_shard.specs.declared.served.Served.{Served}
@@ -82,7 +82,7 @@ one_part : (o : Option Value) → option_map items_of (option_and_then (λ part.
 one_part None = refl
 one_part (Some v) = refl
 
-pub key-member : (form : Value) → row_key all_columns form ≡ option_map (λ part. item part no_items) (member_of (codes "_id") form)
+pub key-member : (form : Value) → row_key id_columns form ≡ option_map (λ part. item part no_items) (member_of (codes "_id") form)
 key-member null = refl
 key-member (flag b) = refl
 key-member (whole z) = refl
@@ -90,24 +90,24 @@ key-member (text s) = refl
 key-member (list vs) = refl
 key-member (object ms) = one_part (get_member (codes "_id") ms)
 
-member_key : (form : Value) (o : Option Value) → member_of (codes "_id") form ≡ o → option_map (λ part. item part no_items) o ≡ row_key all_columns form
+member_key : (form : Value) (o : Option Value) → member_of (codes "_id") form ≡ o → option_map (λ part. item part no_items) o ≡ row_key id_columns form
 member_key form o e = ap (option_map (λ part. item part no_items)) (sym e) ∙ sym (key-member form)
 
-served_own : (id : List ℕ) (s : Served) → IsServedOwn id s → has_own_id s ≡ true → Some (item (text id) no_items) ≡ option_and_then (row_key all_columns) (form_in s)
+served_own : (id : List ℕ) (s : Served) → IsServedOwn id s → has_own_id s ≡ true → Some (item (text id) no_items) ≡ option_and_then (row_key id_columns) (form_in s)
 served_own id Deleted own e = absurd cc
 served_own id (WithId form) own e = member_key form (Some (text id)) own
 served_own id (WithoutId form) own e = absurd cc
 
-served_none : (id : List ℕ) (s : Served) → IsServedOwn id s → has_own_id s ≡ false → None ≡ option_and_then (row_key all_columns) (form_in s)
+served_none : (id : List ℕ) (s : Served) → IsServedOwn id s → has_own_id s ≡ false → None ≡ option_and_then (row_key id_columns) (form_in s)
 served_none id Deleted own e = refl
 served_none id (WithId form) own e = absurd cc
 served_none id (WithoutId form) own e = member_key form None own
 
 -- the key of a document among all documents, where it has one
-pub key_own : (d : Document) → has_own_id d.served ≡ true → Some (item (text (id_bytes d)) no_items) ≡ option_and_then (row_key all_columns) (form_of d)
+pub key_own : (d : Document) → has_own_id d.served ≡ true → Some (item (text (id_bytes d)) no_items) ≡ option_and_then (row_key id_columns) (form_of d)
 key_own d e = served_own (id_bytes d) d.served d.own_id e
 
-pub key_none : (d : Document) → has_own_id d.served ≡ false → None ≡ option_and_then (row_key all_columns) (form_of d)
+pub key_none : (d : Document) → has_own_id d.served ≡ false → None ≡ option_and_then (row_key id_columns) (form_of d)
 key_none d e = served_none (id_bytes d) d.served d.own_id e
 
 -- ---- the documents of a shard

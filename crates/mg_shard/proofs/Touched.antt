@@ -18,7 +18,7 @@ use Rattle.mg_doc.specs.Edit.{Accepted, accepted_by, accepted_of, edited, histor
 use Rattle.mg_doc.specs.Served.{served_of}
 use Rattle.mg_doc.specs.declared.change.Change.{Change}
 use Rattle.mg_doc.specs.declared.change.Change.TheVariants.{New, Replica}
-use Rattle.mg_doc.specs.declared.error.Refused.{Refused}
+use Rattle.mg_doc.specs.declared.error.EditRefusal.{EditRefusal}
 use Rattle.mg_shard.specs.Documents.{KeptDocument, KeptDocuments, StandFor, StandsAt, tree_at}
 use Rattle.mg_shard.specs.Draft.{DraftAt, DraftStandsFor, DraftView, TouchedStandFor, Touches, Trees, touched_of}
 use Rattle.mg_shard.specs.Edits.{after_edit, history_put, id_in, outcome_in}
@@ -58,11 +58,11 @@ touched-put m n id t u = same_map nat_list_cmp_total bytes_exact _ _ (λ q. get-
 -- ---- histories
 
 -- a refused edit leaves the history
-kept_history : (h : Paths) (e : Edit) (a : Result Accepted Refused) (x : Refused) → newest_accepted a ≡ Err x → history_after h e a ≡ h
+kept_history : (h : Paths) (e : Edit) (a : Result Accepted EditRefusal) (x : EditRefusal) → newest_accepted a ≡ Err x → history_after h e a ≡ h
 kept_history h e (Ok a) x is = absurd cc
 kept_history h e (Err y) x is = refl
 
-pub refused_leaves : (h : Paths) (e : Edit) (x : Refused) → outcome_of h e ≡ Err x → edited h e ≡ h
+pub refused_leaves : (h : Paths) (e : Edit) (x : EditRefusal) → outcome_of h e ≡ Err x → edited h e ≡ h
 refused_leaves h e x is = kept_history h e (accepted_by h e) x is
 
 -- an edit that is done
@@ -70,7 +70,7 @@ pub after_done : (hs : Histories) (e : Edit) (r : Revision) → outcome_in hs e 
 after_done hs e r is = ap (history_put hs e) is
 
 -- an edit that is refused
-pub after_refused : (hs : Histories) (e : Edit) (x : Refused) → outcome_in hs e ≡ Err x → after_edit hs e ≡ hs
+pub after_refused : (hs : Histories) (e : Edit) (x : EditRefusal) → outcome_in hs e ≡ Err x → after_edit hs e ≡ hs
 after_refused hs e x is = ap (history_put hs e) is
 
 -- ---- drafts
@@ -108,8 +108,8 @@ refused_at true q t h ot kept o is s st = subst (λ (p : Option Paths). DraftAt 
 refused_at false q t h ot kept o is s st = st
 
 -- the tree that an edit leaves is kept among the touched ones. A refused edit left its history, if there was one
-pub edit_kept : (ds : KeptDocuments) (ts us : Trees) (hs : Histories) (e : Edit) (t : Tree) (r : Result Revision Refused) → outcome_in hs e ≡ r
-    → ((x : Refused) → r ≡ Err x → (h : Paths) × (get hs (id_in e) ≡ Some h))
+pub edit_kept : (ds : KeptDocuments) (ts us : Trees) (hs : Histories) (e : Edit) (t : Tree) (r : Result Revision EditRefusal) → outcome_in hs e ≡ r
+    → ((x : EditRefusal) → r ≡ Err x → (h : Paths) × (get hs (id_in e) ≡ Some h))
     → ((q : List ℕ) → get us q ≡ cond (eq_by_cmp bytes_cmp q (id_in e)) (Some t) (get ts q))
     → StandsFor t (edited (history_at hs (id_in e)) e) → TouchedStandFor ds ts hs → TouchedStandFor ds us (after_edit hs e)
 edit_kept ds ts us hs e t (Ok r) is some at s st q =
@@ -164,16 +164,16 @@ touched_none [] e = refl
 touched_none (x ∷ es) e = absurd (omega arith)
 
 -- a refused edit leaves all as it was
-pub refused_stands : (ds : KeptDocuments) (ts : Trees) (hs : Histories) (e : Edit) (r : Result Revision Refused) → r ≡ outcome_in hs e → is_ok r ≡ false → TouchedStandFor ds ts hs → TouchedStandFor ds ts (after_edit hs e)
+pub refused_stands : (ds : KeptDocuments) (ts : Trees) (hs : Histories) (e : Edit) (r : Result Revision EditRefusal) → r ≡ outcome_in hs e → is_ok r ≡ false → TouchedStandFor ds ts hs → TouchedStandFor ds ts (after_edit hs e)
 refused_stands ds ts hs e (Ok r) is not st = absurd cc
 refused_stands ds ts hs e (Err x) is not st = subst (λ m. TouchedStandFor ds ts m) (sym (after_refused hs e x (sym is))) st
 
-not_refused : (r : Result Revision Refused) (x : Refused) → is_ok r ≡ true → r ≡ Err x → ⊥
+not_refused : (r : Result Revision EditRefusal) (x : EditRefusal) → is_ok r ≡ true → r ≡ Err x → ⊥
 not_refused (Ok r) x is e = absurd cc
 not_refused (Err y) x is e = absurd cc
 
 -- the first edit of a document that is done keeps the tree that it leaves
-pub first_kept : (ds : KeptDocuments) (ts us : Trees) (hs : Histories) (e : Edit) (t : Tree) (r : Result Revision Refused) → r ≡ outcome_in hs e → is_ok r ≡ true
+pub first_kept : (ds : KeptDocuments) (ts us : Trees) (hs : Histories) (e : Edit) (t : Tree) (r : Result Revision EditRefusal) → r ≡ outcome_in hs e → is_ok r ≡ true
     → us ≡ insert ts (id_in e) t → StandsFor t (edited (history_at hs (id_in e)) e) → TouchedStandFor ds ts hs → TouchedStandFor ds us (after_edit hs e)
 first_kept ds ts us hs e t r is done put s st =
     edit_kept ds ts us hs e t r (sym is) (λ x refused. absurd (not_refused r x done refused)) (λ q. ap (λ m. get m q) put ∙ get-insert nat_list_cmp_total ts (id_in e) t q) s st
@@ -203,7 +203,7 @@ known_at true q h ot kept o none s st = subst (λ (t : Option Tree). DraftAt q t
 known_at false q h ot kept o none s st = st
 
 -- an edit that touches nothing, since it is refused or its revision is known
-pub looked_stands : (ds : KeptDocuments) (ts : Trees) (hs : Histories) (e : Edit) (r : Result Revision Refused) → r ≡ outcome_in hs e → get ts (id_in e) ≡ None
+pub looked_stands : (ds : KeptDocuments) (ts : Trees) (hs : Histories) (e : Edit) (r : Result Revision EditRefusal) → r ≡ outcome_in hs e → get ts (id_in e) ≡ None
     → StandsAt (id_in e) (get ds (id_in e)) (Some (edited (history_at hs (id_in e)) e)) → TouchedStandFor ds ts hs → TouchedStandFor ds ts (after_edit hs e)
 looked_stands ds ts hs e (Ok r) is none s st q =
     let id = id_in e in
@@ -217,12 +217,12 @@ looked_stands ds ts hs e (Err x) is none s st q = subst (λ (m : Histories). Dra
 -- ---- for a look at an edit
 
 -- the reply for an error says what becomes of the edit, which leaves the history
-pub reply_refused : (h : Paths) (e : Edit) (o : Option Refused) (r : Result Revision Refused) → option_map Err o ≡ Some r → Refuses h e o → (r ≡ outcome_of h e) × (edited h e ≡ h)
+pub reply_refused : (h : Paths) (e : Edit) (o : Option EditRefusal) (r : Result Revision EditRefusal) → option_map Err o ≡ Some r → Refuses h e o → (r ≡ outcome_of h e) × (edited h e ≡ h)
 reply_refused h e None r is k = absurd cc
 reply_refused h e (Some x) r is k = let same : Err x ≡ r = cc in (sym same ∙ sym k, refused_leaves h e x k)
 
 -- after a refusal the tree, if it is as it was, stands for what it stood for
-pub refused_tree : (h : Paths) (e : Edit) (o : Option Refused) (r : Result Revision Refused) (s t : Tree) → option_map Err o ≡ Some r → Refuses h e o → t ≡ s → StandsFor s h
+pub refused_tree : (h : Paths) (e : Edit) (o : Option EditRefusal) (r : Result Revision EditRefusal) (s t : Tree) → option_map Err o ≡ Some r → Refuses h e o → t ≡ s → StandsFor s h
     → (r ≡ outcome_of h e) × StandsFor t (edited h e)
 refused_tree h e o r s t is k same st =
     let d = reply_refused h e o r is k in
@@ -267,23 +267,23 @@ module _ (ds : KeptDocuments) (ts : Trees) (e : Edit) (id : List ℕ) (named : i
       (known_at_id ds hs (id_in e) e r none t (tree_at ds (id_in e)) refl is_tree (document_at ds ts hs (id_in e) out st) known done left) st
 
 -- an edit that is refused touches nothing
-pub not_touched : (h : Paths) (e : Edit) (r : Result Revision Refused) (ts us : Trees) → is_ok r ≡ false → us ≡ ts → Touches h e r ts us
+pub not_touched : (h : Paths) (e : Edit) (r : Result Revision EditRefusal) (ts us : Trees) → is_ok r ≡ false → us ≡ ts → Touches h e r ts us
 not_touched h e (Ok r) ts us not same = absurd cc
 not_touched h e (Err x) ts us not same = same
 
 -- an edit that is done leaves its tree
-pub now_touched : (h : Paths) (e : Edit) (r : Result Revision Refused) (ts us : Trees) (t : Tree) → is_ok r ≡ true → StandsFor t (edited h e) → us ≡ insert ts (id_in e) t → Touches h e r ts us
+pub now_touched : (h : Paths) (e : Edit) (r : Result Revision EditRefusal) (ts us : Trees) (t : Tree) → is_ok r ≡ true → StandsFor t (edited h e) → us ≡ insert ts (id_in e) t → Touches h e r ts us
 now_touched h e (Ok r) ts us t done s put = (t, s, put)
 now_touched h e (Err x) ts us t done s put = absurd cc
 
 -- the trees after the first edit of a document stand beside the documents
-pub first_stands : (ds : KeptDocuments) (ts us : Trees) (hs : Histories) (e : Edit) (r : Result Revision Refused) → r ≡ outcome_in hs e → Touches (history_at hs (id_in e)) e r ts us
+pub first_stands : (ds : KeptDocuments) (ts us : Trees) (hs : Histories) (e : Edit) (r : Result Revision EditRefusal) → r ≡ outcome_in hs e → Touches (history_at hs (id_in e)) e r ts us
     → TouchedStandFor ds ts hs → TouchedStandFor ds us (after_edit hs e)
 first_stands ds ts us hs e (Ok r) is k st = first_kept ds ts us hs e k.0 (Ok r) is refl k.2 k.1 st
 first_stands ds ts us hs e (Err x) is k st = subst (λ (m : Trees). TouchedStandFor ds m (after_edit hs e)) (sym k) (refused_stands ds ts hs e (Err x) is refl st)
 
 -- a refused edit of a document that was not touched leaves all as it was
-pub reply_stands : (ds : KeptDocuments) (ts : Trees) (hs : Histories) (e : Edit) (o : Option Refused) (r : Result Revision Refused) → option_map Err o ≡ Some r → Refuses (history_at hs (id_in e)) e o
+pub reply_stands : (ds : KeptDocuments) (ts : Trees) (hs : Histories) (e : Edit) (o : Option EditRefusal) (r : Result Revision EditRefusal) → option_map Err o ≡ Some r → Refuses (history_at hs (id_in e)) e o
     → TouchedStandFor ds ts hs → TouchedStandFor ds ts (after_edit hs e)
 reply_stands ds ts hs e None r is k st = absurd cc
 reply_stands ds ts hs e (Some x) r is k st = subst (λ (m : Histories). TouchedStandFor ds ts m) (sym (after_refused hs e x k)) st

@@ -11,7 +11,7 @@ use Rattle.mg_revtree.specs.History.{Paths}
 use Rattle.mg_revtree.specs.Tree.{Tree, StandsFor, tree_code}
 use Rattle.mg_doc.specs.Document.{Edit}
 use Rattle.mg_doc.specs.Edit.{edited}
-use Rattle.mg_doc.specs.declared.error.Refused.{Refused}
+use Rattle.mg_doc.specs.declared.error.EditRefusal.{EditRefusal}
 use Rattle.mg_shard.specs.Documents.{KeptDocument, KeptDocuments, StandsAt}
 use Rattle.mg_shard.specs.Edits.{id_in}
 use Rattle.mg_shard.specs.Histories.{Histories}
@@ -51,6 +51,6 @@ abbrev pub DraftStandsFor : DraftView → Histories → Type 0
 DraftStandsFor d hs = TouchedStandFor d.shard.documents d.touched hs
 
 -- the touched trees after an edit: a refused edit leaves them; any other puts a tree that stands for the edited history under its id
-abbrev pub Touches : Paths → Edit → Result Revision Refused → Trees → Trees → Type 0
+abbrev pub Touches : Paths → Edit → Result Revision EditRefusal → Trees → Trees → Type 0
 Touches h e (Ok r) ts us = (t : Tree) × StandsFor t (edited h e) × (us ≡ insert ts (id_in e) t)
 Touches h e (Err x) ts us = us ≡ ts

@@ -4,8 +4,8 @@ use Rattle.std.specs.FinMap.{insert}
 use Rattle.mg_revtree.specs.Revision.{Revision}
 use Rattle.mg_doc.specs.Document.{Edit}
 use Rattle.mg_doc.specs.Edit.{edited, outcome_of}
-use Rattle.mg_doc.specs.declared.error.Refused.{Refused}
-use Rattle.mg_doc.specs.declared.error.Refused.TheVariants as refused
+use Rattle.mg_doc.specs.declared.error.EditRefusal.{EditRefusal}
+use Rattle.mg_doc.specs.declared.error.EditRefusal.TheVariants as refused
 use Rattle.mg_shard.specs.Histories.{Histories, history_at}
 use Rattle.mg_shard.specs.declared.reply.EditReply.{EditReply}
 use Rattle.mg_shard.specs.declared.reply.EditReply.TheVariants.{Done, Conflict, BadHistory}
@@ -15,12 +15,12 @@ abbrev pub id_in : Edit → List ℕ
 id_in e = unwrap_or e.id []
 
 -- the histories after an edit with this outcome: a refused edit changes none
-abbrev pub history_put : Histories → Edit → Result Revision Refused → Histories
+abbrev pub history_put : Histories → Edit → Result Revision EditRefusal → Histories
 history_put hs e (Ok r) = insert hs (id_in e) (edited (history_at hs (id_in e)) e)
 history_put hs e (Err x) = hs
 
 -- the outcome of an edit: its revision, or its refusal
-abbrev pub outcome_in : Histories → Edit → Result Revision Refused
+abbrev pub outcome_in : Histories → Edit → Result Revision EditRefusal
 outcome_in hs e = outcome_of (history_at hs (id_in e)) e
 
 -- the histories after an edit
@@ -33,12 +33,12 @@ after_edits hs [] = hs
 after_edits hs (e ∷ es) = after_edits (after_edit hs e) es
 
 -- the outcome of each edit, in order
-abbrev pub outcomes : Histories → List Edit → List (Result Revision Refused)
+abbrev pub outcomes : Histories → List Edit → List (Result Revision EditRefusal)
 outcomes hs [] = []
 outcomes hs (e ∷ es) = outcome_in hs e ∷ outcomes (after_edit hs e) es
 
 -- the outcome that a reply reports
-abbrev pub outcome_seen : EditReply → Result Revision Refused
+abbrev pub outcome_seen : EditReply → Result Revision EditRefusal
 outcome_seen (Done r) = Ok r
 outcome_seen Conflict = Err refused.Conflict
 outcome_seen BadHistory = Err refused.BadHistory

@@ -9,8 +9,8 @@ use Rattle.mg_shard.specs.declared.served.Served.{Served}
 use Rattle.mg_shard.specs.declared.served.Served.TheVariants.{Deleted, WithId, WithoutId}
 
 -- the columns of the list of all documents: `_id` alone
-abbrev pub all_columns : List Steps
-all_columns = (codes "_id" ∷ []) ∷ []
+abbrev pub id_columns : List Steps
+id_columns = (codes "_id" ∷ []) ∷ []
 
 -- if a form has an `_id`, the `_id` is this id
 abbrev pub HasOwnId : List ℕ → Value → Type 0

@@ -7,7 +7,7 @@ ghost use Rattle.mg_shard.specs.Own.{form_in, IsServedOwn, IsServedOwn-prop};
 
 use crate::document_id::DocumentId;
 use crate::served::Served;
-use mg_doc::served_packed;
+use mg_doc::serve_form;
 use mg_packed::{Part, Written};
 use mg_pages::Identified;
 use mg_revtree::RevTree;
@@ -34,14 +34,14 @@ impl Identified for Document {
 }
 
 // The form in which the document with this id is served, with its text. The winner's body moves into the form's block, as for
-// `served_packed`.
+// `serve_form`.
 fn served_in(alloc: Global, id: &str, tree: &mut RevTree) -> Result<Served, NoMemory>
     ensures own { IfOk result (λ served. IsServedOwn id.now served) }
     ensures served { IfOk result
         (λ served. (h : Paths) → StandsFor tree.old h → form_in served ≡ served_of id.now h) }
     ensures tree { tree.new ≡ tree.old }
 {
-    match served_packed(alloc, id, tree)? {
+    match serve_form(alloc, id, tree)? {
         Some(form) => Ok(Served::of(form)),
         None => Ok(Served::Deleted),
     }
@@ -56,12 +56,12 @@ impl Document {
     ghost use Rattle.mg_doc.specs.Served.{served_of};
     ghost use Rattle.mg_shard.specs.Documents.{form_of, id_bytes, kept_of};
     ghost use Rattle.mg_shard.specs.Rows.{row_key};
-    ghost use Rattle.mg_shard.specs.Own.{all_columns};
+    ghost use Rattle.mg_shard.specs.Own.{id_columns};
 
     /// The document with this id and this revision tree. The winner's body moves into the block of the form in which the document
-    /// is served, as for `served_packed`.
+    /// is served, as for `serve_form`.
     ///
-    /// Errors: `NoMemory` if an allocation fails. Cost: that of `served_packed`, and the length of the form's text.
+    /// Errors: `NoMemory` if an allocation fails. Cost: that of `serve_form`, and the length of the form's text.
     pub(crate) fn of(alloc: Global, id: String, mut tree: RevTree) -> Result<Document, NoMemory>
         ensures id { IfOk result (λ d. d.id ≡ string_bytes id) }
         ensures tree { IfOk result (λ d. d.tree ≡ tree) }
@@ -119,7 +119,7 @@ impl Document {
     /// no `_id`. Takes no memory. Cost: constant.
     pub fn id_key(&self) -> Option<&str>
         ensures key { option_map (λ id. item (text id.now) no_items) result
-            ≡ option_and_then (row_key all_columns) (form_of self.now) }
+            ≡ option_and_then (row_key id_columns) (form_of self.now) }
         ensures own { IfSome result (λ id. id.now ≡ id_bytes self.now) }
     {
         if self.served.has_id() { Some(self.id()) } else { None }

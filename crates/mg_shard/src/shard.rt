@@ -3,7 +3,6 @@ ghost use Rattle.std.specs.Prelude.{◌≡◌, ℕ, List, [], Some, length, map,
 ghost use Rattle.std.specs.FinMap as finite;
 ghost use Rattle.std.specs.FinMap.{entries, get};
 ghost use Rattle.std.specs.declared.cmp.Ordering.{Ordering};
-ghost use Rattle.mg_value.specs.Text.{compact};
 ghost use Rattle.mg_shard.specs.Documents.{KeptDocument, docs_of, kept_entry, form_at, id_bytes, kept_of, tree_at, StandFor};
 ghost use Rattle.mg_shard.specs.Own.{HasOwnId};
 ghost use Rattle.mg_shard.specs.Walk.{beyond};
@@ -101,17 +100,6 @@ impl Shard {
     {
         match self.document(id) {
             Some(document) => document.form(),
-            None => None,
-        }
-    }
-
-    /// The compact text of the form in which the document of an id is served; `None` if there is no such document, or it is deleted.
-    /// The text was made when the document was last edited. Takes no memory. Cost: one look-up.
-    pub fn served_text(&self, id: &str) -> Option<&[u8]>
-        ensures { option_map (λ t. t.now) result ≡ option_map compact (form_at self.now.documents id.now) }
-    {
-        match self.document(id) {
-            Some(document) => document.text(),
             None => None,
         }
     }

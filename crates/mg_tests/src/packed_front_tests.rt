@@ -22,7 +22,7 @@ const OBJECTS: &[(&str, &str)] = &[
     ),
 ];
 
-fn without_front<R: Abort>(rt: &R, alloc: Global, object: &str, text: &str) -> bool {
+fn without_names_beginning<R: Abort>(rt: &R, alloc: Global, object: &str, text: &str) -> bool {
     let within = format!(in alloc; "[{object},7]").expect(rt, "memory");
     let packed = Packed::of(alloc, &json(rt, alloc, &within)).expect(rt, "memory");
     let Kind::List(items) = packed.part().kind() else {
@@ -34,7 +34,7 @@ fn without_front<R: Abort>(rt: &R, alloc: Global, object: &str, text: &str) -> b
     let Kind::Object(members) = first.kind() else {
         return false;
     };
-    let left = members.without_front(alloc, b'_').expect(rt, "memory");
+    let left = members.without_names_beginning(alloc, b'_').expect(rt, "memory");
     let copy = left.copy(alloc).expect(rt, "memory");
     let found = copy.part().text(alloc).expect(rt, "memory");
     found.as_slice() == text.as_bytes()
@@ -43,7 +43,7 @@ fn without_front<R: Abort>(rt: &R, alloc: Global, object: &str, text: &str) -> b
 #[test]
 fn members_are_left_out_by_the_first_byte_of_their_names(rt: HostRuntime) {
     for (object, text) in OBJECTS {
-        check(&rt, without_front(&rt, rt.alloc(), object, text), object);
+        check(&rt, without_names_beginning(&rt, rt.alloc(), object, text), object);
     }
 }
 

@@ -13,7 +13,7 @@ ghost use Rattle.mg_doc.specs.declared.change.Change.TheVariants.{New};
 use crate::change::Change;
 use crate::digest::id_over;
 use crate::edit::Edit;
-use crate::error::{EditError, Refused};
+use crate::error::{EditError, EditRefusal};
 use mg_packed::Packed;
 use mg_revtree::{History, Rev, RevId, RevTree};
 use std::alloc::Global;
@@ -159,7 +159,7 @@ fn merge(tree: &mut RevTree, path: &History, deleted: bool, body: Packed) -> Res
 
 // Checks whether a new edit may extend the revision that it names, or make a revision if it names none. Does not check whether
 // the revision that it would make is already known.
-fn check_base(tree: &RevTree, named: Option<&Rev>) -> Result<(), Refused>
+fn check_base(tree: &RevTree, named: Option<&Rev>) -> Result<(), EditRefusal>
     ensures ok { OnOk result ((h : Paths) → StandsFor tree.now h
         → first_refusal h (New (option_copied named.entry)) ≡ None) }
     ensures err { IfErr result
@@ -172,7 +172,7 @@ fn check_base(tree: &RevTree, named: Option<&Rev>) -> Result<(), Refused>
 }
 
 // The base that is extended: the named revision; if none is named, a deleted winner, or `None` in an empty tree.
-fn base_over<'a>(tree: &'a RevTree, named: Option<&'a Rev>) -> Result<Option<&'a Rev>, Refused>
+fn base_over<'a>(tree: &'a RevTree, named: Option<&'a Rev>) -> Result<Option<&'a Rev>, EditRefusal>
     ensures { (h : Paths) → StandsFor tree.now h
         → base_found h (option_copied named.entry) ≡ result_map_both option_copied (λ e. e) result }
 {
@@ -183,7 +183,7 @@ fn base_over<'a>(tree: &'a RevTree, named: Option<&'a Rev>) -> Result<Option<&'a
 }
 
 // The base that is extended if no revision is named.
-fn base_unnamed(tree: &RevTree) -> Result<Option<&Rev>, Refused>
+fn base_unnamed(tree: &RevTree) -> Result<Option<&Rev>, EditRefusal>
     ensures { (h : Paths) → StandsFor tree.now h
         → base_found h None ≡ result_map_both option_copied (λ e. e) result }
 {
@@ -192,7 +192,7 @@ fn base_unnamed(tree: &RevTree) -> Result<Option<&Rev>, Refused>
         Some(leaf) => if leaf.deleted {
             Ok(Some(&leaf.rev))
         } else {
-            Err(Refused::Conflict)
+            Err(EditRefusal::Conflict)
         },
     }
 }

@@ -33,14 +33,6 @@ impl<T> Device<T> {
         }
     }
 
-    /// Gives the wrapped reader or writer back.
-    pub fn into_inner(self) -> T
-        ensures { result ≡ inner_of self }
-    {
-        let Device { inner, failed: _ } = self;
-        inner
-    }
-
     /// Whether a call has failed.
     pub fn failed(&self) -> bool
         ensures { result ≡ has_failed self.now }

@@ -8,7 +8,7 @@ use Rattle.mg_doc.specs.Document.{Edit}
 use Rattle.mg_doc.specs.Base.{extended_by}
 use Rattle.mg_doc.specs.Edit.{Accepted, accepted_by, accepted_of, extended, replicated}
 use Rattle.mg_doc.specs.contracts.edit.Edit.{the_view}
-use Rattle.mg_doc.specs.declared.error.Refused.{Refused}
+use Rattle.mg_doc.specs.declared.error.EditRefusal.{EditRefusal}
 use Rattle.mg_doc.proofs.Edits.{applied, extended_is}
 use Rattle.mg_doc.proofs.edit.apply.ReadyEdit.bring.Goals as goal
 
@@ -18,7 +18,7 @@ returns-in-New-clause-applied c = λ h stands.
     let given : e ≡ c.args.self = c.edit.view_is ∙ c.self.view_is in
     let Q : Edit → Type 0 = IsReady h in
     let R : Edit → Type 0 = λ x. Applied h x c.extend.result c.extend.new.tree in
-    let S : Result Accepted Refused → Type 0 = λ x. Brings h e.deleted e.body x c.extend.result c.extend.new.tree in
+    let S : Result Accepted EditRefusal → Type 0 = λ x. Brings h e.deleted e.body x c.extend.result c.extend.new.tree in
     let ready : IsReady h e = subst Q (sym given) (c.requires h stands) in
     let named = option_copied c.as_ref.result in
     let said : accepted_by h e ≡ extended_by h e.deleted e.body named =
@@ -31,7 +31,7 @@ returns-clause-applied c = λ h stands.
     let given : e ≡ c.args.self = c.edit.view_is ∙ c.self.view_is in
     let Q : Edit → Type 0 = IsReady h in
     let R : Edit → Type 0 = λ x. Applied h x c.merge.result c.merge.new.tree in
-    let S : Result Accepted Refused → Type 0 = λ x. Brings h e.deleted e.body x c.merge.result c.merge.new.tree in
+    let S : Result Accepted EditRefusal → Type 0 = λ x. Brings h e.deleted e.body x c.merge.result c.merge.new.tree in
     let ready : IsReady h e = subst Q (sym given) (c.requires h stands) in
     let said : accepted_by h e ≡ replicated h c.in-Replica.path = ap (accepted_of h e.deleted e.body) c.in-Replica.is in
     subst R given (applied h e c.merge.result c.merge.new.tree ready.0 (subst S (sym said) (c.merge.ensures.brings h stands)))

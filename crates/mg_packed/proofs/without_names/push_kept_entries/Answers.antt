@@ -3,7 +3,7 @@ use Rattle.std.specs.List.{concat}
 use Rattle.mg_packed.specs.Gap.{entries_in}
 use Rattle.mg_packed.proofs.Blocks.{block_len, block_short, entries_cut, entries_left}
 use Rattle.mg_packed.proofs.Gaps.{begin_behind}
-use Rattle.mg_packed.proofs.without_front.push_kept_entries.Goals as goal
+use Rattle.mg_packed.proofs.without_names.push_kept_entries.Goals as goal
 
 pub overflow_mul-table_end : goal.overflow_mul-table_end
 overflow_mul-table_end c = omega (arith, c.requires.counted, block_len _ c.requires.block, block_short _ c.requires.block)

@@ -2,7 +2,7 @@ use Rattle.std.proofs.Common.{◌≡◌, ◌≤◌, ◌++◌, length, take, drop
 use Rattle.mg_packed.specs.Gap.{begin_of, entries_in}
 use Rattle.mg_packed.specs.Packed.{offsets}
 use Rattle.mg_packed.proofs.Blocks.{block_len, block_short, offsets_cut}
-use Rattle.mg_packed.proofs.without_front.push_kept_offsets.Goals as goal
+use Rattle.mg_packed.proofs.without_names.push_kept_offsets.Goals as goal
 
 pub overflow_mul-gap : goal.overflow_mul-gap
 overflow_mul-gap c = omega (arith, c.requires.ordered, c.requires.within, block_len _ c.requires.block, block_short _ c.requires.block)

@@ -2,7 +2,7 @@ use Rattle.std.proofs.Common.{◌≡◌, length, arith}
 use Rattle.mg_packed.specs.Gap.{entries_in}
 use Rattle.mg_packed.specs.Ranks.{without_entries}
 use Rattle.mg_packed.proofs.Fronts.{count_without, without_made}
-use Rattle.mg_packed.proofs.without_front.object_without.Goals as goal
+use Rattle.mg_packed.proofs.without_names.object_without.Goals as goal
 
 pub returns : goal.returns
 returns c =

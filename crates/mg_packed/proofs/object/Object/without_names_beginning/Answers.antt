@@ -1,13 +1,13 @@
 use Rattle.std.proofs.Common.{◌≡◌, ℕ, ◌+◌, ◌≤◌, List, ◌∷◌, length, refl, ◌∙◌, arith}
 use Rattle.mg_value.specs.Value.{Members, object, member_list}
-use Rattle.mg_packed.specs.Front.{without_front}
+use Rattle.mg_packed.specs.Front.{without_names_beginning}
 use Rattle.mg_packed.specs.Gap.{entries_in}
 use Rattle.mg_packed.specs.Packed.{table}
 use Rattle.mg_packed.specs.Ranks.{ranked_below, without_entries}
 use Rattle.mg_packed.specs.Read.{Holds, IsBlockOf, value_in}
 use Rattle.mg_packed.proofs.Fronts.{below_ordered, below_within, counted_entries, front_ready, front_block}
 use Rattle.mg_packed.proofs.Laws.{object_is, object_count, value_is}
-use Rattle.mg_packed.proofs.object.Object.without_front.Goals as goal
+use Rattle.mg_packed.proofs.object.Object.without_names_beginning.Goals as goal
 
 pub object_without-requires-clause-block : goal.object_without-requires-clause-block
 object_without-requires-clause-block c = (front_ready c.self.inside.bytes.now c.block.result.now c.args.self.now (object_is _ _ c.self.view_is c.self.invariant.0) c.block.ensures).0
@@ -31,7 +31,7 @@ object_without-requires-clause-within c =
 
 -- the new bytes are a block of the object without those members
 made : (bytes block new : List ℕ) (ms : Members) (front i j : ℕ) → Holds bytes (object ms) → IsBlockOf block (value_in bytes) → i ≡ ranked_below (front + 1) ms → j ≡ ranked_below (front + 2) ms
-    → new ≡ 6 ∷ table (without_entries i j (entries_in block)) → IsBlockOf new (object (without_front front ms))
+    → new ≡ 6 ∷ table (without_entries i j (entries_in block)) → IsBlockOf new (object (without_names_beginning front ms))
 made bytes block new ms front i j h o first next is =
     let ready = front_ready bytes block ms h o in
     let counted : length (member_list ms) ≡ length (entries_in block) = counted_entries block ms (length (member_list ms)) refl ready.1 in
@@ -41,7 +41,7 @@ made bytes block new ms front i j h o first next is =
 
 pub in_block-requires : goal.in_block-requires
 in_block-requires c = (
-  object (without_front c.args.front c.args.self.now),
+  object (without_names_beginning c.args.front c.args.self.now),
   made c.self.inside.bytes.now c.block.result.now c.in_ok-bytes.bytes.items c.args.self.now c.args.front c.front_gap-gap.result.before c.front_gap-gap.result.after
       (object_is _ _ c.self.view_is c.self.invariant.0) c.block.ensures c.front_gap-gap.ensures.before c.front_gap-gap.ensures.after c.in_ok-bytes.ensures,
 )
@@ -51,4 +51,4 @@ returns c =
     let new =
     made c.self.inside.bytes.now c.block.result.now c.in_ok-bytes.bytes.items c.args.self.now c.args.front c.front_gap-gap.result.before c.front_gap-gap.result.after
     (object_is _ _ c.self.view_is c.self.invariant.0) c.block.ensures c.front_gap-gap.ensures.before c.front_gap-gap.ensures.after c.in_ok-bytes.ensures in
-    c.in_block.ensures ∙ value_is _ (object (without_front c.args.front c.args.self.now)) new.0
+    c.in_block.ensures ∙ value_is _ (object (without_names_beginning c.args.front c.args.self.now)) new.0

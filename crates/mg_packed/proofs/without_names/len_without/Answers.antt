@@ -2,7 +2,7 @@ use Rattle.std.proofs.Common.{arith}
 use Rattle.mg_packed.specs.Gap.{entries_in}
 use Rattle.mg_packed.proofs.Blocks.{block_len, block_short}
 use Rattle.mg_packed.proofs.Gaps.{begins_ascend, begin_behind}
-use Rattle.mg_packed.proofs.without_front.len_without.Goals as goal
+use Rattle.mg_packed.proofs.without_names.len_without.Goals as goal
 
 pub overflow_sub-gone : goal.overflow_sub-gone
 overflow_sub-gone c =
