@@ -14,6 +14,6 @@ mod revisions;
 pub use change::Change;
 pub use conflicts::with_conflicts;
 pub use digest::rev_id;
-pub use document::{served, serve_form};
+pub use document::{serve_form, served};
 pub use edit::{Edit, Look, ReadyEdit};
 pub use error::{DocError, EditError, EditRefusal};

@@ -122,6 +122,10 @@ impl Document {
             ≡ option_and_then (row_key id_columns) (form_of self.now) }
         ensures own { IfSome result (λ id. id.now ≡ id_bytes self.now) }
     {
-        if self.served.has_id() { Some(self.id()) } else { None }
+        if self.served.has_id() {
+            Some(self.id())
+        } else {
+            None
+        }
     }
 }

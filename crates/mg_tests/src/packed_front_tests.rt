@@ -34,7 +34,9 @@ fn without_names_beginning<R: Abort>(rt: &R, alloc: Global, object: &str, text: 
     let Kind::Object(members) = first.kind() else {
         return false;
     };
-    let left = members.without_names_beginning(alloc, b'_').expect(rt, "memory");
+    let left = members
+        .without_names_beginning(alloc, b'_')
+        .expect(rt, "memory");
     let copy = left.copy(alloc).expect(rt, "memory");
     let found = copy.part().text(alloc).expect(rt, "memory");
     found.as_slice() == text.as_bytes()
@@ -43,7 +45,11 @@ fn without_names_beginning<R: Abort>(rt: &R, alloc: Global, object: &str, text: 
 #[test]
 fn members_are_left_out_by_the_first_byte_of_their_names(rt: HostRuntime) {
     for (object, text) in OBJECTS {
-        check(&rt, without_names_beginning(&rt, rt.alloc(), object, text), object);
+        check(
+            &rt,
+            without_names_beginning(&rt, rt.alloc(), object, text),
+            object,
+        );
     }
 }
 
