@@ -1,5 +1,14 @@
-use crate::given::check;
-use mg_shard::{Md5Placement, Placement};
+//! Places of documents, and what a shard lends: a served form, and its documents and rows in both directions.
+use crate::given::{check, json, packed};
+use mg_collate::Direction;
+use mg_engine::{Command, Engine};
+use mg_packed::Part;
+use mg_rows::RowBytes;
+use mg_shard::{Docs, Md5Placement, Placement, Rows, Shard};
+use mg_value::Json;
+use std::alloc::Global;
+use std::process::Abort;
+use std::thread::Threads;
 
 // The expected shards for 1, 2, 7 and 64 shards, from another implementation of MD5: its first eight bytes, as a big-endian number, modulo
 // the number of shards.
@@ -27,5 +36,106 @@ fn places(id: &str) -> [usize; 4] {
 fn md5_placement(rt: HostRuntime) {
     for (id, wanted) in PLACES {
         check(&rt, places(id) == *wanted, id);
+    }
+}
+
+// Four documents of a replica, of which `b` is deleted and `d` has no `k`.
+const BULK: &str =
+    r#"{"docs":[{"_id":"a","_rev":"1-x","k":2},{"_id":"b","_rev":"1-x","_deleted":true},{"_id":"c","_rev":"1-x","k":1},{"_id":"d","_rev":"1-x"}],"new_edits":false}"#;
+
+const INDEX: &str = r#"{"index":{"fields":["k"]},"ddoc":"x","name":"k_idx"}"#;
+
+// An engine of one shard with the documents and the index.
+fn engine_of<R: Threads + Sync + Abort>(rt: &R, alloc: Global) -> Engine<Md5Placement> {
+    let mut engine = Engine::new(alloc, "db", Md5Placement, 1).expect(rt, "memory");
+    let bulk = Command::Bulk(packed(rt, alloc, BULK));
+    check(
+        rt,
+        engine.execute(rt, alloc, bulk, 1).status() == 201,
+        "a bulk",
+    );
+    let index = Command::CreateIndex(json(rt, alloc, INDEX));
+    check(
+        rt,
+        engine.execute(rt, alloc, index, 1).status() == 200,
+        "an index",
+    );
+    engine
+}
+
+fn is_form<R: Abort>(rt: &R, alloc: Global, form: Option<Part<'_>>, text: &str) -> bool {
+    match form {
+        Some(form) => form.text(alloc).expect(rt, "memory").as_slice() == text.as_bytes(),
+        None => false,
+    }
+}
+
+fn are_documents(documents: Docs<'_>, ids: &[&str]) -> bool {
+    let mut at = 0usize;
+    for (id, _) in documents {
+        match ids.get(at) {
+            Some(wanted) if *wanted == id => at = at.saturating_add(1),
+            _ => return false,
+        }
+    }
+    at == ids.len()
+}
+
+fn are_rows(rows: Option<Rows<'_>>, ids: &[&str]) -> bool {
+    let Some(rows) = rows else {
+        return false;
+    };
+    let mut at = 0usize;
+    for row in rows {
+        match ids.get(at) {
+            Some(wanted) if *wanted == row.id() => at = at.saturating_add(1),
+            _ => return false,
+        }
+    }
+    at == ids.len()
+}
+
+fn lends_documents<R: Abort>(rt: &R, alloc: Global, shard: &Shard) {
+    let form = r#"{"_id":"a","_rev":"1-x","k":2}"#;
+    check(rt, is_form(rt, alloc, shard.served("a"), form), "a form");
+    check(rt, shard.served("b").is_none(), "a deleted document");
+    check(rt, shard.served("e").is_none(), "no document");
+    check(
+        rt,
+        are_documents(shard.docs(), &["a", "c", "d"]),
+        "documents",
+    );
+    check(
+        rt,
+        are_documents(shard.docs_back(), &["d", "c", "a"]),
+        "documents from the last",
+    );
+}
+
+fn lends_rows<R: Abort>(rt: &R, alloc: Global, shard: &Shard) {
+    let (ddoc, name) = ("_design/x", "k_idx");
+    check(rt, are_rows(shard.rows(ddoc, name), &["c", "a"]), "rows");
+    check(
+        rt,
+        are_rows(shard.rows_back(ddoc, name), &["a", "c"]),
+        "rows from the last",
+    );
+    let first = RowBytes::of(alloc, &[Json::Whole(1)], "c").expect(rt, "memory");
+    let after = shard.rows_after(ddoc, name, &first, Direction::Asc);
+    check(rt, are_rows(after, &["a"]), "rows after the first");
+    let after = shard.rows_after(ddoc, name, &first, Direction::Desc);
+    check(rt, are_rows(after, &[]), "rows before the first");
+    check(rt, shard.rows(ddoc, "j_idx").is_none(), "no index");
+}
+
+#[test]
+fn what_a_shard_lends(rt: HostRuntime) {
+    let engine = engine_of(&rt, rt.alloc());
+    match engine.shards() {
+        [shard] => {
+            lends_documents(&rt, rt.alloc(), shard);
+            lends_rows(&rt, rt.alloc(), shard);
+        }
+        _ => rt.panic("one shard"),
     }
 }
