@@ -172,7 +172,8 @@ def check_waiting(tally, program, folder):
         before = len((watch / "count").read_text())
         for number, wire in enumerate(wires):
             wire.send(write(f"d{number}"))
-        wait_until(lambda: file.read_bytes().count(b"\nwrite ") + 1 >= 8, SECONDS)
+        written = wait_until(lambda: file.read_bytes().count(b"\nwrite ") + 1 >= 8, SECONDS)
+        tally.expect("seven writes are in the file", written, True)
         tally.expect("a reader while writers wait", status_of(reader.ask(read("none"))), 404)
         tally.expect("no writer is answered before its write is durable", [wire for wire in wires if has_bytes(wire)], [])
         (watch / "hold").unlink()

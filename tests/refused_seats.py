@@ -91,7 +91,8 @@ class Seats:
         self.port, self.refusal, self.database = port, refusal, Database()
         self.one, self.other = both_seats(port)
         for message in (index("n", "by"), bulk([{"_id": "e", "n": 1}, {"_id": "f", "n": 2}])):
-            self.ask_other(message)
+            if fault := self.ask_other(message):
+                raise ValueError(fault)
 
     def fault(self, message, found):
         """The fault in a reply, which must be that of the model; None if it is right."""

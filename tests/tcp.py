@@ -314,9 +314,6 @@ def few_descriptors(setting, tally):
 def host_names(setting, tally):
     """The program listens at host names and at IPv6 addresses, and SIGTERM ends it at once."""
     for host in ["localhost", "[::1]"]:
-        if host == "[::1]" and not socket.has_dualstack_ipv6():
-            print("this machine has no IPv6: its part is left out")
-            continue
         program, port = start(setting, 1, host=host)
         with socket.create_connection((host.strip("[]"), port), timeout=SECONDS) as connection:
             connection.sendall(BULK)
