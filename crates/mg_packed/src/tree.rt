@@ -205,7 +205,8 @@ fn push_sorted<'t, 'a>(
     requires room { table + 4 * length sorted.now.entries ≡ length out.old.items }
     ensures ordered { OnOk result (Ascend sorted.now.entries) }
     ensures pushed { OnOk result ((ms : Members) × MembersMatch sorted.now.entries ms
-        × (out.new.items ≡ take table out.old.items ++ (offsets 0 (member_entries ms) ++ concat (member_entries ms)))) }
+        × (out.new.items ≡ take table out.old.items
+        ++ (offsets 0 (member_entries ms) ++ concat (member_entries ms)))) }
 {
     let base = out.len();
     let mut cell = table;

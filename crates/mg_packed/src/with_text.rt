@@ -72,7 +72,8 @@ fn len_with(bytes: &[u8], count: usize, gap: Gap, entry_len: u32) -> Result<u32,
     requires ordered { gap.before ≤ gap.after }
     requires within { gap.after ≤ length (entries_in bytes.now) }
     ensures { IfOk result (λ n. n + (4 * gap.after + begin_of (entries_in bytes.now) gap.after)
-        ≡ length bytes.now + (4 * gap.before + begin_of (entries_in bytes.now) gap.before) + (4 + entry_len)) }
+        ≡ length bytes.now + (4 * gap.before + begin_of (entries_in bytes.now) gap.before)
+        + (4 + entry_len)) }
 {
     let gone = entry_begin(bytes, count, gap.after) - entry_begin(bytes, count, gap.before);
     let kept = bytes.len() - gone - 4 * (gap.after - gap.before);
@@ -95,7 +96,8 @@ fn push_offsets(
     ensures { OnOk result
         (out.new.items ≡ out.old.items ++ (offsets 0 (take gap.before (entries_in bytes.now))
         ++ (word (begin_of (entries_in bytes.now) gap.before)
-        ++ offsets (begin_of (entries_in bytes.now) gap.before + entry_len) (drop gap.after (entries_in bytes.now))))) }
+        ++ offsets (begin_of (entries_in bytes.now) gap.before + entry_len)
+        (drop gap.after (entries_in bytes.now))))) }
 {
     let begin = entry_begin(bytes, count, gap.before);
     out.extend_from_slice(&bytes[5..5 + 4 * gap.before])?;

@@ -370,7 +370,8 @@ impl<T: Keyed> Pages<T> {
     // The elements below a key before the last `count` of them, from the start of their page.
     pub(crate) fn run_before_some<Q: Probe<T>>(&self, key: &Q, count: usize) -> &[T]
         ensures run { IsEndRun result.now
-            (take (length (below (Q.against key.now) self.now) - count) (below (Q.against key.now) self.now)) }
+            (take (length (below (Q.against key.now) self.now) - count)
+            (below (Q.against key.now) self.now)) }
         ensures ascends { Ascends T.order self.now }
     {
         let next = self.run_before(key);

@@ -61,7 +61,8 @@ pub fn pull_rows<'a>(
     requires decided { All (IsDecidedIn search.target search.normal.now search.range.now)
         (shards_seen shards.now) }
     ensures rows { IfOk result (λ made. hit_rows made.0.items ≡ drop skip
-        (merged search.entry.direction search.entry.take (map (found_by search.entry) (shards_seen shards.now)))) }
+        (merged search.entry.direction search.entry.take
+        (map (found_by search.entry) (shards_seen shards.now)))) }
     ensures hits { IfOk result (λ made. AreHitsIn (shards_seen shards.now) made.0.items) }
     ensures pulled { IfOk result (λ made. made.1 ≤ search.entry.take + length shards.now) }
 {
@@ -82,7 +83,8 @@ fn pull_rows_of_several<'a>(
     requires decided { All (IsDecidedIn search.target search.normal.now search.range.now)
         (shards_seen shards.now) }
     ensures rows { IfOk result (λ made. hit_rows made.0.items ≡ drop skip
-        (merged search.entry.direction search.entry.take (map (found_by search.entry) (shards_seen shards.now)))) }
+        (merged search.entry.direction search.entry.take
+        (map (found_by search.entry) (shards_seen shards.now)))) }
     ensures hits { IfOk result (λ made. AreHitsIn (shards_seen shards.now) made.0.items) }
     ensures pulled { IfOk result (λ made. made.1 ≤ search.entry.take + length shards.now) }
 {
@@ -101,7 +103,8 @@ fn pull_rows_of_all<'a>(
     requires decided { All (IsDecidedIn search.target search.normal.now search.range.now)
         (shards_seen shards.now) }
     ensures rows { IfOk result (λ made. hit_rows made.0.items ≡ drop skip
-        (merged search.entry.direction search.entry.take (map (found_by search.entry) (shards_seen shards.now)))) }
+        (merged search.entry.direction search.entry.take
+        (map (found_by search.entry) (shards_seen shards.now)))) }
     ensures hits { IfOk result (λ made. AreHitsIn (shards_seen shards.now) made.0.items) }
     ensures pulled { IfOk result (λ made. made.1 ≤ search.entry.take + length shards.now) }
 {
@@ -122,7 +125,8 @@ fn pull_rows_of_one<'a>(
     requires decided { All (IsDecidedIn search.target search.normal.now search.range.now)
         (shards_seen shards.now) }
     ensures rows { IfOk result (λ made. hit_rows made.0.items ≡ drop skip
-        (merged search.entry.direction search.entry.take (map (found_by search.entry) (shards_seen shards.now)))) }
+        (merged search.entry.direction search.entry.take
+        (map (found_by search.entry) (shards_seen shards.now)))) }
     ensures hits { IfOk result (λ made. AreHitsIn (shards_seen shards.now) made.0.items) }
     ensures pulled { IfOk result (λ made. made.1 ≤ search.entry.take + length shards.now) }
 {

@@ -233,7 +233,8 @@ fn touch(
         (λ r. (h : Paths) → StandsFor before.now h → outcome_seen r ≡ outcome_of h ready) }
     ensures touched { IfOk result
         (λ r. (h : Paths) → StandsFor before.now h
-        → Touches h ready (outcome_seen r) (touched_of touched.old.entries) (touched_of touched.new.entries)) }
+        → Touches h ready (outcome_seen r) (touched_of touched.old.entries)
+        (touched_of touched.new.entries)) }
 {
     let key = String::from_str(alloc, id_in(ready.edit()))?;
     let tree = before.copy(alloc)?;
