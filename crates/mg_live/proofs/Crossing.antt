@@ -19,7 +19,6 @@ use Rattle.left_right.specs.declared.Absorb as absorb
 use Rattle.left_right.proofs.writer.Writer.TheSendSync as writer
 use Rattle.left_right.specs.contracts.reader.Reader as Reader
 use Rattle.left_right.specs.contracts.writer.Writer as Writer
-use Rattle.logbook.proofs.tokens.Seen.TheSendSync as seen
 use Rattle.mg_live.proofs.commit_log.LogWord.TheSendSync as log_word
 use Rattle.mg_engine.specs.contracts.engine.Engine as Engine
 use Rattle.mg_engine.specs.contracts.engine.Engine.TheInside as engine
