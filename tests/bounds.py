@@ -5,7 +5,7 @@ usage: bounds.py --program PATH [--only NAME ..] [--full]
 
 The inputs are made by the shapes of the folder shapes/. The larger input is four times as large as the smaller one; with --full it is
 twice as large, at greater sizes. Its share is the cost of the smaller input times the ratio of the sizes, or times the square of that
-ratio where docs/PERFORMANCE.md names a product of two parts that both grow. A shape passes if its larger input takes at most 1.5 times its
+ratio where the input costs a product of two parts that both grow. A shape passes if its larger input takes at most 1.5 times its
 share of the memory, and at most twice its share of the processor time (with --full 1.5 times: without it, other work runs at the same
 time, and more of the input is outside the caches). The ratios are printed.
 

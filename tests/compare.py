@@ -16,7 +16,7 @@ from pathlib import Path
 from common.arguments import arguments
 from common.example import EXAMPLES, database_url, run_example
 from common.reference import REFERENCE
-from common.server import Setting, listening
+from common.server import Launch, listening
 from common.tally import Tally
 from common.wire import ask_once
 from imitation.front import Front, serving_front
@@ -29,7 +29,7 @@ import compare_couchdb as example  # noqa: E402
 def two_programs(program):
     """Starts two programs, and yields their ports."""
     with contextlib.ExitStack() as stack:
-        yield [stack.enter_context(listening(Setting(program, shards, 1), 4)) for shards in (1, 5)]
+        yield [stack.enter_context(listening(Launch(program, shards, 1), 4)) for shards in (1, 5)]
 
 
 def run(*args):

@@ -12,8 +12,8 @@ The replies are those of the model (the folder model/), which must agree with th
 - the kth write fails, or takes no byte: the output is what the writes before it took, and the session ends with a write fault.
 Without the shim: the input is cut at each byte, over standard input and over TCP; the output is a pipe that nobody reads, or that is
 read late; a client over TCP sends byte by byte, or resets its connection at some byte, and the next client sees each bulk whole or not at
-all. Without --full, only every third byte is tried over TCP. The shim needs a C compiler, `cc`; without one the script fails. The last line
-is 'N passed, M failed'.
+all. Without --full, cuts over TCP and failing calls of one byte are tried with the first conversation alone, and over TCP only every third
+byte. The shim needs a C compiler, `cc`; without one the script fails. The last line is 'N passed, M failed'.
 """
 import os
 import subprocess
@@ -23,7 +23,7 @@ from common.arguments import arguments
 from common.conversation import all_conversations, model_faults
 from common.messages import get, post, reply
 from common.refusal import ONWARD, refusals
-from common.server import Setting, listening
+from common.server import Launch, listening
 from common.session import ENDS, SECONDS, run_session, session_command
 from common.tally import Tally
 from common.wire import Wire, bytes_back, reset
@@ -148,18 +148,18 @@ def check_pipes(program, transcript, tally):
     tally.expect("an output that is read late", (status, output == expected, process.returncode, error), (None, True, 0, b""))
 
 
-def check_cuts_over_tcp(setting, transcript, name, step, tally):
+def check_cuts_over_tcp(launch, transcript, name, step, tally):
     """The input ends at each `step`th byte, with a new program each time: else the documents would exist already."""
     wrong = []
     for place in range(1, len(transcript.given), step):
-        with listening(setting, 1) as port:
+        with listening(launch, 1) as port:
             if bytes_back(port, transcript.given[:place]) != transcript.written(place):
                 wrong.append(place)
     tally.expect(f"{name} over TCP, cut", wrong, [])
 
 
-def check_byte_by_byte(setting, transcript, name, tally):
-    with listening(setting, 1) as port:
+def check_byte_by_byte(launch, transcript, name, tally):
+    with listening(launch, 1) as port:
         client = Wire(port)
         for place in range(len(transcript.given)):
             client.send(transcript.given[place : place + 1])
@@ -168,7 +168,7 @@ def check_byte_by_byte(setting, transcript, name, tally):
         client.close()
 
 
-def check_resets(setting, transcript, step, tally):
+def check_resets(launch, transcript, step, tally):
     """A client sends a prefix of a bulk of two documents and a query, and resets the connection; another sees both documents or none."""
     bulk = post("_bulk_docs", b'{"docs":[{"_id":"a"},{"_id":"b"}]}')
     find = transcript.conversation.messages()[1]
@@ -179,7 +179,7 @@ def check_resets(setting, transcript, step, tally):
     turns = [missing[:turn] + there[turn:] for turn in range(4)]
     wrong = []
     for place in range(1, len(bulk + find), step):
-        with listening(setting, 2) as port:
+        with listening(launch, 2) as port:
             client = Wire(port)
             client.send((bulk + find)[:place])
             reset(client.socket)
@@ -201,14 +201,14 @@ def is_possible(transcript, kind, call, has_failed, found):
     return transcript.text.startswith(found) and 0 <= (call - 1) * 16 - len(found) <= 15 * len(transcript.due)
 
 
-def check_failing_sockets(refusal, setting, transcript, tally):
+def check_failing_sockets(refusal, launch, transcript, tally):
     """Over TCP the kth read or write fails: the connection ends after a prefix of the replies, and the next client is served."""
     for kind in ("reads", "writes"):
         call, wrong, has_failed = 0, [], True
         while has_failed:
             call += 1
             refusal.reset(piece=16)
-            with listening(setting, 1, refusal.environment) as port:
+            with listening(launch, 1, refusal.environment) as port:
                 refusal.refuse(kind, call, call)
                 found = bytes_back(port, transcript.given)
                 has_failed = refusal.refused(kind) > 0
@@ -220,9 +220,9 @@ def check_failing_sockets(refusal, setting, transcript, tally):
         tally.expect(f"{kind} of a socket were made", call > 10, True)
 
 
-def check_with_shim(refusal, setting, transcripts, full, tally):
+def check_with_shim(refusal, launch, transcripts, full, tally):
     """Checks with calls that move few bytes or fail."""
-    command, first = session_command(setting.program, SHARDS, WORKERS), transcripts[NAMES[0]]
+    command, first = session_command(launch.program, SHARDS, WORKERS), transcripts[NAMES[0]]
     for name, transcript in transcripts.items():
         check_short_calls(refusal, command, transcript, name, tally)
         for piece in (1, 16) if full or transcript is first else (16,):
@@ -231,27 +231,27 @@ def check_with_shim(refusal, setting, transcripts, full, tally):
             check_failing_writes(refusal, command, transcript, name, piece, True, tally)
     check_counts(refusal, command, first, tally)
     check_last_messages(refusal, command, tally)
-    check_failing_sockets(refusal, setting, first, tally)
+    check_failing_sockets(refusal, launch, first, tally)
 
 
 def main():
     args, tally = arguments(__doc__), Tally()
-    setting, step = Setting(args.program, SHARDS, WORKERS), 1 if args.full else 3
+    launch, step = Launch(args.program, SHARDS, WORKERS), 1 if args.full else 3
     conversations = all_conversations()
     transcripts = {name: Transcript(conversations[name]) for name in NAMES}
     first = transcripts[NAMES[0]]
     for name, transcript in transcripts.items():
         tally.expect(f"{name}: the model", list(model_faults(transcript.conversation)), [])
         check_cuts(args.program, transcript, name, tally)
-        check_byte_by_byte(setting, transcript, name, tally)
+        check_byte_by_byte(launch, transcript, name, tally)
     check_pipes(args.program, first, tally)
     for name, transcript in transcripts.items():
         if args.full or transcript is first:
-            check_cuts_over_tcp(setting, transcript, name, step, tally)
-    check_resets(setting, first, step, tally)
+            check_cuts_over_tcp(launch, transcript, name, step, tally)
+    check_resets(launch, first, step, tally)
     if tally.needs("cc"):
         with refusals() as refusal:
-            check_with_shim(refusal, setting, transcripts, args.full, tally)
+            check_with_shim(refusal, launch, transcripts, args.full, tally)
     return tally.end()
 
 

@@ -14,7 +14,7 @@ from pathlib import Path
 
 from common.arguments import arguments
 from common.example import EXAMPLES, database_url
-from common.server import Setting, listening
+from common.server import Launch, listening
 from common.tally import Tally
 
 SECONDS = 60
@@ -29,7 +29,7 @@ SHARDS = (1, 4, 64)
 def run_on_servers(program, example, servers, shards):
     """Runs an example on new servers with this number of shards. Returns its exit status, its output and what it wrote to standard error."""
     with contextlib.ExitStack() as stack:
-        ports = [stack.enter_context(listening(Setting(program, shards, 2), 4)) for _ in range(servers)]
+        ports = [stack.enter_context(listening(Launch(program, shards, 2), 4)) for _ in range(servers)]
         urls = list(map(database_url, ports))
         done = subprocess.run([EXAMPLES / example, *urls], capture_output=True, text=True, timeout=SECONDS)
     return done.returncode, done.stdout, done.stderr

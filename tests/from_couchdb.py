@@ -19,7 +19,7 @@ from pathlib import Path
 
 from common.arguments import arguments
 from common.example import EXAMPLES, database_url, run_example
-from common.server import Setting, listening
+from common.server import Launch, listening
 from common.tally import Tally
 from common.wait import wait_until
 from common.wire import ask_once
@@ -51,7 +51,7 @@ class Target:
 
 @contextlib.contextmanager
 def new_target(program):
-    with listening(Setting(program, 3, 2), 4) as port:
+    with listening(Launch(program, 3, 2), 4) as port:
         yield Target(port)
 
 

@@ -24,7 +24,7 @@ from pathlib import Path
 from common.arguments import arguments
 from common.messages import body_of, message, post_json, status_of
 from common.proxy import Proxy
-from common.server import Setting, listening
+from common.server import Launch, listening
 from common.tally import Tally
 from common.wait import wait_until
 from common.wire import Wire
@@ -190,7 +190,7 @@ def check_recovery(tally, name, proxy, file, port, done, clients):
 def main():
     args, tally = arguments(__doc__, seed=1, rounds=6), Tally()
     done, accepted = 0, 0
-    with tempfile.TemporaryDirectory() as folder, listening(Setting(args.program, 1, 1), 1) as port:
+    with tempfile.TemporaryDirectory() as folder, listening(Launch(args.program, 1, 1), 1) as port:
         file = Path(folder) / "journal"
         for turn in range(args.rounds):
             victim = list(ENDS)[turn % 3]

@@ -4,7 +4,7 @@
 usage: journal_messages.py --program PATH
 
 Both get the same messages in the same order, each on a connection of its own, so both databases stay the same. The last messages are
-those that only the proxy refuses, or that it refuses differently, as the document of journal.py says; their statuses and errors are written
+those that only the proxy refuses, or that it refuses differently, as the docstring of journal.py says; their statuses and errors are written
 out here. The last line is 'N passed, M failed'.
 """
 import sys
@@ -14,7 +14,7 @@ from pathlib import Path
 from common.arguments import arguments
 from common.messages import message, status_of
 from common.proxy import Proxy
-from common.server import Setting, listening
+from common.server import Launch, listening
 from common.tally import Tally
 from common.wire import bytes_back
 
@@ -72,7 +72,7 @@ OTHER = {
 
 def main():
     program, tally = arguments(__doc__).program, Tally()
-    with tempfile.TemporaryDirectory() as folder, listening(Setting(program, 2, 2), 2) as port:
+    with tempfile.TemporaryDirectory() as folder, listening(Launch(program, 2, 2), 2) as port:
         file = Path(folder) / "journal"
         with Proxy(program, file) as proxy:
             for name, data in SAME.items():

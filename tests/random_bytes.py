@@ -10,7 +10,7 @@ comes back for the tail must be whole replies. Then the session ends in one of i
 close, or the input was refused, and then the last reply is a refusal that ends a session. Over TCP one program serves all clients, two at
 a time: both connections are open, and pieces of their messages, of random sizes, are sent in random order. A message takes effect at its
 last byte, so the model knows the order of the commands; a client that comes after a tail is answered as the model says. A million bytes
-go each way, with --full ten million. The last line is 'N passed, M failed'.
+go over standard input and as many over TCP, with --full ten million. The last line is 'N passed, M failed'.
 """
 import contextlib
 import copy
@@ -21,7 +21,7 @@ import sys
 from common.arguments import arguments
 from common.conversation import all_conversations
 from common.messages import post, replies_in
-from common.server import Setting, listening
+from common.server import Launch, listening
 from common.session import ENDS, run_session
 from common.tally import Tally
 from common.wire import Wire
@@ -210,11 +210,11 @@ class Pieces:
         return fault and f"tail {tail[:300]!r}: {fault}"
 
 
-def over_tcp(setting, seed, count, tally):
+def over_tcp(launch, seed, count, tally):
     sent, number = 0, 0
     while sent < count:
         database, source = Database(), RandomMessages(f"tcp {seed}/{number}")
-        with listening(setting, 2) as port:
+        with listening(launch, 2) as port:
             sent += two_at_a_time(port, source, database, f"run {number}, seed {seed}", tally)
         number += 1
 
@@ -241,7 +241,7 @@ def main():
     args, tally = arguments(__doc__, seed=1, bytes=0), Tally()
     count = args.bytes or (10_000_000 if args.full else 1_000_000)
     over_input(args.program, args.seed, count, tally)
-    over_tcp(Setting(args.program, 7, 2), args.seed, count, tally)
+    over_tcp(Launch(args.program, 7, 2), args.seed, count, tally)
     return tally.end()
 
 

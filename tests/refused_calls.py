@@ -6,9 +6,9 @@ usage: refused_calls.py --program PATH [--tests FOLDER]
 Each test itself checks the effect of a refused call: `Engine::run` must then have run nothing, and each call of two seats is checked by
 the number of commits when the database is closed. The shim refuse/refuse.c refuses the nth request for memory of a test, for each n until
 a run meets no refusal. A run is right if the test passes; if the test says at its end that a call was refused and everything else was as
-expected; or if the test itself got no memory for its own needs, which it reports with the word `memory`. Each of these outcomes must
-occur, and no assertion may fail. The built tests are those that the gate leaves in CRATE/out of the folder. The shim needs a C compiler,
-`cc`. The last line is 'N passed, M failed'.
+expected; or if the test itself got no memory for its own needs, which it reports with the word `memory`. No other outcome is allowed. The
+test must pass when nothing is refused, and each of its messages about a refused call must occur. The built tests are those that the gate
+leaves in CRATE/out of the folder. The shim needs a C compiler, `cc`. The last line is 'N passed, M failed'.
 """
 import itertools
 import resource

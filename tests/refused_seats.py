@@ -22,7 +22,7 @@ import time
 from common.arguments import arguments
 from common.messages import bulk, get, post, post_json
 from common.refusal import ONWARD, refusals
-from common.server import Setting, free_port, listening
+from common.server import Launch, free_port, listening
 from common.tally import Tally
 from common.wire import Wire
 from model.database import OUT_OF_MEMORY, Database
@@ -140,14 +140,14 @@ def check_two_seats(port, refusal, full, label, tally):
             tally.expect(f"{label}: {name} was refused memory", count > 0, True)
 
 
-def check_first_writes(refusal, setting, tally):
+def check_first_writes(refusal, launch, tally):
     """The first write of a program, which makes room that later writes reuse. While all requests for memory from one on stay refused, it is
     answered or its session ends, and the other client sees it exactly if it was accepted."""
     message, first, count, was_refused = bulk([{"_id": "a", "n": 1}]), 0, 0, True
     while was_refused:
         first += 1
         database = Database()
-        with listening(setting, 2, refusal.environment) as port:
+        with listening(launch, 2, refusal.environment) as port:
             one, other = both_seats(port)
             refusal.reset()
             refusal.refuse("memory", first, ONWARD)
@@ -302,12 +302,12 @@ def first_reply(process, port, refusal):
     return b""
 
 
-def check_one_seat(refusal, setting, tally):
+def check_one_seat(refusal, launch, tally):
     """One of two sessions gets no thread: the other one serves one client after another."""
     refusal.reset()
     refusal.refuse("threads", 1, ONWARD)
     database = Database()
-    with listening(setting, 2, refusal.environment) as port:
+    with listening(launch, 2, refusal.environment) as port:
         for turn in range(3):
             client = Wire(port)
             message = bulk([{"_id": f"s{turn}"}])
@@ -317,15 +317,15 @@ def check_one_seat(refusal, setting, tally):
 
 
 def check_all(refusal, program, full, tally):
-    small = Setting(program, 1, 1)
-    for setting in (Setting(program, 7, 2), small):
-        label = f"{setting.shards} shards, {setting.workers} workers"
-        with listening(setting, 2, refusal.environment) as port:
+    small = Launch(program, 1, 1)
+    for launch in (Launch(program, 7, 2), small):
+        label = f"{launch.shards} shards, {launch.workers} workers"
+        with listening(launch, 2, refusal.environment) as port:
             check_two_seats(port, refusal, full, label, tally)
-        with listening(setting, 2, refusal.environment) as port:
+        with listening(launch, 2, refusal.environment) as port:
             check_connections(port, refusal, label, tally)
         for seed in range(12 if full else 3):
-            with listening(setting, 2, refusal.environment) as port:
+            with listening(launch, 2, refusal.environment) as port:
                 check_two_writers(port, refusal, f"{label}, seed {seed}", seed, tally)
     check_first_writes(refusal, small, tally)
     check_starts(refusal, program, tally)

@@ -6,8 +6,9 @@ usage: refused_threads.py --program PATH [--only NAME ..] [--full]
 Each conversation of tests/conversations is run with 7 shards (with --full also with 64) and 2 and 32 workers, while the shim
 refuse/refuse.c refuses all threads, only the first, only the second, or all from the third on. The replies must be those of the file.
 Then comes a conversation with so many documents that workers are worth starting: an index is built, and queries run without an
-index; the replies must be those of the model (the folder model/). With at least two shards and two workers it must ask for threads, and
-be refused them. A conversation passes or fails as one. The shim needs a C compiler, `cc`. The last line is 'N passed, M failed'.
+index, with 7 and 64 shards, while all threads or only the first are refused. It must ask for threads and be refused some, and the replies
+must be those of the model (the folder model/). A conversation passes or fails as one. The shim needs a C compiler, `cc`. The last line is
+'N passed, M failed'.
 """
 import itertools
 import sys

@@ -16,7 +16,7 @@ from pathlib import Path
 from common.arguments import arguments
 from common.messages import bulk, post_json, reply
 from common.refusal import refusals
-from common.server import Setting, start
+from common.server import Launch, start
 from common.tally import Tally
 from common.wire import Wire
 
@@ -45,9 +45,9 @@ def number_of(name):
 class Server:
     """A program with `size` documents and an index, and its one client."""
 
-    def __init__(self, setting, refusal, size):
+    def __init__(self, launch, refusal, size):
         self.refusal, self.size = refusal, size
-        self.program, port = start(setting, 1, refusal.environment)
+        self.program, port = start(launch, 1, refusal.environment)
         self.client = Wire(port)
         index = {"index": {"fields": ["n"]}, "ddoc": "x", "name": "by"}
         self.is_made = b'"result":"created"' in self.client.ask(post_json("_index", index))
@@ -85,10 +85,10 @@ class Server:
         self.program.communicate()
 
 
-def costs(setting, refusal, size):
+def costs(launch, refusal, size):
     """The least requests and the least time of a commit in a database of `size` documents, for edits and for additions; and whether all
     commits were accepted."""
-    with contextlib.closing(Server(setting, refusal, size)) as server:
+    with contextlib.closing(Server(launch, refusal, size)) as server:
         rounds = {kind: [getattr(server, kind)(turn) for turn in range(2, 2 + ROUNDS)] for kind in ("edits", "additions")}
         found = {kind: [server.commits(messages) for messages in turns] for kind, turns in rounds.items()}
         all_accepted = server.is_made and all(accepted for turns in found.values() for _, _, accepted in turns)
@@ -97,14 +97,14 @@ def costs(setting, refusal, size):
 
 def main():
     args, tally = arguments(__doc__), Tally()
-    setting = Setting(args.program, 1, 1)
+    launch = Launch(args.program, 1, 1)
     if not tally.needs("cc"):
         return tally.end()
     with refusals() as refusal:
-        small, all_accepted = costs(setting, refusal, SMALL)
+        small, all_accepted = costs(launch, refusal, SMALL)
         tally.expect(f"{SMALL} documents, and each commit, were accepted", all_accepted, True)
         for size in (LARGE, LARGEST) if args.full else (LARGE,):
-            large, all_accepted = costs(setting, refusal, size)
+            large, all_accepted = costs(launch, refusal, size)
             tally.expect(f"{size} documents, and each commit, were accepted", all_accepted, True)
             for kind, (requests, seconds) in large.items():
                 more, longer = requests / small[kind][0], seconds / small[kind][1]

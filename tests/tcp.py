@@ -17,7 +17,7 @@ import time
 
 from common.arguments import arguments
 from common.messages import post, reply
-from common.server import Setting, listening, start
+from common.server import Launch, listening, start
 from common.tally import Tally
 from common.wire import Client, connect, is_closed, read, replies_to, reset
 
@@ -291,19 +291,19 @@ def more_clients_than_seats(port, tally):
     tally.expect("twelve clients", side_by_side([lambda number=number: write_and_read(number) for number in range(12)]), [(201, 200)] * 12)
 
 
-def bad_addresses(setting, tally):
+def bad_addresses(launch, tally):
     """Addresses at which the program cannot listen."""
     with socket.create_server(("127.0.0.1", 0)) as taken:
         for address in [f"127.0.0.1:{taken.getsockname()[1]}", "127.0.0.1", "127.0.0.1:x", "256.0.0.1:1", ""]:
-            command = [setting.program, "db", "1", "1", "1", address]
+            command = [launch.program, "db", "1", "1", "1", address]
             done = subprocess.run(command, stdin=subprocess.DEVNULL, capture_output=True, timeout=SECONDS)
             tally.expect(f"at {address!r}", (done.returncode, done.stdout, done.stderr), (1, b"", b"mangod: cannot listen\n"))
 
 
-def few_descriptors(setting, tally):
+def few_descriptors(launch, tally):
     """With 16 descriptors and 40 connections a new client is served, since the connections that were idle longest are closed. A client is
     also served after all of them are gone."""
-    with listening(setting, 2, descriptors=16) as port:
+    with listening(launch, 2, descriptors=16) as port:
         connections = [connect(port) for _ in range(40)]
         tally.expect("behind 40", replies_to(port, BULK), DONE)
         for connection in connections:
@@ -311,10 +311,10 @@ def few_descriptors(setting, tally):
         tally.expect("after 40", replies_to(port, FIND), PAGE)
 
 
-def host_names(setting, tally):
+def host_names(launch, tally):
     """The program listens at host names and at IPv6 addresses, and SIGTERM ends it at once."""
     for host in ["localhost", "[::1]"]:
-        program, port = start(setting, 1, host=host)
+        program, port = start(launch, 1, host=host)
         with socket.create_connection((host.strip("[]"), port), timeout=SECONDS) as connection:
             connection.sendall(BULK)
             tally.expect(f"at {host}", read(connection, len(DONE)), DONE)
@@ -323,7 +323,7 @@ def host_names(setting, tally):
         program.communicate()
 
 
-def deadlines(setting, tally):
+def deadlines(launch, tally):
     """A client that sends its message byte by byte, or reads its reply slowly, holds a session for 60 seconds and no longer."""
 
     def slow_message(connection, turn):
@@ -341,7 +341,7 @@ def deadlines(setting, tally):
 
     def behind(act):
         """The reply to another client that waits for the only session, and whether it waited about 60 seconds."""
-        with listening(setting, 1) as port, socket.socket() as connection:
+        with listening(launch, 1) as port, socket.socket() as connection:
             client = Client(port)
             for part in range(4):
                 client.ask("POST", "/db/_bulk_docs", {"docs": [{"_id": f"{part}-{number}", "text": "x" * 400_000} for number in range(6)]})
@@ -371,16 +371,16 @@ CHECKS = [(1, [one_after_another, cut_messages, a_client_that_pauses, pauses_wit
 
 def main():
     args, tally = arguments(__doc__, shards=7, workers=2), Tally()
-    setting = Setting(args.program, args.shards, args.workers)
+    launch = Launch(args.program, args.shards, args.workers)
     for sessions, checks in CHECKS:
-        with listening(setting, sessions) as port:
+        with listening(launch, sessions) as port:
             for check in checks:
                 check(port, tally)
-    bad_addresses(setting, tally)
-    few_descriptors(setting, tally)
-    host_names(setting, tally)
+    bad_addresses(launch, tally)
+    few_descriptors(launch, tally)
+    host_names(launch, tally)
     if args.full:
-        deadlines(setting, tally)
+        deadlines(launch, tally)
     return tally.end()
 
 

@@ -3,11 +3,11 @@
 
 usage: trees.py --program PATH [--shards 1,7]
 
-Every three of seven paths go to a document of their own, one after another, as replication sends them. After each path the reply, the
-served document and its conflicts must be those of the plain program, by CouchDB's rule: the best leaf is one that is not deleted, then
-the higher position, then the greater id. At the end an edit of each known revision must be accepted exactly if the revision is a leaf.
-There is one process `PATH db SHARDS 1 1 -` for each number of shards; a document passes or fails as one. Prints the first wrong reply of
-each document; the last line is 'N passed, M failed'.
+Each sequence of three of seven paths, which may repeat, goes to a document of its own, one path after another, as replication sends them.
+After each path the reply, the served document and its conflicts must be those of the plain program, by CouchDB's rule: the best leaf is
+one that is not deleted, then the higher position, then the greater id. At the end an edit of each known revision must be accepted exactly
+if the revision is a leaf. There is one process `PATH db SHARDS 1 1 -` for each number of shards; a document passes or fails as one. Prints
+the first wrong reply of each document; the last line is 'N passed, M failed'.
 """
 import hashlib
 import itertools

@@ -11,7 +11,7 @@ from .grids import grid
 from .processes import Use, for_a_time, run, side_by_side
 from .program import Program, message, titled
 from .rows import REQUESTS, build, load, say
-from .settings import PAIRS
+from .pairs import PAIRS
 
 WORKERS = [(1, 1), (1, 4), (16, 1), (16, 4)]
 CROWDS = (1, 4, 16)
@@ -32,27 +32,27 @@ def placed_anew(program, shards):
     return time.monotonic() - clock
 
 
-def short(setting):
+def short(pair):
     """The name of a pair of shards and workers above a column."""
-    return "{} {}".format(*setting)
+    return "{} {}".format(*pair)
 
 
-def worked(path, corpus, setting):
+def worked(path, corpus, pair):
     """The wall-clock times of a scan, of an index build, and of a reshard from one shard to 16, in milliseconds."""
-    with contextlib.closing(Program(path, corpus, setting)) as program:
+    with contextlib.closing(Program(path, corpus, pair)) as program:
         load(program, corpus)
         client = program.client()
         asked = [(client.prepare(request), request.answer) for request in corpus.requests("scan", 10, 1)]
         times = [run(client, asked)[1] / len(asked), build(program, "kind").clock]
-        times.append(placed_anew(program, 16) if setting[0] == 1 else None)
-    say(titled(setting), times)
+        times.append(placed_anew(program, 16) if pair[0] == 1 else None)
+    say(titled(pair), times)
     return [one and one * 1e3 for one in times]
 
 
 def workers(args):
     """The table of what several workers gain."""
     corpus = args.corpus(args.usual)
-    made = [worked(args.program, corpus, setting) for setting in WORKERS]
+    made = [worked(args.program, corpus, pair) for pair in WORKERS]
     titles = ["one document without an index", "an index on two fields", "a reshard to 16 shards, with that index"]
     rows = {title: [one[place] for one in made] for place, title in enumerate(titles)}
     return grid(f"ms by the clock, {corpus.count:,} documents; shards and workers", map(short, WORKERS), rows)
@@ -83,15 +83,15 @@ def edits(args):
 def crowd(args):
     """The table of `GET`s, queries and commits by 1, 4 and 16 clients, with each pair of shards and workers."""
     corpus = args.corpus(args.usual)
-    made = [crowded(args, corpus, setting) for setting in PAIRS]
+    made = [crowded(args, corpus, pair) for pair in PAIRS]
     rows = {name: [one[name] for one in made] for name in made[0]}
     title = f"requests a second, clients: {' / '.join(map(str, CROWDS))}; {corpus.count:,} documents; shards and workers"
     return grid(title, map(short, PAIRS), rows)
 
 
-def crowded(args, corpus, setting):
+def crowded(args, corpus, pair):
     """The requests a second of one database: for each kind, a figure for each number of clients."""
-    with contextlib.closing(Program(args.program, corpus, setting, sessions=max(CROWDS))) as program:
+    with contextlib.closing(Program(args.program, corpus, pair, sessions=max(CROWDS))) as program:
         load(program, corpus)
         for which in INDEXES:
             program.index(which)
@@ -99,7 +99,7 @@ def crowded(args, corpus, setting):
         rows = {REQUESTS[kind][0]: [many(program, kind, clients, args.share)["a_second"] for clients in CROWDS] for kind in CROWD_KINDS}
         if shutil.which("wrk"):
             rows["`GET` of one document by wrk"] = [by_wrk(program, clients) for clients in CROWDS]
-    say(titled(setting), rows)
+    say(titled(pair), rows)
     return rows
 
 
@@ -126,18 +126,18 @@ def skips(args):
     corpus = args.corpus(args.usual)
     rows = min(SKIPPED, corpus.count // 2)
     title = f"a row of {rows:,} that a page skips: processor time, ns"
-    made = {title: [skipped(args, corpus, setting, rows) for setting in PAIRS]}
+    made = {title: [skipped(args, corpus, pair, rows) for pair in PAIRS]}
     return grid(f"{corpus.count:,} documents; shards and workers", map(short, PAIRS), made)
 
 
-def skipped(args, corpus, setting, rows):
+def skipped(args, corpus, pair, rows):
     """The processor time of a skipped row, in nanoseconds: that of a page that skips many rows, less that of one that skips none."""
-    with contextlib.closing(Program(args.program, corpus, setting)) as program:
+    with contextlib.closing(Program(args.program, corpus, pair)) as program:
         load(program, corpus)
         program.index("price")
         none, many = (shown_after(program, skip, max(20, int(4000 * args.share))) for skip in (0, rows))
     cost = (many - none) / rows * 1e9
-    say(f"{titled(setting)}, a skipped row: {cost:.1f} ns")
+    say(f"{titled(pair)}, a skipped row: {cost:.1f} ns")
     return cost
 
 

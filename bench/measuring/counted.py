@@ -9,7 +9,7 @@ from concurrent import futures
 from .documents import INDEXES, Corpus
 from .piped import Piped
 from .processes import run
-from .program import pairs
+from .program import parse_pairs
 from .rows import REQUESTS, load
 from .rust import PROGRAM, built
 
@@ -26,10 +26,10 @@ MANY = {"documents": 10000, "shape": "nested", "ids": "short", "shards": "1,4/4,
 class Counted(Piped):
     """The program under callgrind, which counts only while it is switched on; without settings of the C library."""
 
-    def __init__(self, path, corpus, setting, cache, folder):
+    def __init__(self, path, corpus, pair, cache, folder):
         tool = ["valgrind", "--quiet", "--tool=callgrind", "--instr-atstart=no", "--cache-sim=yes"]
         tool += [f"--LL={cache},16,64", f"--callgrind-out-file={folder}/counts", f"--log-file={folder}/log"]
-        super().__init__(path, corpus, setting, tool, tunables="")
+        super().__init__(path, corpus, pair, tool, tunables="")
         self.folder = folder
 
     def fill(self):
@@ -59,9 +59,9 @@ class Counted(Piped):
         return dict(zip(lines["events"].split(), map(int, lines["totals"].split())))
 
 
-def counted(path, corpus, setting, kinds, requests, cache):
+def counted(path, corpus, pair, kinds, requests, cache):
     """For each kind, the instructions and the reads from memory of a request, all with one database."""
-    with tempfile.TemporaryDirectory() as folder, contextlib.closing(Counted(path, corpus, setting, cache, folder)) as program:
+    with tempfile.TemporaryDirectory() as folder, contextlib.closing(Counted(path, corpus, pair, cache, folder)) as program:
         program.fill()
         found = {}
         for kind in kinds:
@@ -75,11 +75,11 @@ def counted(path, corpus, setting, kinds, requests, cache):
 def of_sizes(path, sizes):
     """For each pair of shards and workers, such as `16/4`, and each kind: the instructions and the reads, rounded. The pairs are counted side
     by side, since counts do not depend on what else the machine does."""
-    corpus, settings = Corpus(sizes["documents"], sizes["shape"], sizes["ids"]), pairs(sizes["shards"])
+    corpus, wanted = Corpus(sizes["documents"], sizes["shape"], sizes["ids"]), parse_pairs(sizes["shards"])
     with futures.ThreadPoolExecutor(os.cpu_count()) as pool:
-        made = list(pool.map(lambda setting: counted(path, corpus, setting, sizes["kinds"], sizes["requests"], sizes["cache"]), settings))
+        made = list(pool.map(lambda pair: counted(path, corpus, pair, sizes["kinds"], sizes["requests"], sizes["cache"]), wanted))
     found = {}
-    for (shards, workers), kinds in zip(settings, made):
+    for (shards, workers), kinds in zip(wanted, made):
         found[f"{shards}/{workers}"] = {kind: [round(instructions), round(reads)] for kind, (instructions, reads) in kinds.items()}
     return found
 
@@ -92,7 +92,7 @@ def counts(args):
         programs["plain Rust"] = (PROGRAM, {**sizes, "shards": "1"})
     with futures.ThreadPoolExecutor() as pool:
         made = pool.map(lambda one: of_sizes(*one), programs.values())
-    return {f"{name} {setting}": kinds for name, found in zip(programs, made) for setting, kinds in found.items()}
+    return {f"{name} {pair}": kinds for name, found in zip(programs, made) for pair, kinds in found.items()}
 
 
 def counts_table(found):

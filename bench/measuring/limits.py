@@ -12,7 +12,7 @@ from .documents import INDEXES
 from .grids import grid
 from .program import Program
 from .rows import REQUESTS, load, say
-from .settings import alone
+from .pairs import alone
 
 SECONDS = 10
 KINDS = ["get", "equality", "falling", "scan", "commit"]

@@ -7,7 +7,7 @@ from .alone import CROWDS
 from .grids import lines, shown
 from .plan import FEW
 from .rows import REQUESTS
-from .settings import ALONE, PAIRS
+from .pairs import ALONE, PAIRS
 from .tables import Results, spelled
 
 QUERIES = ["get", "equality", "falling", "two", "deep", "scan"]
@@ -33,9 +33,9 @@ class Measurement:
         """The numbers of clients that were measured with the usual number of documents."""
         return [one for one in self.found["clients"] if self.median(self.usual, OURS, f"get {one}")]
 
-    def settings(self):
+    def pair_rows(self):
         """The rows of the pairs of shards and workers, at the greatest number of documents."""
-        found = self.found["settings"]
+        found = self.found["pairs"]
         return found[max(found, key=int)] if found else {}
 
     def grid(self, part):
@@ -173,14 +173,14 @@ def proof(measured):
 def pairs(measured):
     """The pairs of shards and workers: processor time, requests by several clients, instructions and reads from memory."""
     names = ["{}/{}".format(*one) for one in PAIRS]
-    rows = {title: [statistics.median(one) for one in cells] for title, cells in measured.settings().items() if title in ALONE.values()}
+    rows = {title: [statistics.median(one) for one in cells] for title, cells in measured.pair_rows().items() if title in ALONE.values()}
     clients = " / ".join(map(str, CROWDS))
     rows.update({f"{title}, clients: {clients}, a second": cells for title, cells in measured.grid("crowd")["rows"].items()})
     rows.update(measured.grid("skips")["rows"])
     counted = [measured.found["counts"].get(name) for name in [*(f"mangod {one}" for one in names), f"{RUST} 1/1"]]
     for kind in SHORT if counted[0] else []:
         rows[f"{REQUESTS[kind][0]}: instructions, reads"] = ["{:,}, {:,}".format(*one[kind]) if one else None for one in counted]
-    most = max(map(int, measured.found["settings"]), default=0)
+    most = max(map(int, measured.found["pairs"]), default=0)
     yield f"| {most:,} nested documents, requests a second of {measured.usual:,} flat; shards/workers | {' | '.join(names)} | {RUST} |"
     yield "|---" * (len(names) + 2) + "|"
     for title, cells in rows.items():

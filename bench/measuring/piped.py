@@ -36,9 +36,9 @@ class Session(Connection):
 class Piped(Program):
     """The program with one session over pipes, run under a tool if one is given."""
 
-    def __init__(self, path, corpus, setting, tool=(), tunables=TUNABLES):
+    def __init__(self, path, corpus, pair, tool=(), tunables=TUNABLES):
         self.corpus = corpus
-        args = [*tool, path, "db", *map(str, setting), "1", "-"]
+        args = [*tool, path, "db", *map(str, pair), "1", "-"]
         self.process = subprocess.Popen(args, stdin=subprocess.PIPE, stdout=subprocess.PIPE, env=tuned(tunables))
         self.connection = Session(self.process, corpus)
 
@@ -46,9 +46,9 @@ class Piped(Program):
         return self.connection
 
 
-def figures(path, corpus, setting, share, turn):
+def figures(path, corpus, pair, share, turn):
     """The processor time of each kind of request in microseconds, and of the load; and the memory of a document. All with one database."""
-    with contextlib.closing(Piped(path, corpus, setting)) as program:
+    with contextlib.closing(Piped(path, corpus, pair)) as program:
         found = {"load": load(program, corpus).figures()["processor_us"]}
         found["memory"] = program.size() / corpus.count
         for which in INDEXES:
@@ -69,11 +69,11 @@ def span(values):
 def piped(args):
     """Measures each number of documents and each pair of shards and workers three times, a million documents or more once."""
     rows = []
-    for setting in args.shards:
+    for pair in args.shards:
         for count in args.documents:
             corpus = args.corpus(count)
-            made = [figures(args.program, corpus, setting, args.share, turn) for turn in range(1 if count >= 10**6 else TIMES)]
-            title = f"{titled(setting)}, {count:,} documents"
+            made = [figures(args.program, corpus, pair, args.share, turn) for turn in range(1 if count >= 10**6 else TIMES)]
+            title = f"{titled(pair)}, {count:,} documents"
             rows.append((f"{title}: load, documents a second", span([1e6 / one["load"] for one in made])))
             rows.append((f"{title}: memory a document without indexes, bytes", span([one["memory"] for one in made])))
             rows += [(f"{title}: {kind}, us of processor", span([one[kind] for one in made])) for kind in REQUESTS]

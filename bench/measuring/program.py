@@ -16,15 +16,15 @@ def free_port():
         return server.getsockname()[1]
 
 
-def pairs(text):
+def parse_pairs(text):
     """Parses pairs such as `1,4/4`: numbers of shards, each with a number of workers after a slash (1 if there is none)."""
     numbers = [word.partition("/") for word in text.split(",")]
     return [(int(shards), int(workers or 1)) for shards, _, workers in numbers]
 
 
-def titled(setting):
+def titled(pair):
     """The name of a pair of shards and workers in tables."""
-    shards, workers = setting
+    shards, workers = pair
     return f"{shards} shard{'s' * (shards > 1)}, {workers} worker{'s' * (workers > 1)}"
 
 
@@ -102,10 +102,10 @@ class Program(Server):
 
     called = "mangod"
 
-    def __init__(self, path, corpus, setting=(1, 1), sessions=8, tunables=TUNABLES):
-        self.name = self.called if setting == (1, 1) else f"{self.called}, {titled(setting)}"
+    def __init__(self, path, corpus, pair=(1, 1), sessions=8, tunables=TUNABLES):
+        self.name = self.called if pair == (1, 1) else f"{self.called}, {titled(pair)}"
         self.corpus, self.port = corpus, free_port()
-        args = [path, "db", *map(str, setting), str(sessions), f"127.0.0.1:{self.port}"]
+        args = [path, "db", *map(str, pair), str(sessions), f"127.0.0.1:{self.port}"]
         self.process = subprocess.Popen(args, stdin=subprocess.DEVNULL, stderr=subprocess.PIPE, env=tuned(tunables))
         if not self.process.stderr.readline().endswith(b": listening\n"):
             raise SystemExit(f"{path} does not listen")

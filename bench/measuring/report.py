@@ -1,7 +1,7 @@
 """A whole measurement as Markdown, and the part of it that is kept in a file."""
 from .counted import counts_table
 from .grids import lines as grid_lines
-from .settings import settings_tables
+from .pairs import pairs_tables
 from .tables import Results
 
 
@@ -23,7 +23,7 @@ def report(found):
         yield f"Failed: {', '.join(found['failed'])}"
     if results.runs:
         yield from results.tables(found["clients"])
-    yield from settings_tables(found["settings"])
+    yield from pairs_tables(found["pairs"])
     if found["counts"]:
         yield "\n".join(counts_table(found["counts"]))
     yield from ("\n".join(grid_lines(one)) for one in found["grids"].values() if one["rows"])

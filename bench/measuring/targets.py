@@ -6,7 +6,7 @@ import statistics
 
 from .page import OURS, RUST
 from .rows import REQUESTS
-from .settings import ALONE, PAIRS
+from .pairs import ALONE, PAIRS
 
 SQLITE, POSTGRES = "SQLite by C", "PostgreSQL"
 INDEXED = ["equality", "falling", "two", "deep"]
@@ -61,7 +61,7 @@ def index_row(most):
 
 
 def writers(least):
-    """How many times the commits of one client four clients make in the same time."""
+    """The ratio of the commits of four clients in a second to those of one."""
     def figures(measured):
         one, four = (measured.median(measured.usual, OURS, f"commit {number}", "a_second") for number in (1, 4))
         if one and four:
@@ -73,8 +73,8 @@ def pairs_at_most(kinds, place, most):
     """The ratio of processor time with a pair of shards and workers to that with one shard and one worker."""
     def figures(measured):
         for kind in kinds:
-            if ALONE[kind] in measured.settings():
-                values = [statistics.median(one) for one in measured.settings()[ALONE[kind]]]
+            if ALONE[kind] in measured.pair_rows():
+                values = [statistics.median(one) for one in measured.pair_rows()[ALONE[kind]]]
                 yield values[PAIRS.index(place)] / values[0], values[PAIRS.index(place)] / values[0] <= most
     return figures
 

@@ -16,7 +16,7 @@ from .postgres import PostgreSQL, programs
 from .program import Program, message
 from .rows import load, say
 from .rust import PlainRust, built
-from .settings import PAIRS
+from .pairs import PAIRS
 
 SECONDS = 20
 STARTS = 20
@@ -27,7 +27,7 @@ KINDS = {"get": "`GET`", "equality": "20 documents by an index"}
 
 
 class Further(Corpus):
-    """Documents that no request asks for: the members of others lie below one more member, and the ids are others."""
+    """Further documents, which no request finds: their members lie one level deeper, and their ids end in a mark."""
 
     def __init__(self, corpus, mark):
         self.__dict__.update(corpus.__dict__)
@@ -142,7 +142,7 @@ def started(make, corpus, count):
 
 def starts(args):
     """The table of the times from the start to the first reply."""
-    made = {"{}/{}".format(*setting): lambda corpus, setting=setting: Program(args.program, corpus, setting) for setting in PAIRS}
+    made = {"{}/{}".format(*pair): lambda corpus, pair=pair: Program(args.program, corpus, pair) for pair in PAIRS}
     made.update({"plain Rust": PlainRust} if "rust" in args.systems and built() else {})
     found = [started(make, args.corpus(BULK), max(2, int(STARTS * args.share))) for make in made.values()]
     rows = dict(zip(("ms by the clock", "kB of memory"), map(list, zip(*found))))

@@ -4,7 +4,7 @@ from pathlib import Path
 
 
 def arguments(document, /, **more):
-    """Parses --program, --full, and further options, given with their defaults. The description is the first line of the script's document.
+    """Parses --program, --full, and further options, given with their defaults. The description is the first line of the script's docstring.
     An option whose default is a list takes any number of arguments, of the type of its first default."""
     parser = argparse.ArgumentParser(description=document.split("\n")[0])
     parser.add_argument("--program", required=True, type=lambda path: str(Path(path).resolve()))

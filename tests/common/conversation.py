@@ -83,7 +83,7 @@ class Exchange:
 
 @dataclass
 class Conversation:
-    """The exchanges of a conversation, and how the program ends. `group` is the last exchanges whose messages have one expected reply."""
+    """The exchanges of a conversation, and how the program ends. `group` has the last exchanges, which share the replies that are read next."""
 
     name: str
     file: Path

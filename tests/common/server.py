@@ -8,7 +8,7 @@ import sys
 
 
 @dataclasses.dataclass(frozen=True)
-class Setting:
+class Launch:
     """The program to start, and its numbers of shards and workers."""
     program: str
     shards: int
@@ -27,11 +27,11 @@ def descriptor_limit(descriptors):
     return lambda: resource.setrlimit(resource.RLIMIT_NOFILE, (descriptors, descriptors))
 
 
-def start(setting, sessions, environment=None, host="127.0.0.1", descriptors=None):
+def start(launch, sessions, environment=None, host="127.0.0.1", descriptors=None):
     """Starts a program that listens. Returns it and its port. Tries another port if another program took the first one."""
     for _ in range(3):
         port = free_port()
-        command = [setting.program, "db", str(setting.shards), str(setting.workers), str(sessions), f"{host}:{port}"]
+        command = [launch.program, "db", str(launch.shards), str(launch.workers), str(sessions), f"{host}:{port}"]
         program = subprocess.Popen(command, stdin=subprocess.DEVNULL, stdout=subprocess.PIPE, stderr=subprocess.PIPE, env=environment,
                                    preexec_fn=descriptor_limit(descriptors))
         line = program.stderr.readline()
@@ -45,9 +45,9 @@ def start(setting, sessions, environment=None, host="127.0.0.1", descriptors=Non
 
 
 @contextlib.contextmanager
-def listening(setting, sessions, environment=None, **more):
+def listening(launch, sessions, environment=None, **more):
     """Starts a program that listens, yields its port, and ends the program afterwards."""
-    program, port = start(setting, sessions, environment, **more)
+    program, port = start(launch, sessions, environment, **more)
     try:
         yield port
         if program.poll() is not None:

@@ -9,8 +9,8 @@ def text_of(revision):
 
 
 class Document:
-    """The revisions of a document: `parents` has the parent of each known one (None for a root), `bodies` has of each that was the newest of
-    a path whether it is deleted, and its body."""
+    """The revisions of a document: `parents` has the parent of each known one (None for a root); `bodies` has, for each that was the newest
+    of a path, whether it is deleted, and its body."""
 
     def __init__(self):
         self.parents = {}

@@ -16,7 +16,7 @@ MOST = 2**31 - 1
 @dataclass
 class Shape:
     """What makes an input of a size; the larger size in the gate and in full; and the power of the size with which it may cost:
-    1, or 2 where docs/PERFORMANCE.md names a product of two parts that both grow."""
+    1, or 2 where the input costs a product of two parts that both grow."""
 
     make: Callable
     gate: int

@@ -76,7 +76,7 @@ fn parse_path(value: &Value) -> Option<Vec<Rev>> {
 }
 
 impl Database {
-    /// Writes a bulk, and returns an entry for each document, or for the refused ones alone where the revisions came along.
+    /// Writes a bulk. Returns an entry for each document; of documents that brought their revisions, only for the refused ones.
     pub fn write(&mut self, writes: Vec<Write>) -> Vec<Value> {
         writes.into_iter().filter_map(|write| self.write_one(write)).collect()
     }

@@ -37,39 +37,39 @@ def alone(program, kind, seconds, seed):
     return processes.Use(count, program.processor() - before, clock)
 
 
-def figures(args, corpus, setting, turn):
+def figures(args, corpus, pair, turn):
     """The figures of one database: the title of each row, and its figure."""
     seconds, rows = SECONDS * args.share, {}
-    with contextlib.closing(Program(args.program, corpus, setting, sessions=CLIENTS + 1)) as program:
+    with contextlib.closing(Program(args.program, corpus, pair, sessions=CLIENTS + 1)) as program:
         load(program, corpus)
         for which in INDEXES:
             program.index(which)
         for kind, title in ALONE.items():
             used = alone(program, kind, seconds, turn).figures()
             rows[title] = used["wait_us"] / 1e3 if kind == "scan" else used["processor_us"]
-            say(f"{titled(setting)}, {title}: {rows[title]:,.1f}")
+            say(f"{titled(pair)}, {title}: {rows[title]:,.1f}")
             if kind in TOGETHER:
                 lists = [corpus.requests(kind, CHUNK[kind], f"{turn}{client}") for client in range(CLIENTS)]
                 rows[TOGETHER[kind]] = processes.for_a_time(program, lists, seconds).figures()["a_second"]
-                say(f"{titled(setting)}, {TOGETHER[kind]}: {rows[TOGETHER[kind]]:,.0f}")
+                say(f"{titled(pair)}, {TOGETHER[kind]}: {rows[TOGETHER[kind]]:,.0f}")
     return rows
 
 
-def settings(args):
+def measure_pairs(args):
     """The figures of each row, for each number of documents and each pair. The pairs are measured in turn, again and again, so that a slow
     minute of the machine affects all of them."""
     found = {}
     for count in args.pairs_documents:
         corpus = args.corpus(count, shape="nested")
-        made = [[figures(args, corpus, setting, turn) for setting in PAIRS] for turn in range(args.repeat)]
+        made = [[figures(args, corpus, pair, turn) for pair in PAIRS] for turn in range(args.repeat)]
         found[count] = {title: [[turn[place][title] for turn in made] for place in range(len(PAIRS))] for title in made[0][0]}
     return found
 
 
-def settings_tables(found):
+def pairs_tables(found):
     """A table for each number of documents, with a column for each pair of shards and workers."""
     for count, rows in found.items():
-        lines = [f"| {int(count):,} documents; shards and workers | {' | '.join('{} {}'.format(*setting) for setting in PAIRS)} |"]
+        lines = [f"| {int(count):,} documents; shards and workers | {' | '.join('{} {}'.format(*pair) for pair in PAIRS)} |"]
         lines.append("|---" * (len(PAIRS) + 1) + "|")
-        lines += [f"| {title} | {' | '.join(map(cell, pairs))} |" for title, pairs in rows.items()]
+        lines += [f"| {title} | {' | '.join(map(cell, values))} |" for title, values in rows.items()]
         yield "\n".join(lines)
