@@ -35,7 +35,7 @@ class Database:
         return self.ask("GET", urllib.parse.quote(name, safe=""))
 
     def pages(self, query, size):
-        """Each page of a query. The last one has fewer documents than `size`."""
+        """The pages of a query that have documents. A page with fewer than `size` documents is the last one."""
         bookmark, is_full = None, True
         while is_full:
             found = self.ask("POST", "_find", {**query, "limit": size, "bookmark": bookmark})

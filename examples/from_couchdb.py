@@ -18,7 +18,7 @@ continues when a server comes back.
 
 Some documents cannot be copied. --dry-run reads everything, writes nothing, and lists each of them with its remedy. Otherwise the
 run ends at the first one; --skip leaves it out, with all its revisions, and reports it. Design documents are always left out. Exit
-status: 0 if everything is copied or could be (design documents aside), 1 otherwise, 2 for wrong arguments.
+status: 0 if everything else is copied, or with --dry-run could be, and after Ctrl-C; 2 for wrong arguments; 1 otherwise.
 """
 import argparse
 import base64

@@ -1,6 +1,6 @@
 pub mod Arguments
 pub mod Conversations
-pub mod Ends
+pub mod Exits
 pub mod Faults
 pub mod Pace
 pub mod Program

@@ -4,7 +4,7 @@ use Rattle.mg_engine.specs.World.{World, empty_world}
 use Rattle.mg_http.specs.AtWorld.{WroteTranscriptAt}
 use Rattle.mg_http.specs.declared.sessions.SessionEnd.{SessionEnd}
 use Rattle.mangod.specs.Arguments.{Settings, is_standard}
-use Rattle.mangod.specs.Ends.{Ending, cannot_listen, ending_of, no_memory, stopped, wrong_arguments}
+use Rattle.mangod.specs.Exits.{Ending, cannot_listen, ending_of, no_memory, stopped, wrong_arguments}
 
 -- One session was held, from the empty world of this database. `WroteTranscriptAt` says what was written for what was read, and that it
 -- is the transcript if memory sufficed.
@@ -22,7 +22,8 @@ EndsAtOnce read wrote why ending = read [] × wrote [] × (ending ≡ why)
 abbrev pub RunsOneSession : List ℕ → (List ℕ → Type 0) → (List ℕ → Type 0) → Ending → Type 0
 RunsOneSession db read wrote ending = HoldsSession db read wrote ending ⊎ EndsAtOnce read wrote no_memory ending
 
--- how the program ends with another address: no memory to start, or it cannot listen, or the listener failed
+-- how the program ends with another address: memory ran out at the start or after the last session, or it cannot listen, or the listener
+-- failed
 abbrev pub IsEndOfListening : Ending → Type 0
 IsEndOfListening ending = (ending ≡ no_memory) ⊎ ((ending ≡ cannot_listen) ⊎ (ending ≡ stopped))
 

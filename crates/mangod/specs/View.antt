@@ -1,6 +1,6 @@
 -- What the settings and the endings of the code stand for.
 use Rattle.mangod.specs.Arguments.{Settings}
-use Rattle.mangod.specs.Ends.{Ending}
+use Rattle.mangod.specs.Exits.{Ending}
 use Rattle.mangod.specs.declared.config.Settings as code
 use Rattle.mangod.specs.declared.ends.Exit as code_exit
 

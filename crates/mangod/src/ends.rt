@@ -1,5 +1,5 @@
 ghost use Rattle.std.specs.Prelude.{◌≡◌};
-ghost use Rattle.mangod.specs.Ends.{ending_of};
+ghost use Rattle.mangod.specs.Exits.{ending_of};
 
 use mg_http::SessionEnd;
 
@@ -16,7 +16,7 @@ pub(crate) const WRONG_ARGUMENTS: Exit = Exit {
     line: "mangod: usage: mangod DB SHARDS WORKERS SESSIONS ADDR",
 };
 
-/// There is no memory to start.
+/// Memory ran out at the start, or after the last session.
 pub(crate) const NO_MEMORY: Exit = Exit {
     status: 1,
     line: "mangod: out of memory",

@@ -15,7 +15,7 @@ use crate::lobby::Lobby;
 use crate::seats::serve;
 use mg_engine::Engine;
 use mg_http::{Device, Solo};
-use mg_live::{CommitLog, Database, Live, Waiting};
+use mg_live::{CommitLog, Database, Live, WaitForReaders};
 use mg_shard::Md5Placement;
 use mg_value::NoMemory;
 use std::io::{Eprint, ErrorKind, Read, Write};
@@ -113,8 +113,8 @@ fn listen<
     ensures { IsEndOfListening (ending_seen result) }
 {
     let alloc = rt.alloc();
-    let opened = Live::<D, Waiting<H>>::open(
-        Waiting(rt),
+    let opened = Live::<D, WaitForReaders<H>>::open(
+        WaitForReaders(rt),
         alloc,
         blank,
         commit_log,
@@ -139,6 +139,7 @@ fn listen<
     let _ = eprintln!(rt; "mangod: listening");
     match serve(&rt, alloc, &settings, &lobby, seats) {
         Ok(seats) => {
+            // Its result changes no status: the listener has failed by then.
             let _closed = live.close(&rt, seats);
             STOPPED
         }

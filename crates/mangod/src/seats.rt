@@ -7,7 +7,7 @@ use crate::config::Settings;
 use crate::connections::serve_connections;
 use crate::lobby::Lobby;
 use mg_http::SeatService;
-use mg_live::{Database, Ends, Seat, Waiting};
+use mg_live::{Database, EndsWriter, Seat, WaitForReaders};
 use mg_value::NoMemory;
 use std::alloc::Global;
 use std::sync::Wait;
@@ -16,7 +16,7 @@ use std::thread::Threads;
 use std::time::Clock;
 
 /// A service for each seat, with the number of workers of the settings.
-fn services<D: Database, C: Ends>(
+fn services<D: Database, C: EndsWriter>(
     alloc: Global,
     seats: Vec<Seat<D, C>>,
     settings: &Settings<'_>,
@@ -36,9 +36,9 @@ fn services<D: Database, C: Ends>(
 
 /// Serves connections at all seats, each seat on a thread of its own, one connection after another, until the listener fails. Then
 /// returns the seats; sessions of the database took each seat to its new state. If a thread cannot be started, its seat waits until
-/// another has ended.
+/// another thread has ended.
 ///
-/// Errors: `NoMemory` if memory ran out.
+/// Errors: `NoMemory` if memory ran out; then all seats are dropped.
 pub(crate) fn serve<
     D: Database + Send + Sync,
     H: Wait + Threads + Clock + Send + Sync + Copy + Drop,
@@ -47,8 +47,8 @@ pub(crate) fn serve<
     alloc: Global,
     settings: &Settings<'_>,
     lobby: &Lobby,
-    seats: Vec<Seat<D, Waiting<H>>>,
-) -> Result<Vec<Seat<D, Waiting<H>>>, NoMemory>
+    seats: Vec<Seat<D, WaitForReaders<H>>>,
+) -> Result<Vec<Seat<D, WaitForReaders<H>>>, NoMemory>
     requires { settings.now.db.now ≡ D.db }
     ensures count { IfOk result (λ after. vec_len after ≡ vec_len seats) }
     ensures each { IfOk result (λ after. (i : ℕ) (d : SeatView) → i < vec_len seats
@@ -65,8 +65,8 @@ fn attend_all<D: Database + Send + Sync, H: Wait + Threads + Clock + Send + Sync
     alloc: Global,
     db: &str,
     lobby: &Lobby,
-    services: Vec<SeatService<D, Waiting<H>>>,
-) -> Result<Vec<Seat<D, Waiting<H>>>, NoMemory>
+    services: Vec<SeatService<D, WaitForReaders<H>>>,
+) -> Result<Vec<Seat<D, WaitForReaders<H>>>, NoMemory>
     requires { db.now ≡ D.db }
     ensures count { IfOk result (λ after. vec_len after ≡ vec_len services) }
     ensures each { IfOk result (λ after. (i : ℕ) (d : SeatView) → i < vec_len services
@@ -76,7 +76,7 @@ fn attend_all<D: Database + Send + Sync, H: Wait + Threads + Clock + Send + Sync
     let after = thread::map_vec(
         rt,
         services,
-        &|service: SeatService<D, Waiting<H>>| -> Seat<D, Waiting<H>>
+        &|service: SeatService<D, WaitForReaders<H>>| -> Seat<D, WaitForReaders<H>>
             requires { db.now ≡ D.db }
             ensures { IsServed D.db service.seat result }
         { attend(rt, alloc, db, lobby, service) },
@@ -85,7 +85,7 @@ fn attend_all<D: Database + Send + Sync, H: Wait + Threads + Clock + Send + Sync
 }
 
 // Serves the connections of one seat.
-fn attend<D: Database, C: Ends, H: Wait + Threads + Clock + Sync>(
+fn attend<D: Database, C: EndsWriter, H: Wait + Threads + Clock + Sync>(
     rt: &H,
     alloc: Global,
     db: &str,

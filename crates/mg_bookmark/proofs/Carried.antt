@@ -10,10 +10,10 @@ use Rattle.mg_value.specs.Value.{text, list, Items, no_items, item, depth, item_
 use Rattle.mg_value.specs.Held.{IsHeld}
 use Rattle.mg_value.specs.Text.{Reads, compact, compact_items}
 use Rattle.mg_value.proofs.Compact.{reads_compact}
-use Rattle.mg_collate.specs.Direction.{direction_word}
+use Rattle.mg_collate.specs.Direction.{direction_name}
 use Rattle.mg_collate.specs.declared.direction.Direction.{Direction}
 use Rattle.mg_collate.specs.declared.direction.Direction.TheVariants.{Asc, Desc}
-use Rattle.mg_bookmark.specs.Bookmark.{CanBeSpelled, RowPosition, Spells, ddoc_value, place_value, spelled}
+use Rattle.mg_bookmark.specs.Bookmark.{CanBeSpelled, RowPlace, Spells, ddoc_value, place_value, spelled}
 use Rattle.mg_bookmark.specs.Reading.{bookmark_read, place_read}
 use Rattle.mg_bookmark.proofs.Readings.{bookmark_of_place, read_of_spelled}
 
@@ -32,7 +32,7 @@ ddoc_utf8 : (d : Option (List ℕ)) → IsUtf8 (unwrap_or d []) → IsUtf8 (comp
 ddoc_utf8 None h = IsUtf8-are_ascii (110 ∷ 117 ∷ 108 ∷ 108 ∷ []) refl
 ddoc_utf8 (Some s) h = IsUtf8-quoted s h
 
-direction_utf8 : (d : Direction) → IsUtf8 (direction_word d)
+direction_utf8 : (d : Direction) → IsUtf8 (direction_name d)
 direction_utf8 Asc = IsUtf8-are_ascii (codes "asc") refl
 direction_utf8 Desc = IsUtf8-are_ascii (codes "desc") refl
 
@@ -44,13 +44,13 @@ flat : (d : Option (List ℕ)) → depth (ddoc_value d) ≡ 0
 flat None = refl
 flat (Some s) = refl
 
-place_depth : (p : RowPosition) → depth (place_value p) ≡ suc (suc (items_depth p.key))
+place_depth : (p : RowPlace) → depth (place_value p) ≡ suc (suc (items_depth p.key))
 place_depth p = omega (arith, flat p.ddoc)
 
-array_of_place : (p : RowPosition) → CanBeSpelled p → Reads (compact (place_value p)) (place_value p)
+array_of_place : (p : RowPlace) → CanBeSpelled p → Reads (compact (place_value p)) (place_value p)
 array_of_place p h =
-    let word = IsUtf8-quoted (direction_word p.direction) (direction_utf8 p.direction) in
-    let parts : Items = item (ddoc_value p.ddoc) (item (text p.name) (item (text (direction_word p.direction)) (item (list p.key) (item (text p.id) no_items)))) in
+    let word = IsUtf8-quoted (direction_name p.direction) (direction_utf8 p.direction) in
+    let parts : Items = item (ddoc_value p.ddoc) (item (text p.name) (item (text (direction_name p.direction)) (item (list p.key) (item (text p.id) no_items)))) in
     let utf8 = IsUtf8-append (91 ∷ []) (compact_items false parts) (IsUtf8-are_ascii (91 ∷ []) refl)
     (items_utf8 false parts (ddoc_utf8 p.ddoc h.ddoc, (IsUtf8-quoted p.name h.name, (word, (h.key, (IsUtf8-quoted p.id h.id, tt)))))) in
     let shallow : depth (place_value p) ≤ 127 = omega (arith, place_depth p, h.shallow) in
@@ -62,10 +62,10 @@ no_place : place_read (codes "nil") ≡ None
 unfolding base64_on_literals
 no_place = refl
 
-not_nil : (p : RowPosition) → Spells (spelled p) p → spelled p ≡ codes "nil" → ⊥
+not_nil : (p : RowPlace) → Spells (spelled p) p → spelled p ≡ codes "nil" → ⊥
 not_nil p s e = let some = read_of_spelled (spelled p) p s in let none = ap place_read e ∙ no_place in cc
 
-pub read_back : (p : RowPosition) → CanBeSpelled p → bookmark_read (spelled p) ≡ Some (Some p)
+pub read_back : (p : RowPlace) → CanBeSpelled p → bookmark_read (spelled p) ≡ Some (Some p)
 read_back p h =
     let s : Spells (spelled p) p = (refl, array_of_place p h) in
     bookmark_of_place (spelled p) (Some p) (not_nil p s) (read_of_spelled (spelled p) p s)

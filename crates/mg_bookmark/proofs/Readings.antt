@@ -10,12 +10,12 @@ use Rattle.base64.specs.Engines.{url_safe_no_pad}
 use Rattle.base64.proofs.EngineFacts.{decode_of-encode_of}
 use Rattle.base64.proofs.Streams.{decoded_of-ok}
 use Rattle.serde_json.specs.Read.{read}
-use Rattle.mg_collate.specs.Direction.{direction_named, direction_word}
+use Rattle.mg_collate.specs.Direction.{direction_named, direction_name}
 use Rattle.mg_collate.specs.declared.direction.Direction.{Direction}
 use Rattle.mg_collate.specs.declared.direction.Direction.TheVariants.{Asc, Desc}
 use Rattle.mg_value.specs.Text.{Reads, compact, whole_of}
 use Rattle.mg_value.specs.Value.{Value, null, text, list, item, no_items}
-use Rattle.mg_bookmark.specs.Bookmark.{IsReadAs, RowPosition, Spells, ddoc_value, place_value, spelled}
+use Rattle.mg_bookmark.specs.Bookmark.{IsReadAs, RowPlace, Spells, ddoc_value, place_value, spelled}
 use Rattle.mg_bookmark.specs.Reading.{bookmark_read, ddoc_in, if_spelled, place_in, place_read, value_in}
 use Rattle.mg_bookmark.proofs.Spellings.{utf8-bytes}
 
@@ -33,18 +33,18 @@ ddoc_again : (d : Option (List ℕ)) → ddoc_in (ddoc_value d) ≡ Some d
 ddoc_again None = refl
 ddoc_again (Some s) = refl
 
-direction_again : (d : Direction) → direction_named (direction_word d) ≡ Some d
+direction_again : (d : Direction) → direction_named (direction_name d) ≡ Some d
 direction_again Asc = refl
 direction_again Desc = refl
 
 -- the place of its array
-place_again : (p : RowPosition) → place_in (place_value p) ≡ Some p
+place_again : (p : RowPlace) → place_in (place_value p) ≡ Some p
 place_again p = rw (ddoc_again p.ddoc) (rw (direction_again p.direction) refl)
 
-if_same : (t : List ℕ) (p : RowPosition) → t ≡ spelled p → IsUtf8 (compact (place_value p)) → if_spelled t p ≡ Some p
+if_same : (t : List ℕ) (p : RowPlace) → t ≡ spelled p → IsUtf8 (compact (place_value p)) → if_spelled t p ≡ Some p
 if_same t p e utf8 = rw ((bytes_eq-Decides t (spelled p)).1 e) (rw (is_utf8-from_IsUtf8 (compact (place_value p)) utf8) refl)
 
-pub read_of_spelled : (t : List ℕ) (p : RowPosition) → Spells t p → place_read t ≡ Some p
+pub read_of_spelled : (t : List ℕ) (p : RowPlace) → Spells t p → place_read t ≡ Some p
 read_of_spelled t p s =
     let bytes = compact (place_value p) in
     let decoded : decoded_of url_safe_no_pad t ≡ Some bytes = ap (decoded_of url_safe_no_pad) s.0 ∙ decoded_again bytes (utf8-bytes bytes s.1.1.0) in
@@ -68,14 +68,14 @@ ddoc_found null d e = let f : d ≡ None = cc in rw f refl
 ddoc_found (text s) d e = let f : d ≡ Some s = cc in rw f refl
 ddoc_found v d e = absurd cc
 
-direction_found : (word : List ℕ) (d : Direction) → direction_named word ≡ Some d → word ≡ direction_word d
+direction_found : (word : List ℕ) (d : Direction) → direction_named word ≡ Some d → word ≡ direction_name d
 direction_found word d = asc (bytes_eq word (codes "asc")) refl
   where
-    desc : (b : Bool) → bytes_eq word (codes "desc") ≡ b → cond b (Some Desc) None ≡ Some d → word ≡ direction_word d
+    desc : (b : Bool) → bytes_eq word (codes "desc") ≡ b → cond b (Some Desc) None ≡ Some d → word ≡ direction_name d
     desc true same e = let f : d ≡ Desc = cc in rw f ((bytes_eq-Decides word (codes "desc")).0 same)
     desc false same e = absurd cc
 
-    asc : (b : Bool) → bytes_eq word (codes "asc") ≡ b → cond b (Some Asc) ((if bytes_eq word (codes "desc") then Some Desc else None)) ≡ Some d → word ≡ direction_word d
+    asc : (b : Bool) → bytes_eq word (codes "asc") ≡ b → cond b (Some Asc) ((if bytes_eq word (codes "desc") then Some Desc else None)) ≡ Some d → word ≡ direction_name d
     asc true same e = let f : d ≡ Asc = cc in rw f ((bytes_eq-Decides word (codes "asc")).0 same)
     asc false same e = desc (bytes_eq word (codes "desc")) refl e
 
@@ -84,15 +84,15 @@ option_mapped f None y e k = absurd cc
 option_mapped f (Some x) y e k = k x refl cc
 
 -- a place is found in its own array alone
-place_found : (v : Value) (p : RowPosition) → place_in v ≡ Some p → v ≡ place_value p
+place_found : (v : Value) (p : RowPlace) → place_in v ≡ Some p → v ≡ place_value p
 place_found (list (item d (item (text name) (item (text word) (item (list key) (item (text id) no_items)))))) p e =
-    let Made : Option (List ℕ) → Direction → RowPosition = λ ddoc direction. record { ddoc = ddoc; name = name; direction = direction; key = key; id = id } in
+    let Made : Option (List ℕ) → Direction → RowPlace = λ ddoc direction. record { ddoc = ddoc; name = name; direction = direction; key = key; id = id } in
     option_and_then_some (λ ddoc. option_map (Made ddoc) (direction_named word)) (ddoc_in d) p e
     (λ ddoc de f. option_mapped (Made ddoc) (direction_named word) p f (λ direction we made.
     subst (λ q. list (item d (item (text name) (item (text word) (item (list key) (item (text id) no_items))))) ≡ place_value q) made (rw (ddoc_found d ddoc de) (rw (direction_found word direction we) refl))))
 place_found v p e = absurd cc
 
-if_spelled_is : (t : List ℕ) (q p : RowPosition) → if_spelled t q ≡ Some p → (q ≡ p) × (t ≡ spelled q) × IsUtf8 (compact (place_value q))
+if_spelled_is : (t : List ℕ) (q p : RowPlace) → if_spelled t q ≡ Some p → (q ≡ p) × (t ≡ spelled q) × IsUtf8 (compact (place_value q))
 if_spelled_is t q p = of_test (bytes_eq t (spelled q)) (is_utf8 (compact (place_value q))) refl refl
   where
     of_test : (b u : Bool) → bytes_eq t (spelled q) ≡ b → is_utf8 (compact (place_value q)) ≡ u → cond (b && u) (Some q) None ≡ Some p → (q ≡ p) × (t ≡ spelled q) × IsUtf8 (compact (place_value q))
@@ -100,14 +100,14 @@ if_spelled_is t q p = of_test (bytes_eq t (spelled q)) (is_utf8 (compact (place_
     of_test true false same utf8 e = absurd cc
     of_test false u same utf8 e = absurd cc
 
-reads_again : (t bytes : List ℕ) (v : Value) (p : RowPosition) → decoded_of url_safe_no_pad t ≡ Some bytes → Reads bytes v → v ≡ place_value p → t ≡ spelled p → IsUtf8 (compact (place_value p)) → Spells t p
+reads_again : (t bytes : List ℕ) (v : Value) (p : RowPlace) → decoded_of url_safe_no_pad t ≡ Some bytes → Reads bytes v → v ≡ place_value p → t ≡ spelled p → IsUtf8 (compact (place_value p)) → Spells t p
 reads_again t bytes v p d r e s utf8 =
     let text = compact (place_value p) in
     let again : decoded_of url_safe_no_pad t ≡ Some text = ap (decoded_of url_safe_no_pad) s ∙ decoded_again text (utf8-bytes text utf8) in
     let same : bytes ≡ text = cc in
     (s, subst (λ w. Reads text w) e (subst (λ b. Reads b v) same r))
 
-pub spelled_of_read : (t : List ℕ) (p : RowPosition) → place_read t ≡ Some p → Spells t p
+pub spelled_of_read : (t : List ℕ) (p : RowPlace) → place_read t ≡ Some p → Spells t p
 spelled_of_read t p e =
     option_and_then_some (if_spelled t) (option_and_then place_in (option_and_then value_in (decoded_of url_safe_no_pad t))) p e (λ q qe is.
     option_and_then_some place_in (option_and_then value_in (decoded_of url_safe_no_pad t)) q qe (λ v ve found.
@@ -115,23 +115,23 @@ spelled_of_read t p e =
     let all = if_spelled_is t q p is in
     subst (Spells t) all.0 (reads_again t bytes v q de (text_of_value bytes v read) (place_found v q found) all.1 all.2))))
 
-pub none_read : (t : List ℕ) → ((p : RowPosition) → Spells t p → ⊥) → place_read t ≡ None
+pub none_read : (t : List ℕ) → ((p : RowPlace) → Spells t p → ⊥) → place_read t ≡ None
 none_read t h = of (place_read t) refl
   where
-    of : (r : Option RowPosition) → place_read t ≡ r → r ≡ None
+    of : (r : Option RowPlace) → place_read t ≡ r → r ≡ None
     of None e = refl
     of (Some p) e = absurd (h p (spelled_of_read t p e))
 
-none_spelled : (t : List ℕ) → place_read t ≡ None → (p : RowPosition) → Spells t p → ⊥
+none_spelled : (t : List ℕ) → place_read t ≡ None → (p : RowPlace) → Spells t p → ⊥
 none_spelled t none p s = let some = read_of_spelled t p s in cc
 
 -- a text is the spelling of one place at most
-one_place : (t : List ℕ) (p q : RowPosition) → Spells t p → Spells t q → p ≡ q
+one_place : (t : List ℕ) (p q : RowPlace) → Spells t p → Spells t q → p ≡ q
 one_place t p q a b = let first = read_of_spelled t p a in let second = read_of_spelled t q b in cc
 
 -- ---- what a client gives back
 
-pub bookmark_of_place : (t : List ℕ) (r : Option RowPosition) → t ≢ codes "nil" → place_read t ≡ r → bookmark_read t ≡ option_map Some r
+pub bookmark_of_place : (t : List ℕ) (r : Option RowPlace) → t ≢ codes "nil" → place_read t ≡ r → bookmark_read t ≡ option_map Some r
 bookmark_of_place t r other e = of_test (bytes_eq t (codes "nil")) refl
   where
     of_test : (b : Bool) → bytes_eq t (codes "nil") ≡ b → cond b (Some None) (option_map Some (place_read t)) ≡ option_map Some r
@@ -141,7 +141,7 @@ bookmark_of_place t r other e = of_test (bytes_eq t (codes "nil")) refl
 pub is_read_as : (t : List ℕ) → IsReadAs t (bookmark_read t)
 is_read_as t = of_test (bytes_eq t (codes "nil")) (bytes_eq-Decides t (codes "nil"))
   where
-    of_place : t ≢ codes "nil" → (r : Option RowPosition) → place_read t ≡ r → IsReadAs t (option_map Some r)
+    of_place : t ≢ codes "nil" → (r : Option RowPlace) → place_read t ≡ r → IsReadAs t (option_map Some r)
     of_place other None e = (other, none_spelled t e)
     of_place other (Some p) e = (other, spelled_of_read t p e)
 
@@ -149,7 +149,7 @@ is_read_as t = of_test (bytes_eq t (codes "nil")) (bytes_eq-Decides t (codes "ni
     of_test true same = same.0 refl
     of_test false same = of_place (λ e. let yes = same.1 e in cc) (place_read t) refl
 
-pub one_reading : (t : List ℕ) (r s : Option (Option RowPosition)) → IsReadAs t r → IsReadAs t s → r ≡ s
+pub one_reading : (t : List ℕ) (r s : Option (Option RowPlace)) → IsReadAs t r → IsReadAs t s → r ≡ s
 one_reading t None None a b = refl
 one_reading t None (Some None) a b = absurd (a.0 b)
 one_reading t None (Some (Some q)) a b = absurd (a.1 q b.1)

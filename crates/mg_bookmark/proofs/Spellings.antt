@@ -9,7 +9,7 @@ use Rattle.mg_value.specs.Text.{Reads, whole_of}
 use Rattle.mg_value.specs.Value.{Value, list}
 use Rattle.mg_value.specs.View.{items_view}
 use Rattle.mg_value.specs.declared.value.Json.{Json}
-use Rattle.mg_bookmark.specs.Bookmark.{RowPosition, place_value}
+use Rattle.mg_bookmark.specs.Bookmark.{RowPlace, place_value}
 
 -- each is a byte
 abbrev Low : List ℕ → Type 0
@@ -80,7 +80,7 @@ pub one_value : (bs : List ℕ) (v w : Value) → Reads bs v → Reads bs w → 
 one_value bs v w a b = one_data whole_of _ a.0 b.0 v w a.1.1 b.1.1 a.2 b.2
 
 -- an array of another length is no bookmark's
-pub not_five : (js : List Json) → length js ≢ 5 → (p : RowPosition) → list (items_view js) ≡ place_value p → ⊥
+pub not_five : (js : List Json) → length js ≢ 5 → (p : RowPlace) → list (items_view js) ≡ place_value p → ⊥
 not_five [] other p e = cc
 not_five (a ∷ []) other p e = cc
 not_five (a ∷ b ∷ []) other p e = cc

@@ -7,11 +7,11 @@ use Rattle.base64.specs.Engines.{url_safe_no_pad}
 use Rattle.mg_value.specs.Value.{Value, null, text, list, Items, item, no_items, items_depth}
 use Rattle.mg_value.specs.Held.{ItemsAreHeld}
 use Rattle.mg_value.specs.Text.{Reads, compact}
-use Rattle.mg_collate.specs.Direction.{direction_word}
+use Rattle.mg_collate.specs.Direction.{direction_name}
 use Rattle.mg_collate.specs.declared.direction.Direction.{Direction}
 
 -- the place of a row: the index's design document (none for `_all_docs`) and name, the direction, the row's key and id
-pub record RowPosition : Type 0 where
+pub record RowPlace : Type 0 where
   pub ddoc : Option (List ℕ)
   pub name : List ℕ
   pub direction : Direction
@@ -24,21 +24,21 @@ ddoc_value None = null
 ddoc_value (Some s) = text s
 
 -- the array of the five parts
-abbrev pub place_value : RowPosition → Value
-place_value p = list (item (ddoc_value p.ddoc) (item (text p.name) (item (text (direction_word p.direction)) (item (list p.key) (item (text p.id) no_items)))))
+abbrev pub place_value : RowPlace → Value
+place_value p = list (item (ddoc_value p.ddoc) (item (text p.name) (item (text (direction_name p.direction)) (item (list p.key) (item (text p.id) no_items)))))
 
 -- the spelling of a place: its bookmark
-abbrev pub spelled : RowPosition → List ℕ
+abbrev pub spelled : RowPlace → List ℕ
 spelled p = encode_of url_safe_no_pad (compact (place_value p))
 
 -- the text is the spelling of the place, whose array can be read back: its texts are UTF-8, its numbers held as i64, and
 -- it nests at most 127 deep
-abbrev pub Spells : List ℕ → RowPosition → Type 0
+abbrev pub Spells : List ℕ → RowPlace → Type 0
 Spells t p = (t ≡ spelled p) × Reads (compact (place_value p)) (place_value p)
 
 -- JSON text can carry the place: the values of its key nest at most 125 deep, two less than a text that can be read, because they
 -- are in an array within the array; the key's numbers are i64, and its objects have their names in order; and each text is UTF-8
-pub record CanBeSpelled (p : RowPosition) : Type 0 where
+pub record CanBeSpelled (p : RowPlace) : Type 0 where
   pub shallow : items_depth p.key ≤ 125
   pub held : ItemsAreHeld p.key
   pub key : IsUtf8 (compact (list p.key))
@@ -50,7 +50,7 @@ pub record CanBeSpelled (p : RowPosition) : Type 0 where
 
 -- the reading of a text that a client sends back: the beginning for `nil`, the place whose spelling it is, or `None` if it is not a
 -- bookmark; a law says that each text has exactly one reading
-abbrev pub IsReadAs : List ℕ → Option (Option RowPosition) → Type 0
+abbrev pub IsReadAs : List ℕ → Option (Option RowPlace) → Type 0
 IsReadAs t (Some None) = t ≡ codes "nil"
 IsReadAs t (Some (Some p)) = (t ≢ codes "nil") × Spells t p
-IsReadAs t None = (t ≢ codes "nil") × ((p : RowPosition) → ¬ Spells t p)
+IsReadAs t None = (t ≢ codes "nil") × ((p : RowPlace) → ¬ Spells t p)

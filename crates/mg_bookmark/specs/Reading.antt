@@ -7,7 +7,7 @@ use Rattle.serde_json.specs.Read.{read}
 use Rattle.mg_value.specs.Value.{Value, null, text, list, item, no_items}
 use Rattle.mg_value.specs.Text.{compact, whole_of}
 use Rattle.mg_collate.specs.Direction.{direction_named}
-use Rattle.mg_bookmark.specs.Bookmark.{RowPosition, place_value, spelled}
+use Rattle.mg_bookmark.specs.Bookmark.{RowPlace, place_value, spelled}
 
 -- the design document that a value names: a text, or `None` for null
 abbrev pub ddoc_in : Value → Option (Option (List ℕ))
@@ -16,7 +16,7 @@ ddoc_in (text s) = Some (Some s)
 ddoc_in v = None
 
 -- the place whose five parts an array has
-abbrev pub place_in : Value → Option RowPosition
+abbrev pub place_in : Value → Option RowPlace
 place_in (list (item d (item (text name) (item (text word) (item (list key) (item (text id) no_items)))))) =
     option_and_then (λ ddoc. option_map (λ direction. record { ddoc = ddoc; name = name; direction = direction; key = key; id = id }) (direction_named word)) (ddoc_in d)
 place_in v = None
@@ -26,13 +26,13 @@ abbrev pub value_in : List ℕ → Option Value
 value_in bytes = if is_utf8 bytes then option_and_then whole_of (read bytes) else None
 
 -- the place, if the text is its spelling and its array is UTF-8
-abbrev pub if_spelled : List ℕ → RowPosition → Option RowPosition
+abbrev pub if_spelled : List ℕ → RowPlace → Option RowPlace
 if_spelled t p = if bytes_eq t (spelled p) && is_utf8 (compact (place_value p)) then Some p else None
 
 -- the place whose spelling a text is, if there is one
-abbrev pub place_read : List ℕ → Option RowPosition
+abbrev pub place_read : List ℕ → Option RowPlace
 place_read t = option_and_then (if_spelled t) (option_and_then place_in (option_and_then value_in (decoded_of url_safe_no_pad t)))
 
 -- the reading of a text
-abbrev pub bookmark_read : List ℕ → Option (Option RowPosition)
+abbrev pub bookmark_read : List ℕ → Option (Option RowPlace)
 bookmark_read t = if bytes_eq t (codes "nil") then Some None else option_map Some (place_read t)

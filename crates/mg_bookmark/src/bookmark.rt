@@ -23,13 +23,13 @@ pub struct Bookmark {
 }
 
 impl Bookmark {
-    ghost use Rattle.mg_bookmark.specs.Bookmark.{RowPosition, Spells, spelled};
+    ghost use Rattle.mg_bookmark.specs.Bookmark.{RowPlace, Spells, spelled};
     ghost use Rattle.mg_bookmark.specs.Reading.{bookmark_read};
     ghost use Rattle.mg_bookmark.specs.Seen.{place_at, bookmark_place};
 
     /// The text that a client gets: the five parts as a compact JSON array, in URL-safe base64 without
     /// padding (RFC 4648). The design document of `_all_docs` is null, and the direction is `asc` or
-    /// `desc`.
+    /// `desc`. `decode` reads the text back if the values of the key nest at most 125 deep.
     ///
     /// Errors: `NoMemory` if an allocation fails. Cost: the size of the key.
     pub fn encode(&self, alloc: Global) -> Result<String, NoMemory>
@@ -61,7 +61,7 @@ impl Bookmark {
         ensures none { (result ≡ Ok None) ↔ (text.now ≡ codes "nil") }
         ensures some { IfOk result (λ found. IfSome found (λ b. Spells text.now (bookmark_place b))) }
         ensures invalid { result ≡ Err BookmarkError.Invalid
-            → (¬ (text.now ≡ codes "nil")) × ((p : RowPosition) → ¬ Spells text.now p) }
+            → (¬ (text.now ≡ codes "nil")) × ((p : RowPlace) → ¬ Spells text.now p) }
         ensures read { IfOk result
             (λ found. bookmark_read text.now ≡ Some (option_map bookmark_place found)) }
         ensures unread { result ≡ Err BookmarkError.Invalid → bookmark_read text.now ≡ None }

@@ -5,7 +5,7 @@ use thiserror::Error;
 /// Why a text is not read as a bookmark.
 #[derive(Clone, Copy, PartialEq, Eq, Debug, Drop, Error)]
 pub enum BookmarkError {
-    /// The text is neither `nil` nor what `Bookmark::encode` writes.
+    /// The text is neither `nil` nor what `Bookmark::encode` writes, or its array nests more than 127 deep.
     #[error("invalid bookmark")]
     Invalid,
     /// An allocation failed.

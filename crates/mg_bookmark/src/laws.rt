@@ -1,21 +1,21 @@
 //! The laws of reading a bookmark's text. Each is the contract of a function that does nothing.
 ghost use Rattle.std.specs.Prelude.{◌≡◌, ◌↔◌, ℕ, List, Option, Some};
-ghost use Rattle.mg_bookmark.specs.Bookmark.{CanBeSpelled, IsReadAs, RowPosition, Spells, spelled};
+ghost use Rattle.mg_bookmark.specs.Bookmark.{CanBeSpelled, IsReadAs, RowPlace, Spells, spelled};
 ghost use Rattle.mg_bookmark.specs.Reading.{bookmark_read, place_read};
 
 /// Each text has exactly one reading. So it is the spelling of at most one place.
 pub fn each_text_has_one_reading()
     ensures some { (t : List ℕ) → IsReadAs t (bookmark_read t) }
-    ensures one { (t : List ℕ) (r s : Option (Option RowPosition)) → IsReadAs t r → IsReadAs t s → r ≡ s }
+    ensures one { (t : List ℕ) (r s : Option (Option RowPlace)) → IsReadAs t r → IsReadAs t s → r ≡ s }
 {}
 
 /// A text is read as a place exactly if it is that place's spelling.
 pub fn reading_gives_what_is_spelled()
-    ensures { (t : List ℕ) (p : RowPosition) → Spells t p ↔ (place_read t ≡ Some p) }
+    ensures { (t : List ℕ) (p : RowPlace) → Spells t p ↔ (place_read t ≡ Some p) }
 {}
 
 /// A place is read back from its spelling if JSON text can carry it (`CanBeSpelled`): above all, its key
 /// nests at most 125 deep.
 pub fn what_is_spelled_is_read()
-    ensures { (p : RowPosition) → CanBeSpelled p → bookmark_read (spelled p) ≡ Some (Some p) }
+    ensures { (p : RowPlace) → CanBeSpelled p → bookmark_read (spelled p) ≡ Some (Some p) }
 {}

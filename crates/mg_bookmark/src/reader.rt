@@ -2,10 +2,10 @@
 ghost use Rattle.std.specs.Prelude.{◌≡◌, ℕ, List, Option, Err, IfOk, option_map, string_bytes};
 ghost use Rattle.mg_value.specs.Value.{list, text, Items};
 ghost use Rattle.mg_value.specs.View.{view, items_view};
-ghost use Rattle.mg_bookmark.specs.Bookmark.{RowPosition, place_value, ddoc_value};
+ghost use Rattle.mg_bookmark.specs.Bookmark.{RowPlace, place_value, ddoc_value};
 ghost use Rattle.mg_bookmark.specs.Decoding.{five};
 ghost use Rattle.mg_bookmark.specs.Seen.{bookmark_place};
-ghost use Rattle.mg_collate.specs.Direction.{direction_word};
+ghost use Rattle.mg_collate.specs.Direction.{direction_name};
 ghost use Rattle.mg_collate.specs.declared.direction.Direction.{Direction as DirectionValue};
 
 use crate::bookmark::Bookmark;
@@ -18,7 +18,7 @@ use std::alloc::Global;
 pub(crate) fn bookmark_in(alloc: Global, value: &Json) -> Result<Bookmark, BookmarkError>
     ensures ok { IfOk result (λ b. view value.now ≡ place_value (bookmark_place b)) }
     ensures invalid { result ≡ Err BookmarkError.Invalid
-        → (p : RowPosition) → ¬ (view value.now ≡ place_value p) }
+        → (p : RowPlace) → ¬ (view value.now ≡ place_value p) }
 {
     match value {
         Json::List(items) => bookmark_of(alloc, items),
@@ -29,7 +29,7 @@ pub(crate) fn bookmark_in(alloc: Global, value: &Json) -> Result<Bookmark, Bookm
 fn bookmark_of(alloc: Global, items: &[Json]) -> Result<Bookmark, BookmarkError>
     ensures ok { IfOk result (λ b. list (items_view items.now) ≡ place_value (bookmark_place b)) }
     ensures invalid { result ≡ Err BookmarkError.Invalid
-        → (p : RowPosition) → ¬ (list (items_view items.now) ≡ place_value p) }
+        → (p : RowPlace) → ¬ (list (items_view items.now) ≡ place_value p) }
 {
     if items.len() != 5 {
         return Err(BookmarkError::Invalid);
@@ -47,7 +47,7 @@ fn bookmark_with(
 ) -> Result<Bookmark, BookmarkError>
     ensures ok { IfOk result (λ b. five (view ddoc.now) (view name.now) (view direction.now)
         (view key.now) (view id.now) ≡ place_value (bookmark_place b)) }
-    ensures invalid { result ≡ Err BookmarkError.Invalid → (p : RowPosition)
+    ensures invalid { result ≡ Err BookmarkError.Invalid → (p : RowPlace)
         → ¬ (five (view ddoc.now) (view name.now) (view direction.now) (view key.now) (view id.now)
         ≡ place_value p) }
 {
@@ -89,9 +89,9 @@ fn text_in(value: &Json) -> Result<String, BookmarkError>
 }
 
 fn direction_in(value: &Json) -> Result<Direction, BookmarkError>
-    ensures ok { IfOk result (λ direction. view value.now ≡ text (direction_word direction)) }
+    ensures ok { IfOk result (λ direction. view value.now ≡ text (direction_name direction)) }
     ensures invalid { result ≡ Err BookmarkError.Invalid
-        → (direction : DirectionValue) → ¬ (view value.now ≡ text (direction_word direction)) }
+        → (direction : DirectionValue) → ¬ (view value.now ≡ text (direction_name direction)) }
 {
     match value {
         Json::Text(word) => direction_named(word.as_str()),
@@ -100,9 +100,9 @@ fn direction_in(value: &Json) -> Result<Direction, BookmarkError>
 }
 
 fn direction_named(word: &str) -> Result<Direction, BookmarkError>
-    ensures ok { IfOk result (λ direction. word.now ≡ direction_word direction) }
+    ensures ok { IfOk result (λ direction. word.now ≡ direction_name direction) }
     ensures invalid { result ≡ Err BookmarkError.Invalid
-        → (direction : DirectionValue) → ¬ (word.now ≡ direction_word direction) }
+        → (direction : DirectionValue) → ¬ (word.now ≡ direction_name direction) }
 {
     match Direction::named(word) {
         Some(direction) => Ok(direction),

@@ -5,7 +5,7 @@ ghost use Rattle.base64.specs.Engines.{url_safe_no_pad};
 ghost use Rattle.mg_value.specs.Text.{Reads, compact};
 ghost use Rattle.mg_value.specs.Value.{Value};
 ghost use Rattle.mg_value.specs.View.{view};
-ghost use Rattle.mg_bookmark.specs.Bookmark.{RowPosition, Spells, place_value};
+ghost use Rattle.mg_bookmark.specs.Bookmark.{RowPlace, Spells, place_value};
 ghost use Rattle.mg_bookmark.specs.Seen.{bookmark_place};
 ghost use Rattle.mg_bookmark.specs.Decoding.{IsDecoded};
 
@@ -20,7 +20,7 @@ use std::alloc::Global;
 // The bookmark that the text spells. Its array is written again, to refuse other spellings of the same array.
 pub(crate) fn read_spelling(alloc: Global, text: &str) -> Result<Bookmark, BookmarkError>
     ensures ok { IfOk result (λ b. Spells text.now (bookmark_place b)) }
-    ensures invalid { result ≡ Err BookmarkError.Invalid → (p : RowPosition) → ¬ Spells text.now p }
+    ensures invalid { result ≡ Err BookmarkError.Invalid → (p : RowPlace) → ¬ Spells text.now p }
 {
     let bytes = from_base64(alloc, text)?;
     let value = from_json(alloc, &bytes)?;

@@ -7,7 +7,7 @@ ghost use Rattle.mg_value.specs.Value.{list, item, text, no_items};
 ghost use Rattle.mg_value.specs.View.{items_view};
 ghost use Rattle.mg_bookmark.specs.Bookmark.{ddoc_value};
 ghost use Rattle.mg_bookmark.specs.Seen.{key_at};
-ghost use Rattle.mg_collate.specs.Direction.{direction_word};
+ghost use Rattle.mg_collate.specs.Direction.{direction_name};
 
 use crate::parts::RowKey;
 use json::Writer;
@@ -41,9 +41,9 @@ fn with_null(mut out: Vec<u8>) -> Result<Vec<u8>, NoMemory>
 }
 
 pub(crate) fn with_direction(out: Vec<u8>, direction: Direction) -> Result<Vec<u8>, NoMemory>
-    ensures { IfOk result (λ b. b.items ≡ out.items ++ quoted (direction_word direction)) }
+    ensures { IfOk result (λ b. b.items ≡ out.items ++ quoted (direction_name direction)) }
 {
-    with_text(out, direction.word())
+    with_text(out, direction.name())
 }
 
 // The key of the row of the document with this id.

@@ -7,15 +7,15 @@ use Rattle.mg_collate.specs.declared.direction.Direction.{Direction}
 use Rattle.mg_collate.specs.declared.direction.Direction.TheVariants.{Asc, Desc}
 
 -- the text that names a direction
-abbrev pub direction_word : Direction → List ℕ
-direction_word Asc = codes "asc"
-direction_word Desc = codes "desc"
+abbrev pub direction_name : Direction → List ℕ
+direction_name Asc = codes "asc"
+direction_name Desc = codes "desc"
 
 -- the direction that a text names
 abbrev pub direction_named : List ℕ → Option Direction
-direction_named word = if bytes_eq word (codes "asc") then Some Asc else if bytes_eq word (codes "desc") then Some Desc else None
+direction_named name = if bytes_eq name (codes "asc") then Some Asc else if bytes_eq name (codes "desc") then Some Desc else None
 
--- an ascending order, turned to a direction: descending reverses it
+-- the order of two rows in a direction, given their ascending order: descending reverses it
 abbrev pub directed : Direction → Ordering → Ordering
 directed Asc order = order
 directed Desc order = ordering_reverse order

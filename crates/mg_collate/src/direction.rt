@@ -9,19 +9,19 @@ pub enum Direction {
 
 impl Direction {
     ghost use Rattle.std.specs.Prelude.{◌≡◌, None, IfSome};
-    ghost use Rattle.mg_collate.specs.Direction.{directed, direction_named, direction_word};
+    ghost use Rattle.mg_collate.specs.Direction.{directed, direction_named, direction_name};
     ghost use Rattle.mg_collate.specs.declared.direction.Direction.{Direction as DirectionValue};
 
     /// The direction that a text names, `asc` or `desc`; `None` for any other text. Takes no memory.
     ///
     /// Source: `sort` in CouchDB's API reference.
-    pub fn named(word: &str) -> Option<Direction>
-        ensures direction { result ≡ direction_named word.now }
-        ensures some { IfSome result (λ direction. word.now ≡ direction_word direction) }
+    pub fn named(name: &str) -> Option<Direction>
+        ensures direction { result ≡ direction_named name.now }
+        ensures some { IfSome result (λ direction. name.now ≡ direction_name direction) }
         ensures none { result ≡ None
-            → (direction : DirectionValue) → ¬ (word.now ≡ direction_word direction) }
+            → (direction : DirectionValue) → ¬ (name.now ≡ direction_name direction) }
     {
-        match word {
+        match name {
             "asc" => Some(Direction::Asc),
             "desc" => Some(Direction::Desc),
             _ => None,
@@ -29,8 +29,8 @@ impl Direction {
     }
 
     /// The text that names the direction, as `named` reads it: `asc` or `desc`. Takes no memory.
-    pub fn word(self) -> &'static str
-        ensures { result.now ≡ direction_word self }
+    pub fn name(self) -> &'static str
+        ensures { result.now ≡ direction_name self }
     {
         match self {
             Direction::Asc => "asc",

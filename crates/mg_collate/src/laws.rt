@@ -102,7 +102,7 @@ pub fn rows_are_ordered_in_both_directions()
         (ordering_reverse (slice_cmp nat_cmp a.1 b.1)) }
 {}
 
-/// Sorted rows are in order, and are the given rows, each as often; no other list is both.
+/// Sorted rows are in order, and are the given rows, each as often as given; no other list is both.
 /// Sorted descending, they are the reverse of the rows sorted ascending.
 pub fn rows_are_sorted_one_way()
     ensures in_order { (direction : Direction) (rows : List RowValue)

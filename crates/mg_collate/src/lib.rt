@@ -1,4 +1,4 @@
-//! The order of values, keys and index rows: CouchDB's view collation, but strings by code point.
+//! The order of values, keys and index rows: CouchDB's view collation, but strings by code point and members by name.
 #![tactic(auto)]
 
 mod direction;

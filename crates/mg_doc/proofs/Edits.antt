@@ -16,11 +16,11 @@ use Rattle.mg_revtree.specs.declared.error.TreeError.TheVariants.{NotLeaf as not
 use Rattle.mg_revtree.proofs.Extend.{refused_position}
 use Rattle.mg_revtree.proofs.Replicas.{whole_fits, whole_stands}
 use Rattle.mg_doc.specs.Applied.{Applied, Foreseen, Refuses, error_of, refusal_in}
-use Rattle.mg_doc.specs.Brought.{Brings, Missing}
+use Rattle.mg_doc.specs.Brought.{Brings, ReportsRefusal}
 use Rattle.mg_doc.specs.Base.{LooksFor, Misfits, base_found, extended_by, look_of, made_found, made_on, unplaced}
 use Rattle.mg_doc.specs.Digest.{digest_of}
 use Rattle.mg_doc.specs.Document.{Edit}
-use Rattle.mg_doc.specs.Edit.{Accepted, accepted_by, extended, first_refusal, history_after, is_unnamed, made_over, newest_accepted, refused_by, replicated, unless}
+use Rattle.mg_doc.specs.Edit.{Accepted, accepted_by, extended, first_refusal, history_after, must_name, made_over, newest_accepted, refused_by, replicated, unless}
 use Rattle.mg_doc.specs.Conversions.{error_of_merge, error_of_tree}
 use Rattle.mg_doc.specs.declared.change.Change.TheVariants.{New, Replica}
 use Rattle.mg_doc.specs.declared.error.EditError.{EditError}
@@ -54,7 +54,7 @@ misfits : (h : Paths) (run : List Revision) → fits h run ≡ false → replica
 misfits h [] f = refl
 misfits h (q ∷ qs) f = rw f refl
 
-pub not_merged : (h : Paths) (run : List Revision) (x : MergeError) → (fits h run ≡ true → x ≡ merge_refused) → Missing (replicated h run) (refusal_in (error_of_merge x))
+pub not_merged : (h : Paths) (run : List Revision) (x : MergeError) → (fits h run ≡ true → x ≡ merge_refused) → ReportsRefusal (replicated h run) (refusal_in (error_of_merge x))
 not_merged h run misfit f = elim (two (fits h run)) [
   | inl t ↦ absurd (let e : misfit ≡ merge_refused = f t in cc)
   | inr n ↦ misfits h run n
@@ -63,7 +63,7 @@ not_merged h run merge_refused f = tt
 
 -- ---- a new edit
 
-pub not_made : (o : Option TreeRefusal) (x : TreeError) (a : Accepted) → Decides o (Err x) → Missing (unless (option_map refused_by o) a) (refusal_in (error_of_tree x))
+pub not_made : (o : Option TreeRefusal) (x : TreeError) (a : Accepted) → Decides o (Err x) → ReportsRefusal (unless (option_map refused_by o) a) (refusal_in (error_of_tree x))
 not_made None not_leaf a d = absurd (let e : not_leaf ≡ tree_refused = d in cc)
 not_made None full a d = absurd (let e : full ≡ tree_refused = d in cc)
 not_made None known a d = absurd (let e : known ≡ tree_refused = d in cc)
@@ -118,7 +118,7 @@ made_over_base h d b base id copy n t e f r p s =
     subst Q (sym (f ∙ e)) (made_now h d b base n t (subst R e r) p (subst S e s))
 
 -- where there is nothing to extend
-pub no_base : (h : Paths) (d : Bool) (b : Value) (named : Option Revision) (o : Option EditRefusal) → Missing (base_found h named) o → Missing (extended_by h d b named) o
+pub no_base : (h : Paths) (d : Bool) (b : Value) (named : Option Revision) (o : Option EditRefusal) → ReportsRefusal (base_found h named) o → ReportsRefusal (extended_by h d b named) o
 no_base h d b named None k = tt
 no_base h d b named (Some refused) k = ap (made_found h d b) k
 
@@ -129,10 +129,10 @@ found_made h d b named base r t e k = let P : Result Accepted EditRefusal → Ty
 
 -- the steps of the code make what an edit makes
 pub extended_is : (h : Paths) (d : Bool) (b : Value) (named : Option Revision) → extended_by h d b named ≡ extended h d b named
-extended_is h d b named = elim (two (is_unnamed h named)) [ inl t ↦ rw t refl | inr f ↦ rw f refl ]
+extended_is h d b named = elim (two (must_name h named)) [ inl t ↦ rw t refl | inr f ↦ rw f refl ]
 
 pub first_is : (h : Paths) (named : Option Revision) → unplaced h (base_found h named) ≡ first_refusal h (New named)
-first_is h named = elim (two (is_unnamed h named)) [ inl t ↦ rw t refl | inr f ↦ rw f refl ]
+first_is h named = elim (two (must_name h named)) [ inl t ↦ rw t refl | inr f ↦ rw f refl ]
 
 -- why nothing is made over a base, as far as it is known before the revision is made
 pub base_refused : (h : Paths) (named : Option Revision) (refused : EditRefusal) → base_found h named ≡ Err refused → first_refusal h (New named) ≡ Some refused

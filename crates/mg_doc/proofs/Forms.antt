@@ -5,7 +5,7 @@ use Rattle.std.specs.Option.{option_map_or}
 use Rattle.mg_value.specs.Value.{Items, no_items, item, text, null, flag, whole, list, object, item_list}
 use Rattle.mg_revtree.specs.Revision.{is_revision_id, run_of, run_from}
 use Rattle.mg_doc.specs.Document.{path_ids}
-use Rattle.mg_doc.specs.Form.{are_ids}
+use Rattle.mg_doc.specs.WellFormed.{are_ids}
 
 -- what is not absent is there
 pub there_unless_none : {A : Type 0} (o : Option A) → (o ≡ None → ⊥) → true ≡ is_some o

@@ -3,10 +3,10 @@ use Rattle.std.proofs.Common.{◌≡◌, ℕ, ◌+◌, ◌<◌, List, [], ◌∷
 use Rattle.mg_value.specs.Value.{text, Items, item, item_list, Members, member_list}
 use Rattle.mg_value.proofs.Items.{items_past}
 use Rattle.mg_packed.specs.Read.{nth_item, nth_name}
-use Rattle.mg_packed.specs.Weight.{members_past}
+use Rattle.mg_packed.specs.Walk.{members_past}
 use Rattle.mg_packed.proofs.Walks.{item_next, member_next}
 use Rattle.mg_doc.specs.Document.{has_known_names, path_ids}
-use Rattle.mg_doc.specs.Form.{are_ids, is_id, is_known_name}
+use Rattle.mg_doc.specs.WellFormed.{are_ids, is_rev_id_value, is_known_name}
 
 one_later : (i : ℕ) → suc i ≡ i + 1
 one_later i = omega arith
@@ -18,8 +18,8 @@ known_next ms i h = ap has_known_names (member_next ms i h) ∙ ap (λ n. is_kno
 
 -- ---- the ids of a path
 
-pub ids_next : (vs : Items) (i : ℕ) → i < length (item_list vs) → are_ids (items_past i vs) ≡ (is_id (nth_item vs i) && are_ids (items_past (i + 1) vs))
-ids_next vs i h = ap are_ids (item_next vs i h) ∙ ap (λ n. is_id (nth_item vs i) && are_ids (items_past n vs)) (one_later i)
+pub ids_next : (vs : Items) (i : ℕ) → i < length (item_list vs) → are_ids (items_past i vs) ≡ (is_rev_id_value (nth_item vs i) && are_ids (items_past (i + 1) vs))
+ids_next vs i h = ap are_ids (item_next vs i h) ∙ ap (λ n. is_rev_id_value (nth_item vs i) && are_ids (items_past n vs)) (one_later i)
 
 -- a text is one more id
 more_of : (texts : List (List ℕ)) (s : List ℕ) (o : Option (List (List ℕ)))

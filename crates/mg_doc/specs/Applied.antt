@@ -1,7 +1,7 @@
 -- What applying an edit to a tree gives, for each history that the tree stands for.
 use Rattle.std.specs.Prelude.{◌≡◌, Bool, false, true, Option, Some, None, Result, Ok, Err}
 use Rattle.mg_revtree.specs.Revision.{Revision}
-use Rattle.mg_revtree.specs.History.{Paths, is_whole}
+use Rattle.mg_revtree.specs.History.{Paths, is_known_whole}
 use Rattle.mg_revtree.specs.Tree.{Tree, StandsFor}
 use Rattle.mg_doc.specs.Document.{Edit}
 use Rattle.mg_doc.specs.Edit.{edited, first_refusal, outcome_of}
@@ -38,7 +38,7 @@ Applied h e (Err x) t = Refuses h e (refusal_in x)
 -- whether a change is a replica's path that is known whole, which changes nothing
 abbrev pub changes_nothing : Paths → Change → Bool
 changes_nothing h (New named) = false
-changes_nothing h (Replica run) = is_whole h run
+changes_nothing h (Replica run) = is_known_whole h run
 
 -- an edit is ready: the history does not refuse it before its revision is made, and does not know its path whole
 abbrev pub IsReady : Paths → Edit → Type 0

@@ -3,13 +3,13 @@ use Rattle.std.specs.Prelude.{◌≡◌, true, false, Bool, List, Option, Some, 
 use Rattle.std.specs.Result.{result_err}
 use Rattle.mg_value.specs.Value.{Value}
 use Rattle.mg_revtree.specs.Revision.{Revision}
-use Rattle.mg_revtree.specs.History.{Paths, fits, is_whole, newest_of}
+use Rattle.mg_revtree.specs.History.{Paths, fits, is_known_whole, newest_of}
 use Rattle.mg_revtree.specs.Changes.{next_position, refusal_of}
 use Rattle.mg_doc.specs.Applied.{refusal_in}
-use Rattle.mg_doc.specs.Brought.{Missing}
+use Rattle.mg_doc.specs.Brought.{ReportsRefusal}
 use Rattle.mg_doc.specs.Digest.{digest_of}
 use Rattle.mg_doc.specs.Document.{Edit}
-use Rattle.mg_doc.specs.Edit.{Accepted, base_of, is_unnamed, made_over, refused_by, unless}
+use Rattle.mg_doc.specs.Edit.{Accepted, base_of, must_name, made_over, refused_by, unless}
 use Rattle.mg_doc.specs.declared.edit.apply.Look.{Look}
 use Rattle.mg_doc.specs.declared.edit.apply.Look.TheVariants.{Known, Ready}
 use Rattle.mg_doc.specs.declared.error.EditError.{EditError}
@@ -18,19 +18,19 @@ use Rattle.mg_doc.specs.declared.error.EditRefusal.TheVariants.{BadHistory, Conf
 
 -- the base that is extended, or why the edit is refused
 abbrev pub base_found : Paths → Option Revision → Result (Option Revision) EditRefusal
-base_found h named = if is_unnamed h named then Err Conflict else Ok (base_of h named)
+base_found h named = if must_name h named then Err Conflict else Ok (base_of h named)
 
--- what is made over a base
+-- the path of a new revision over a base, or why the edit is refused
 abbrev pub made_on : Paths → Bool → Value → Option Revision → Result Accepted EditRefusal
 made_on h deleted body base =
     unless (option_map refused_by (refusal_of h base (digest_of deleted base body))) (made_over base (digest_of deleted base body))
 
--- what is made over the base that is found
+-- the path of a new revision over the base that is found, or why the edit is refused
 abbrev pub made_found : Paths → Bool → Value → Result (Option Revision) EditRefusal → Result Accepted EditRefusal
 made_found h deleted body (Ok base) = made_on h deleted body base
 made_found h deleted body (Err refused) = Err refused
 
--- a new edit, by the steps of the code
+-- the path that a new edit brings, or why it is refused, by the steps of the code
 abbrev pub extended_by : Paths → Bool → Value → Option Revision → Result Accepted EditRefusal
 extended_by h deleted body named = made_found h deleted body (base_found h named)
 
@@ -39,10 +39,10 @@ abbrev pub unplaced : Paths → Result (Option Revision) EditRefusal → Option 
 unplaced h (Ok base) = option_map refused_by (result_err (next_position h base))
 unplaced h (Err refused) = Some refused
 
--- a copied base, or why there is none
+-- a copied base is the base that is found; an error reports the refusal, or that memory ran out
 abbrev pub CopyIs : Result (Option Revision) EditRefusal → Result (Option Revision) EditError → Type 0
 CopyIs said (Ok base) = said ≡ Ok base
-CopyIs said (Err x) = Missing said (refusal_in x)
+CopyIs said (Err x) = ReportsRefusal said (refusal_in x)
 
 -- a reported refusal of a path is that it does not fit; without a refusal the path fits
 abbrev pub Misfits : Paths → List Revision → Option EditRefusal → Type 0
@@ -51,8 +51,8 @@ Misfits h run None = fits h run ≡ true
 
 -- the look-up of a path: it is known whole; or it is not, but fits; or it does not fit
 abbrev pub LooksFor : Paths → List Revision → Result (Option Revision) EditError → Type 0
-LooksFor h run (Ok (Some r)) = (newest_of run ≡ Some r) × (is_whole h run ≡ true)
-LooksFor h run (Ok None) = (fits h run ≡ true) × (is_whole h run ≡ false)
+LooksFor h run (Ok (Some r)) = (newest_of run ≡ Some r) × (is_known_whole h run ≡ true)
+LooksFor h run (Ok None) = (fits h run ≡ true) × (is_known_whole h run ≡ false)
 LooksFor h run (Err x) = Misfits h run (refusal_in x)
 
 -- what a look at an edit returns if it found the newest revision of a path that is known whole, or found nothing

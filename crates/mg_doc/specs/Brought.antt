@@ -11,11 +11,11 @@ use Rattle.mg_doc.specs.declared.error.EditError.{EditError}
 use Rattle.mg_doc.specs.declared.error.EditRefusal.{EditRefusal}
 
 -- a reported refusal is the one that the definition gives
-abbrev pub Missing : {A : Type 0} → Result A EditRefusal → Option EditRefusal → Type 0
-Missing said (Some refused) = said ≡ Err refused
-Missing said None = Unit {0}
+abbrev pub ReportsRefusal : {A : Type 0} → Result A EditRefusal → Option EditRefusal → Type 0
+ReportsRefusal said (Some refused) = said ≡ Err refused
+ReportsRefusal said None = Unit {0}
 
 -- a path is accepted, and the tree then stands for the history with it; or an error says why it is not
 abbrev pub Brings : Paths → Bool → Value → Result Accepted EditRefusal → Result Revision EditError → Tree → Type 0
 Brings h deleted body said (Ok r) t = (rs : List Revision) × (said ≡ Ok (r, rs)) × StandsFor t (with_path h (path_of (r ∷ rs) deleted body))
-Brings h deleted body said (Err x) t = Missing said (refusal_in x)
+Brings h deleted body said (Err x) t = ReportsRefusal said (refusal_in x)

@@ -1,4 +1,4 @@
--- For the conversions of errors: the error of an edit that an error of its tree becomes.
+-- For the conversions of errors: which error of an edit reports an error of its tree.
 use Rattle.mg_revtree.specs.declared.error.MergeError.{MergeError}
 use Rattle.mg_revtree.specs.declared.error.MergeError.TheVariants.{BadHistory as misfit, NoMemory as merge_refused}
 use Rattle.mg_revtree.specs.declared.error.TreeError.{TreeError}

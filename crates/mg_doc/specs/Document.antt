@@ -67,7 +67,7 @@ rev_of None = Some None
 rev_of (Some (text s)) = option_map Some (revision_of s)
 rev_of (Some v) = None
 
--- a revision that is a path by itself
+-- a revision whose position and id are valid: alone, it is a path that a replica may give
 abbrev pub IsRevision : Revision → Type 0
 IsRevision r = run_of r.0 (r.1 ∷ []) ≡ Some (r ∷ [])
 
@@ -77,7 +77,7 @@ path_ids no_items = Some []
 path_ids (item (text s) vs) = option_map (λ ids. s ∷ ids) (path_ids vs)
 path_ids (item v vs) = None
 
--- the path whose newest revision is at a position, which is at most 4,294,967,295
+-- the path that the values of `start` and `ids` give; `start` is at most 4,294,967,295
 abbrev pub run_at : Option Value → Option Value → Option (List Revision)
 run_at (Some (whole (pos start))) (Some (list ids)) = if nat_le start 4294967295 then option_and_then (run_of start) (path_ids ids) else None
 run_at start ids = None

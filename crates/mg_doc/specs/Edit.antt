@@ -27,8 +27,8 @@ is_alive None = false
 is_alive (Some l) = not l.deleted
 
 -- whether a new edit names no revision, though the winner is not deleted
-abbrev pub is_unnamed : Paths → Option Revision → Bool
-is_unnamed h named = is_none named && is_alive (winner_of h)
+abbrev pub must_name : Paths → Option Revision → Bool
+must_name h named = is_none named && is_alive (winner_of h)
 
 -- the base of a new edit: the revision that it names, or else the winner's, if there is a winner
 abbrev pub base_of : Paths → Option Revision → Option Revision
@@ -44,7 +44,7 @@ refused_by Known = Conflict
 -- why a new edit is refused, if it is: it names no revision, though the winner is not deleted; or a revision of this id
 -- cannot be made over its base
 abbrev pub refusal_over : Paths → Option Revision → List ℕ → Option EditRefusal
-refusal_over h named id = if is_unnamed h named then Some Conflict else option_map refused_by (refusal_of h (base_of h named) id)
+refusal_over h named id = if must_name h named then Some Conflict else option_map refused_by (refusal_of h (base_of h named) id)
 
 -- the path that a new edit brings: the revision of this id, and after it the base, if there is one
 abbrev pub made_over : Option Revision → List ℕ → Accepted
@@ -55,7 +55,7 @@ abbrev pub unless : Option EditRefusal → Accepted → Result Accepted EditRefu
 unless None accepted = Ok accepted
 unless (Some refused) accepted = Err refused
 
--- the path that a new edit brings, if the new revision's id is the digest of mark, base and body; or why the edit is refused
+-- the path that a new edit brings, or why it is refused; the new revision's id is the digest of mark, base and body
 abbrev pub extended : Paths → Bool → Value → Option Revision → Result Accepted EditRefusal
 extended h deleted body named =
     let base = base_of h named in
@@ -102,5 +102,5 @@ outcome_of h e = newest_accepted (accepted_by h e)
 
 -- every refusal but that of a made revision that is already known
 abbrev pub first_refusal : Paths → Change → Option EditRefusal
-first_refusal h (New named) = if is_unnamed h named then Some Conflict else option_map refused_by (result_err (next_position h (base_of h named)))
+first_refusal h (New named) = if must_name h named then Some Conflict else option_map refused_by (result_err (next_position h (base_of h named)))
 first_refusal h (Replica run) = if fits h run then None else Some BadHistory

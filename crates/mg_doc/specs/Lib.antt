@@ -9,4 +9,4 @@ pub mod Conversions
 pub mod Base
 pub mod Conflicts
 pub mod Ahead
-pub mod Form
+pub mod WellFormed

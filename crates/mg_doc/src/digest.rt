@@ -1,7 +1,7 @@
 ghost use Rattle.std.specs.Prelude.{◌≡◌, IfOk, IfSome, option_copied, string_bytes};
 ghost use Rattle.mg_value.specs.Text.{compact};
 ghost use Rattle.mg_doc.specs.Ahead.{named_in};
-ghost use Rattle.mg_doc.specs.Digest.{digest_of, parent_text as text_of_parent};
+ghost use Rattle.mg_doc.specs.Digest.{digest_of, parent_text};
 
 use crate::change::Change;
 use md5::{Digest, Md5};
@@ -72,7 +72,7 @@ pub(crate) fn id_over(
 
 // The parent in JSON: its text, or null.
 fn parent_text(alloc: Global, parent: Option<&Rev>) -> Result<Vec<u8>, NoMemory>
-    ensures { IfOk result (λ b. b.items ≡ compact (text_of_parent (option_copied parent.entry))) }
+    ensures { IfOk result (λ b. b.items ≡ compact (parent_text (option_copied parent.entry))) }
 {
     let value = match parent {
         None => Json::Null,

@@ -2,7 +2,7 @@ ghost use Rattle.std.specs.Prelude.{◌≡◌, IfOk, IfSome, IsOk, None, option_
 ghost use Rattle.mg_value.specs.View.{view};
 ghost use Rattle.mg_revtree.specs.History.{Paths, Leaf as Winner, first_of};
 ghost use Rattle.mg_revtree.specs.Tree.{StandsFor};
-ghost use Rattle.mg_doc.specs.Served.{served_form as form_of, served_of};
+ghost use Rattle.mg_doc.specs.Served.{served_form, served_of};
 
 use mg_revtree::{Form, Leaf, RevTree};
 use mg_value::{Json, NoMemory};
@@ -16,7 +16,7 @@ use std::alloc::Global;
 pub fn served(alloc: Global, id: &str, tree: &RevTree) -> Result<Option<Json>, NoMemory>
     ensures served { IfOk result
         (λ o. (h : Paths) → StandsFor tree.now h → option_map view o ≡ served_of id.now h) }
-    ensures form { IfOk result (λ o. IfSome o (λ form. (l : Winner) × (view form ≡ form_of id.now l))) }
+    ensures form { IfOk result (λ o. IfSome o (λ form. (l : Winner) × (view form ≡ served_form id.now l))) }
     ensures none { (h : Paths) → StandsFor tree.now h → served_of id.now h ≡ None → IsOk result }
 {
     match tree.winner() {
@@ -31,7 +31,7 @@ pub fn served(alloc: Global, id: &str, tree: &RevTree) -> Result<Option<Json>, N
 
 // A leaf's body with the document's id and its revision.
 fn served_form(alloc: Global, id: &str, leaf: &Leaf) -> Result<Json, NoMemory>
-    ensures { IfOk result (λ form. view form ≡ form_of id.now leaf.now) }
+    ensures { IfOk result (λ form. view form ≡ served_form id.now leaf.now) }
 {
     let mut form = leaf.body.copy(alloc)?;
     form.insert(alloc, "_rev", Json::Text(leaf.rev.text(alloc)?))?;
@@ -42,12 +42,11 @@ fn served_form(alloc: Global, id: &str, leaf: &Leaf) -> Result<Json, NoMemory>
 /// The document that `served` gives, in one block of memory with its text. The winner's body moves into that block, as for
 /// `RevTree::move_body_into`. Contracts see the same tree.
 ///
-/// Errors: `NoMemory` if an allocation fails, or if there are too many references to the block; if there is no document, no memory is
-/// needed. Cost: that of `Body::form`; if the winner's body is already in the block of this form, the block is shared and no body is
-/// copied. Source: `GET` of a document in CouchDB's API reference.
+/// Errors and cost: those of `Body::form`; if there is no document, no memory is needed. Source: `GET` of a document in CouchDB's API
+/// reference.
 pub fn serve_form(alloc: Global, id: &str, tree: &mut RevTree) -> Result<Option<Form>, NoMemory>
     ensures served { IfOk result (λ o. (h : Paths) → StandsFor tree.old h → o ≡ served_of id.now h) }
-    ensures form { IfOk result (λ o. IfSome o (λ form. (l : Winner) × (form ≡ form_of id.now l))) }
+    ensures form { IfOk result (λ o. IfSome o (λ form. (l : Winner) × (form ≡ served_form id.now l))) }
     ensures none { (h : Paths) → StandsFor tree.old h → served_of id.now h ≡ None → IsOk result }
     ensures tree { tree.new ≡ tree.old }
 {
@@ -62,9 +61,9 @@ pub fn serve_form(alloc: Global, id: &str, tree: &mut RevTree) -> Result<Option<
 // The form of the winner, if it is not deleted.
 fn winner_form(alloc: Global, id: &str, tree: &RevTree) -> Result<Option<Form>, NoMemory>
     ensures served { IfOk result (λ o. (h : Paths) → StandsFor tree.now h → o ≡ served_of id.now h) }
-    ensures form { IfOk result (λ o. IfSome o (λ form. (l : Winner) × (form ≡ form_of id.now l))) }
+    ensures form { IfOk result (λ o. IfSome o (λ form. (l : Winner) × (form ≡ served_form id.now l))) }
     ensures first { IfOk result
-        (λ o. IfSome o (λ form. IfSome (first_of tree.now.leaves) (λ l. form ≡ form_of id.now l))) }
+        (λ o. IfSome o (λ form. IfSome (first_of tree.now.leaves) (λ l. form ≡ served_form id.now l))) }
     ensures none { (h : Paths) → StandsFor tree.now h → served_of id.now h ≡ None → IsOk result }
 {
     match tree.winner() {
@@ -75,7 +74,7 @@ fn winner_form(alloc: Global, id: &str, tree: &RevTree) -> Result<Option<Form>, 
 
 // The form of a leaf: its body with the document's id and its revision.
 fn leaf_form(alloc: Global, id: &str, leaf: &Leaf) -> Result<Form, NoMemory>
-    ensures { IfOk result (λ form. form ≡ form_of id.now leaf.now) }
+    ensures { IfOk result (λ form. form ≡ served_form id.now leaf.now) }
 {
     leaf.body.form(alloc, id, &leaf.rev.text(alloc)?)
 }

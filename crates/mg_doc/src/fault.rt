@@ -1,14 +1,14 @@
-//! Whether `_rev` and `_revisions` give a change. The answer does not depend on memory, and is found before anything is copied, so that
+//! Whether `_rev` and `_revisions` give a change. The answer does not depend on memory, and is found before the edit is copied, so that
 //! `NoMemory` never hides a fault.
 ghost use Rattle.std.specs.Prelude.{◌≡◌, Some, codes, is_some, option_and_then, option_map, pos};
 ghost use Rattle.mg_value.specs.Value.{get_member, whole};
 ghost use Rattle.mg_revtree.specs.Revision.{revision_of, run_of};
-ghost use Rattle.mg_doc.specs.Document.{change_given, path_ids as ids_of_path, rev_of, revisions_of, run_at};
-ghost use Rattle.mg_doc.specs.Form.{are_ids as all_ids, is_enough, is_id as gives_id};
+ghost use Rattle.mg_doc.specs.Document.{change_given, path_ids, rev_of, revisions_of, run_at};
+ghost use Rattle.mg_doc.specs.WellFormed.{are_ids, is_enough, is_rev_id_value};
 
 use crate::revisions::position;
 use mg_packed::{Array, Kind, Object, Part};
-use mg_revtree::{Rev, RevError, is_id};
+use mg_revtree::{Rev, RevError, is_rev_id};
 use std::alloc::Global;
 
 // Whether the members give a change: each of the two is well formed if it is there, and a replica gives at least one.
@@ -103,14 +103,14 @@ fn is_path_at(start: u32, ids: Option<Part<'_>>) -> bool
 // Whether these are 1 to `start` ids of revisions.
 #[tactic(auto, using(crate::proofs::Forms::path_of_ids))]
 fn is_path_of(start: u32, ids: &Array<'_>) -> bool
-    ensures { result ≡ is_some (option_and_then (run_of start) (ids_of_path ids.now)) }
+    ensures { result ≡ is_some (option_and_then (run_of start) (path_ids ids.now)) }
 {
     ids.len() > 0 && ids.len() <= start as usize && are_ids(ids)
 }
 
 // Whether each item is the id of a revision.
 fn are_ids(ids: &Array<'_>) -> bool
-    ensures { result ≡ all_ids ids.now }
+    ensures { result ≡ are_ids ids.now }
 {
     for index in 0..ids.len() {
         if !is_id_text(&ids.item(index)) {
@@ -121,10 +121,10 @@ fn are_ids(ids: &Array<'_>) -> bool
 }
 
 fn is_id_text(value: &Part<'_>) -> bool
-    ensures { result ≡ gives_id value.now }
+    ensures { result ≡ is_rev_id_value value.now }
 {
     match value.kind() {
-        Kind::Text(id) => is_id(id),
+        Kind::Text(id) => is_rev_id(id),
         _ => false,
     }
 }

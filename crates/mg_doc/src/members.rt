@@ -1,7 +1,7 @@
 ghost use Rattle.std.specs.Prelude.{◌≡◌, IfOk, codes, option_map};
 ghost use Rattle.mg_value.specs.Value.{get_member, object};
-ghost use Rattle.mg_doc.specs.Document.{has_known_names as are_known, id_of, is_document_id as is_id, is_reserved as reserved, is_special as special, mark_of, mark_read, own_members as own};
-ghost use Rattle.mg_doc.specs.Form.{is_known_name};
+ghost use Rattle.mg_doc.specs.Document.{has_known_names, id_of, is_document_id, is_reserved, is_special, mark_of, mark_read, own_members};
+ghost use Rattle.mg_doc.specs.WellFormed.{is_known_name};
 
 use crate::error::DocError;
 use mg_packed::{Kind, Object, Packed, Part};
@@ -27,14 +27,14 @@ pub(crate) fn id_in<'a>(members: &Object<'a>) -> Option<Option<&'a str>>
 
 // The body, in a block of its own: the members whose names are not reserved.
 pub(crate) fn own_body(alloc: Global, members: &Object<'_>) -> Result<Packed, NoMemory>
-    ensures { IfOk result (λ body. body ≡ object (own members.now)) }
+    ensures { IfOk result (λ body. body ≡ object (own_members members.now)) }
 {
     members.without_names_beginning(alloc, b'_')
 }
 
 // Whether each reserved name is one that a document may have.
 fn has_known_names(members: &Object<'_>) -> bool
-    ensures { result ≡ are_known members.now }
+    ensures { result ≡ has_known_names members.now }
 {
     for index in 0..members.len() {
         if !is_known(members.name(index)) {
@@ -53,7 +53,7 @@ fn is_known(name: &str) -> bool
 
 // Whether a reserved name is one that a document may have.
 fn is_special(name: &str) -> bool
-    ensures { result ≡ special name.now }
+    ensures { result ≡ is_special name.now }
 {
     matches!(
         name,
@@ -100,14 +100,14 @@ fn document_id<'a>(member: Option<Part<'a>>) -> Option<Option<&'a str>>
 
 // Whether a text may be an id: it is not empty and does not begin with an underscore.
 fn is_document_id(id: &str) -> bool
-    ensures { result ≡ is_id id.now }
+    ensures { result ≡ is_document_id id.now }
 {
     !id.is_empty() && !is_reserved(id)
 }
 
 // Whether a name is reserved: it begins with an underscore.
 fn is_reserved(name: &str) -> bool
-    ensures { result ≡ reserved name.now }
+    ensures { result ≡ is_reserved name.now }
 {
     name.as_bytes().first() == Some(&b'_')
 }

@@ -1,7 +1,7 @@
 ghost use Rattle.std.specs.Prelude.{◌≡◌, [], ◌∷◌, codes, map, pos, string_bytes, IfOk, IfSome, MatchOption, Ok, Option, Some, None};
 ghost use Rattle.std.specs.Result.{result_map_both};
 ghost use Rattle.mg_value.specs.Value.{Items, Value, get_member, item, text, whole};
-ghost use Rattle.mg_doc.specs.Document.{ReadsAs, IsRevision, change_by, change_given, or_fault, path_ids as ids_of_path, rev_of, revisions_of, run_at};
+ghost use Rattle.mg_doc.specs.Document.{ReadsAs, IsRevision, change_by, change_given, or_fault, path_ids, rev_of, revisions_of, run_at};
 
 use crate::change::Change;
 use crate::error::DocError;
@@ -134,7 +134,7 @@ fn path_at(alloc: Global, start: u32, member: Option<Part<'_>>) -> Result<Histor
 
 // Copies the ids of a path, each a text.
 fn path_ids(alloc: Global, ids: &Array<'_>) -> Result<Vec<String>, DocError>
-    ensures { ReadsAs (or_fault DocError.BadRev (ids_of_path ids.now))
+    ensures { ReadsAs (or_fault DocError.BadRev (path_ids ids.now))
         (result_map_both (λ texts. map string_bytes texts.items) (λ e. e) result) }
 {
     let count = ids.len();
@@ -151,7 +151,7 @@ fn path_ids(alloc: Global, ids: &Array<'_>) -> Result<Vec<String>, DocError>
 // The text of a value, if it is one.
 fn given_text<'a>(value: &Part<'a>) -> Option<&'a str>
     ensures { MatchOption result
-        ((rest : Items) → ids_of_path (item value.now rest) ≡ None)
+        ((rest : Items) → path_ids (item value.now rest) ≡ None)
         (λ id. value.now ≡ text id.now) }
 {
     match value.kind() {

@@ -12,7 +12,7 @@ use Rattle.mg_engine.specs.Stands.{definitions_of}
 use Rattle.std.specs.Arc.{arc_value}
 use Rattle.std.specs.declared.alloc.Global.{Global}
 use Rattle.std.specs.declared.sync.Arc.{Arc}
-use Rattle.mg_engine.specs.StateView.{AllLeave, before, fresh}
+use Rattle.mg_engine.specs.StateView.{AllFinishAs, before, fresh}
 
 -- ---- one position of a list
 
@@ -63,13 +63,13 @@ fresh_stand place shards hs law st =
 
 -- ---- what drafts leave
 
-pub left_number : (ds : List DraftView) (ss : List ShardView) → AllLeave ds ss → length ss ≡ length ds
+pub left_number : (ds : List DraftView) (ss : List ShardView) → AllFinishAs ds ss → length ss ≡ length ds
 left_number [] [] h = refl
 left_number [] (s ∷ ss) h = absurd h
 left_number (d ∷ ds) [] h = absurd h
 left_number (d ∷ ds) (s ∷ ss) h = ap suc (left_number ds ss h.1)
 
-left_at : (ds : List DraftView) (ss : List ShardView) → AllLeave ds ss → (i : ℕ) (s : ShardView) → slice_get ss i ≡ Some s
+left_at : (ds : List DraftView) (ss : List ShardView) → AllFinishAs ds ss → (i : ℕ) (s : ShardView) → slice_get ss i ≡ Some s
     → (d : DraftView) × (slice_get ds i ≡ Some d) × ((gs : Histories) → DraftStandsFor d gs → ShardStandsFor s gs)
 left_at [] [] h i s at = absurd cc
 left_at [] (s ∷ ss) h i t at = absurd h
@@ -77,10 +77,10 @@ left_at (d ∷ ds) [] h i s at = absurd h
 left_at (d ∷ ds) (s ∷ ss) h zero t at = (d, refl, λ gs st. subst (λ t. ShardStandsFor t gs) (ap (λ o. unwrap_or o s) at) (h.0.stands gs st))
 left_at (d ∷ ds) (s ∷ ss) h (suc i) t at = left_at ds ss h.1 i t at
 
-pub left_stand : (place : Placing) (ds : List DraftView) (ss : List ShardView) (hs : Histories) → DraftsBecomeShards → AllLeave ds ss → DraftsStandFor place ds hs → ShardsStandFor place ss hs
+pub left_stand : (place : Placing) (ds : List DraftView) (ss : List ShardView) (hs : Histories) → DraftsBecomeShards → AllFinishAs ds ss → DraftsStandFor place ds hs → ShardsStandFor place ss hs
 left_stand place ds ss hs law h st = law place ds ss hs (left_number ds ss h) (left_at ds ss h) st
 
-pub left_definitions : (ds : List DraftView) (ss : List ShardView) → AllLeave ds ss → definitions_of ss ≡ definitions_of (before ds)
+pub left_definitions : (ds : List DraftView) (ss : List ShardView) → AllFinishAs ds ss → definitions_of ss ≡ definitions_of (before ds)
 left_definitions [] [] h = refl
 left_definitions [] (s ∷ ss) h = absurd h
 left_definitions (d ∷ ds) [] h = absurd h

@@ -3,7 +3,7 @@ use Rattle.std.proofs.Common.{◌≡◌, ℕ, zero, suc, ◌<◌, Bool, true, fa
 use Rattle.std.proofs.lemmas.List.{length-map}
 use Rattle.std.proofs.lemmas.Option.{slice_get-map}
 use Rattle.std.specs.FinMap as finite
-use Rattle.mg_index.specs.Catalog.{definition_at, is_at, with_definition, without_definition}
+use Rattle.mg_index.specs.Catalog.{definition_at, is_named, with_definition, without_definition}
 use Rattle.mg_index.specs.Definition.{IndexDefinition}
 use Rattle.mg_index.specs.Reading.{ReadsAs}
 use Rattle.mg_index.specs.declared.error.IndexError.{IndexError}
@@ -129,7 +129,7 @@ kept_if ddoc name d ds more false h = ap (λ ds. d ∷ ds) (more h)
 
 pub none_dropped : (ddoc name : List ℕ) (ds : List IndexDefinition) → is_some (definition_at ddoc name ds) ≡ false → without_definition ddoc name ds ≡ ds
 none_dropped ddoc name [] h = refl
-none_dropped ddoc name (d ∷ ds) h = kept_if ddoc name d ds (none_dropped ddoc name ds) (is_at ddoc name d) h
+none_dropped ddoc name (d ∷ ds) h = kept_if ddoc name d ds (none_dropped ddoc name ds) (is_named ddoc name d) h
 
 -- ---- a definition that was not read
 

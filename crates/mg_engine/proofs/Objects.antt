@@ -20,7 +20,7 @@ use Rattle.mg_path.specs.Part.{part_of}
 use Rattle.mg_query.specs.Page.{Candidate, candidates_of}
 use Rattle.mg_query.specs.Served.{HaveIdsAndRevs}
 use Rattle.mg_query.proofs.Kept.{IsKnown, all_known}
-use Rattle.mg_revtree.specs.History.{Paths, Leaf, Path, all_links, has_child, is_at, marked, newest_of, winner_of}
+use Rattle.mg_revtree.specs.History.{Paths, Leaf, Path, all_links, has_child, is_this, marked, newest_of, winner_of}
 use Rattle.mg_revtree.specs.Revision.{Revision, revision_text}
 use Rattle.mg_revtree.proofs.Winners.{winner_is_best}
 use Rattle.mg_shard.specs.Edits.{after_edit, after_edits, history_put, id_in, outcome_in}
@@ -158,7 +158,7 @@ marked_here false p o m good rest e = rest m e
 
 marked_object : (r : Revision) (h : Paths) (m : Bool × Value) → HasObjects h → marked r h ≡ Some m → is_object m.1 ≡ true
 marked_object r [] m hs e = absurd cc
-marked_object r (p ∷ h) m hs e = marked_here (is_at r (newest_of p.revs)) p (marked r h) m hs.0 (λ m e. marked_object r h m hs.1 e) e
+marked_object r (p ∷ h) m hs e = marked_here (is_this r (newest_of p.revs)) p (marked r h) m hs.0 (λ m e. marked_object r h m hs.1 e) e
 
 leaf_here : (b : Bool) (o : Option (Bool × Value)) (m : Bool × Value) → ((m : Bool × Value) → o ≡ Some m → is_object m.1 ≡ true) → cond b None o ≡ Some m → is_object m.1 ≡ true
 leaf_here true o m each e = absurd cc

@@ -1,4 +1,4 @@
--- For private clauses: whether a call that makes the body of a reply made the body, or the refusal, of the definition's answer.
+-- For private clauses: the body or the refusal that a call returned is that of the definition's answer.
 use Rattle.std.specs.Prelude.{◌≡◌, ℕ, Result, Ok, Err}
 use Rattle.std.specs.declared.alloc.Global.{Global}
 use Rattle.std.specs.declared.vec.Vec.{Vec}

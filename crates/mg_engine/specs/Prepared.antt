@@ -1,11 +1,11 @@
--- For private clauses: prepared commands. The documents of a bulk were read before the state was known to which it is applied.
+-- For private clauses: prepared commands. The documents of a bulk were read before it was known to which state the bulk is applied.
 use Rattle.std.specs.Prelude.{◌≡◌, ℕ, Bool, List}
 use Rattle.mg_doc.specs.Document.{Edit}
 use Rattle.mg_engine.specs.Commands.{Asked, edits_effect, next, refused, reply_of, shards_after}
 use Rattle.mg_engine.specs.Objects.{BringObjects}
 use Rattle.mg_engine.specs.World.{World}
-use Rattle.mg_engine.specs.declared.bulk.read.ReadBulk.{ReadBulk}
-use Rattle.mg_engine.specs.declared.bulk.read.ReadBulk.TheVariants.{Edits, Refused}
+use Rattle.mg_engine.specs.declared.bulk.read.PreparedBulk.{PreparedBulk}
+use Rattle.mg_engine.specs.declared.bulk.read.PreparedBulk.TheVariants.{Edits, Refused}
 use Rattle.mg_engine.specs.declared.prepared.Task.{Task}
 use Rattle.mg_engine.specs.declared.prepared.Task.TheVariants.{Apply, Execute}
 use Rattle.mg_engine.specs.declared.refusal.Refusal.{Refusal}
@@ -25,7 +25,7 @@ pub record AlwaysRefused (r : Refusal) (c : Asked) : Type 0 where
   pub shards : (n : ℕ) → shards_after n c ≡ n
 
 -- what was read determines what the command does in every world
-abbrev pub Determines : ReadBulk → Asked → Type 0
+abbrev pub Determines : PreparedBulk → Asked → Type 0
 Determines (Edits new_edits edits) c = Makes new_edits edits.items c
 Determines (Refused r) c = AlwaysRefused r c
 

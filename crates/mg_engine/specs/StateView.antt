@@ -33,13 +33,13 @@ abbrev pub before : List DraftView → List ShardView
 before drafts = map (λ d. d.shard) drafts
 
 -- the shard that a draft leaves: it stands for what the draft stands for, and has the same indexes
-pub record Leaves (d : DraftView) (s : ShardView) : Type 0 where
+pub record FinishesAs (d : DraftView) (s : ShardView) : Type 0 where
   pub stands : (hs : Histories) → DraftStandsFor d hs → StandFor s.documents hs
   pub definitions : s.definitions ≡ d.shard.definitions
 
 -- the drafts leave these shards, one for each draft
-abbrev pub AllLeave : List DraftView → List ShardView → Type 0
-AllLeave [] [] = Unit {0}
-AllLeave [] (s ∷ ss) = ⊥
-AllLeave (d ∷ ds) [] = ⊥
-AllLeave (d ∷ ds) (s ∷ ss) = Leaves d s × AllLeave ds ss
+abbrev pub AllFinishAs : List DraftView → List ShardView → Type 0
+AllFinishAs [] [] = Unit {0}
+AllFinishAs [] (s ∷ ss) = ⊥
+AllFinishAs (d ∷ ds) [] = ⊥
+AllFinishAs (d ∷ ds) (s ∷ ss) = FinishesAs d s × AllFinishAs ds ss

@@ -21,14 +21,14 @@ use mg_packed::Packed;
 use mg_shard::Placement;
 use mg_value::NoMemory;
 use number::number_edits;
-pub(crate) use read::ReadBulk;
+pub(crate) use read::PreparedBulk;
 use reply::entries_line;
 use std::alloc::Global;
 
 impl State {
     /// Executes a bulk, whose documents are read in place. Returns the reply, and the next state (`None` if the bulk is refused).
     ///
-    /// Errors: `NoMemory` if an allocation fails. Cost: that of `ReadBulk::of` and of `apply`.
+    /// Errors: `NoMemory` if an allocation fails. Cost: that of `PreparedBulk::of` and of `apply`.
     pub(crate) fn bulk<P: Placement>(
         &self,
         alloc: Global,
@@ -42,7 +42,7 @@ impl State {
         ensures settled { IfOk result (λ r. IsSettled r.0 r.1) }
         ensures number { IfOk result (λ r. length (unwrap_or r.1 self.now).shards ≡ length self.now.shards) }
     {
-        let read = ReadBulk::of(alloc, body)?;
+        let read = PreparedBulk::of(alloc, body)?;
         self.apply(alloc, placement, read)
     }
 
@@ -53,7 +53,7 @@ impl State {
         &self,
         alloc: Global,
         placement: &P,
-        read: ReadBulk,
+        read: PreparedBulk,
     ) -> Result<(Reply, Option<State>), NoMemory>
         ensures does { IfOk result
             (λ r. (c : Asked) → Determines read c → (w : World)
@@ -64,11 +64,11 @@ impl State {
         ensures number { IfOk result (λ r. length (unwrap_or r.1 self.now).shards ≡ length self.now.shards) }
     {
         match read {
-            ReadBulk::Edits { new_edits, edits } => {
+            PreparedBulk::Edits { new_edits, edits } => {
                 let (reply, next) = self.accept(alloc, placement, new_edits, edits)?;
                 Ok((reply, Some(next)))
             }
-            ReadBulk::Refused(refusal) => Ok((Reply::refusing(alloc, refusal)?, None)),
+            PreparedBulk::Refused(refusal) => Ok((Reply::refusing(alloc, refusal)?, None)),
         }
     }
 

@@ -109,8 +109,8 @@ impl State {
         self.with_catalog(context.alloc, catalog, shards)
     }
 
-    /// Drops an index. Returns the reply, and the next state (`None` if there is no such index). Cost: the number of shards and of
-    /// indexes.
+    /// Drops an index. Returns the reply, and the next state (`None` if there is no such index). Cost: a copy of the catalog, and that of
+    /// `Shard::without_index` for each shard.
     pub(crate) fn drop_index(
         &self,
         alloc: Global,

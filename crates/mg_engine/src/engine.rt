@@ -64,8 +64,8 @@ impl<P: Placement + Drop> Engine<P> {
     /// than workers, as `mg_scan::build` and `mg_shard::redeal` say.
     ///
     /// Cost: a bulk costs its edits, each with its document and its rows. A query costs its page, and the rows of its index that it reads
-    /// until the page is found; if no index serves it, the documents that it reads. A new index, or another number of shards, costs every
-    /// document.
+    /// until the page is found; if the index of all documents serves it, the documents that it reads. A new index, or another number of
+    /// shards, costs every document.
     pub fn step<R: Threads + Sync>(
         &mut self,
         rt: &R,
@@ -143,43 +143,35 @@ impl<P: Placement + Drop> Engine<P> {
         ensures { (w : World) → Stands P.place self.now w
             → IfSome (said result) (λ a. a ≡ reply_of w (asked command.now)) }
     {
-        let context = Context {
-            rt,
-            alloc,
-            workers: Workers::exactly(workers),
-            gate,
-        };
-        let (reply, _) = self.state.execute(&context, &*self.placement, command);
-        reply
+        self.answer_by(rt, alloc, command, Workers::exactly(workers), gate)
     }
 
-    /// Returns the reply to a read, by at most `workers` workers: a query that is not worth a second thread runs on the thread of the
-    /// caller. The reply is `NoMemory` if an allocation fails. Cost: as for `step`.
-    pub fn reply<R: Threads + Sync>(
+    /// Does what `answer` does. If the number of workers is only a maximum, a query that is not worth a second thread runs on the thread
+    /// of the caller, and passes no gate.
+    pub fn answer_by<R: Threads + Sync, G: Gate + Sync>(
         &self,
         rt: &R,
         alloc: Global,
         command: &Command,
-        workers: usize,
+        workers: Workers,
+        gate: &G,
     ) -> Reply
         requires read { is_write (asked command.now) ≡ false }
-        requires some { 1 ≤ workers }
-        requires most { workers ≤ 32 }
         ensures { (w : World) → Stands P.place self.now w
             → IfSome (said result) (λ a. a ≡ reply_of w (asked command.now)) }
     {
         let context = Context {
             rt,
             alloc,
-            workers: Workers::most(workers),
-            gate: &NoGate,
+            workers,
+            gate,
         };
         let (reply, _) = self.state.execute(&context, &*self.placement, command);
         reply
     }
 
     /// Returns the reply to a write, and the engine after it if the status is 200 or 201, otherwise `None`. `self` does not change.
-    /// Cost: as for `step`.
+    /// The reply is `NoMemory` if an allocation fails. Cost: as for `step`.
     pub fn commit<R: Threads + Sync>(
         &self,
         rt: &R,
@@ -198,7 +190,7 @@ impl<P: Placement + Drop> Engine<P> {
         ensures placement { IfSome result.1 (λ next. next.0 ≡ self.now.0) }
     {
         match Prepared::of(alloc, command) {
-            Ok(prepared) => self.commit_prepared(rt, alloc, prepared, workers),
+            Ok(prepared) => self.commit_prepared(rt, alloc, prepared, Workers::most(workers)),
             Err(NoMemory) => (Reply::NoMemory, None),
         }
     }
@@ -210,11 +202,9 @@ impl<P: Placement + Drop> Engine<P> {
         rt: &R,
         alloc: Global,
         prepared: Prepared,
-        workers: usize,
+        workers: Workers,
     ) -> (Reply, Option<Engine<P>>)
         requires write { is_write prepared ≡ true }
-        requires some { 1 ≤ workers }
-        requires most { workers ≤ 32 }
         ensures answers { (w : World) → Stands P.place self.now w
             → Answers w prepared (said result.0) (Stands P.place (unwrap_or result.1 self.now)) }
         ensures next { IsSettled result.0 result.1 }
@@ -228,7 +218,7 @@ impl<P: Placement + Drop> Engine<P> {
         let context = Context {
             rt,
             alloc,
-            workers: Workers::most(workers),
+            workers,
             gate: &NoGate,
         };
         match self

@@ -3,7 +3,7 @@ ghost use Rattle.std.specs.Prelude.{◌≡◌, IfOk};
 ghost use Rattle.mg_engine.specs.Prepared.{Does};
 ghost use Rattle.mg_engine.specs.View.{asked};
 
-use crate::bulk::ReadBulk;
+use crate::bulk::PreparedBulk;
 use crate::command::Command;
 use mg_value::NoMemory;
 use std::alloc::Global;
@@ -22,7 +22,7 @@ pub struct Prepared {
 #[derive(Drop)]
 pub(crate) enum Task {
     /// Applies the edits of a bulk, or refuses the bulk.
-    Apply(ReadBulk),
+    Apply(PreparedBulk),
     /// Executes any other command.
     Execute(Command),
 }
@@ -45,7 +45,7 @@ impl Model for Prepared {
 
 impl Prepared {
     /// Reads a bulk before it is executed: its documents are read into edits, and its body is dropped. Other commands stay as they are.
-    /// This needs no engine, and therefore no lock on one.
+    /// This needs no engine, and therefore no lock on one. If the body has a fault, the prepared bulk is refused when it is executed.
     ///
     /// Errors: `NoMemory` if an allocation fails. Cost: that of `Edit::read` for each document of a bulk; constant for any other command.
     pub fn of(alloc: Global, command: Command) -> Result<Prepared, NoMemory>
@@ -63,7 +63,7 @@ impl Task {
         ensures { IfOk result (λ t. Does t (asked command)) }
     {
         match command {
-            Command::Bulk(body) => Ok(Task::Apply(ReadBulk::of(alloc, &body)?)),
+            Command::Bulk(body) => Ok(Task::Apply(PreparedBulk::of(alloc, &body)?)),
             other => Ok(Task::Execute(other)),
         }
     }

@@ -6,7 +6,7 @@ ghost use Rattle.mg_query.specs.Page.{candidates_of};
 ghost use Rattle.mg_query.specs.Query.{query_of};
 ghost use Rattle.mg_query.specs.Seen.{query_seen};
 ghost use Rattle.mg_query.specs.Served.{HaveIdsAndRevs};
-ghost use Rattle.mg_engine.specs.Commands.{Answer, explain as explain_command, explain_answer as explained_of, find, answer_of_query, reply_of};
+ghost use Rattle.mg_engine.specs.Commands.{Answer, explain, explain_answer, find, answer_of_query, reply_of};
 ghost use Rattle.mg_engine.specs.Stands.{StateStandsFor};
 ghost use Rattle.mg_shard.specs.Shard.{HaveIndexes, shards_seen};
 ghost use Rattle.mg_engine.specs.Answering.{MakesAnswer};
@@ -19,7 +19,7 @@ use crate::fault::Fault;
 use crate::reply::Reply;
 use crate::state::State;
 use mg_index::Catalog;
-use mg_query::{Query, explain, page_text_by};
+use mg_query::{Query, explain, page_text};
 use mg_scan::Gate;
 use mg_shard::Shard;
 use mg_value::{Json, NoMemory};
@@ -48,7 +48,7 @@ impl State {
     pub(crate) fn explain(&self, alloc: Global, body: &Json) -> Result<Reply, NoMemory>
         ensures { IfOk result
             (λ r. (place : Placing) (w : World) → StateStandsFor place self.now w
-            → said r ≡ Some (reply_of w (explain_command (view body.now)))) }
+            → said r ≡ Some (reply_of w (explain (view body.now)))) }
     {
         let line = explanation_line(alloc, &self.name, &self.catalog, body);
         let reply = make_reply(alloc, line)?;
@@ -90,7 +90,7 @@ fn answer_line<R: Threads + Sync, G: Gate + Sync>(
         workers,
         gate,
     } = context;
-    match page_text_by(*rt, *alloc, query, catalog, shards, *workers, *gate) {
+    match page_text(*rt, *alloc, query, catalog, shards, *workers, *gate) {
         Ok(text) => {
             let line = with_line_feed(text)?;
             Ok(line)
@@ -107,7 +107,7 @@ fn explanation_line(
     body: &Json,
 ) -> Result<Vec<u8>, Fault>
     ensures { (w : World) → w.name ≡ name.now → w.indexes ≡ catalog.now
-        → MakesAnswer result (explained_of w (query_of (view body.now))) }
+        → MakesAnswer result (explain_answer w (query_of (view body.now))) }
 {
     let query = Query::read(alloc, body)?;
     let value = explain(alloc, name, &query, catalog)?;

@@ -1,4 +1,4 @@
-//! The commands that read: queries, explanations, and `GET` of a document.
+//! The command that gets a document.
 ghost use Rattle.std.specs.Prelude.{◌≡◌, ◌<◌, IfOk, Option, Some, length, slice_get};
 ghost use Rattle.std.specs.FinMap as finite;
 ghost use Rattle.std.specs.FinMap.{get};

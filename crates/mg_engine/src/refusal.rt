@@ -67,7 +67,7 @@ pub enum Refusal {
     WrongShape,
     /// A selector has an unknown operator.
     InvalidOperator,
-    /// An operator of a selector has an argument that it does not take.
+    /// An operator of a selector does not take its argument, or a path of the selector has an empty step.
     BadArg,
     /// The bookmark of a query is malformed, or belongs to another index or direction, or its key has another number of values than the
     /// index has columns.

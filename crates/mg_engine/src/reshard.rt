@@ -27,7 +27,7 @@ use std::thread::Threads;
 impl State {
     /// Deals the documents to the number of shards that the body asks for. Returns the reply, and the next state. If the body does not ask
     /// for a whole number from 1 to 64, the command is refused as `WrongShape` and there is no next state. The documents, the indexes and
-    /// the counter stay as they are. Cost: the number of shards, if it does not change; otherwise each document, and its row in each index.
+    /// the counter stay as they are. Cost: the number of shards, if it does not change; otherwise that of `mg_shard::redeal`.
     pub(crate) fn reshard<P: Placement, R: Threads + Sync, G>(
         &self,
         context: &Context<'_, R, G>,

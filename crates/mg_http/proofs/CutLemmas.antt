@@ -8,13 +8,13 @@ use Rattle.mg_engine.specs.Commands.{Answer, refused, reply_of, next}
 use Rattle.mg_engine.specs.World.{World}
 use Rattle.mg_http.specs.declared.request.routes.Endpoint.{Endpoint}
 use Rattle.mg_http.specs.Device.{IsBytePrefix}
-use Rattle.mg_http.specs.Head.{framed, unframed, asks_of, omits_body_of}
+use Rattle.mg_http.specs.Head.{framed, unframed, framing_of, omits_body_of}
 use Rattle.mg_http.specs.Message.{Message, HasHead, Begins, IsRefused, IsWaiting}
 use Rattle.mg_http.specs.Reply.{text_of}
 use Rattle.mg_http.specs.Session.{Handles, HandlesBody, asked_by}
 use Rattle.mg_http.specs.AtWorld.{AtWorld}
 use Rattle.mg_http.specs.Target.{Request, body, asks, refuses}
-use Rattle.mg_http.specs.Transcript.{Stops, Speaks}
+use Rattle.mg_http.specs.Transcript.{EndsTranscript, IsTranscriptOf}
 use Rattle.mg_http.proofs.Forms.{passage, handling}
 use Rattle.mg_http.proofs.MessageLemmas.{in_window, one_head, HasHead-append, Begins-append, two_messages, never_framed, framed_request, no_head_more, never_none, window_more, window_full}
 
@@ -33,7 +33,7 @@ module _ (db : List ℕ) where
   pub refused_once : (bytes : List ℕ) (r q : Refusal) (s t : Bool) → IsRefused db bytes r s → IsRefused db bytes q t → (r ≡ q) × (s ≡ t)
   refused_once bytes r q s t (inl x) (inl y) =
       let one = one_head bytes x.0 y.0 x.1 y.1 x.2 y.2 in
-      let same : unframed r ≡ unframed q = sym x.3 ∙ ap (asks_of db) one.0 ∙ y.3 in
+      let same : unframed r ≡ unframed q = sym x.3 ∙ ap (framing_of db) one.0 ∙ y.3 in
       (cc, x.4 ∙ ap omits_body_of one.0 ∙ sym y.4)
   refused_once bytes r q s t (inl x) (inr (inl y)) = absurd (never_none _ _ _ y.0.0 (in_window bytes x.0 x.1 x.2))
   refused_once bytes r q s t (inl x) (inr (inr y)) = absurd (y.1.0 _ _ (in_window bytes x.0 x.1 x.2))
@@ -46,10 +46,10 @@ module _ (db : List ℕ) where
 
   -- a head that asks for a message is not refused
   head_not_refused : (bytes : List ℕ) (h : RequestHead) (after : List ℕ) (request : Request) (n : ℕ) (r : Refusal) (s : Bool)
-      → HasHead bytes h after → asks_of db h ≡ framed request n → IsRefused db bytes r s → ⊥
+      → HasHead bytes h after → framing_of db h ≡ framed request n → IsRefused db bytes r s → ⊥
   head_not_refused bytes h after request n r s has is (inl x) =
       let one = one_head bytes h x.0 after x.1 has x.2 in
-      never_framed request n r (sym is ∙ ap (asks_of db) one.0 ∙ x.3)
+      never_framed request n r (sym is ∙ ap (framing_of db) one.0 ∙ x.3)
   head_not_refused bytes h after request n r s has is (inr (inl x)) = never_none _ _ _ x.0.0 (in_window bytes h after has)
   head_not_refused bytes h after request n r s has is (inr (inr x)) = x.1.0 _ _ (in_window bytes h after has)
 
@@ -60,17 +60,17 @@ module _ (db : List ℕ) where
   waiting_not_refused bytes r s (inl p) (inr (inr x)) = omega (arith, p.0, x.0)
 
   pub message_not_refused : (bytes : List ℕ) (m : Message) (rest : List ℕ) (r : Refusal) (s : Bool) → Begins db bytes m rest → IsRefused db bytes r s → ⊥
-  message_not_refused bytes m rest r s b x = head_not_refused bytes b.head b.after m.request (length m.body) r s b.has b.framed.asks x
+  message_not_refused bytes m rest r s b x = head_not_refused bytes b.head b.after m.request (length m.body) r s b.has b.framed.framing x
 
   pub message_not_waiting : (bytes : List ℕ) (m : Message) (rest : List ℕ) → Begins db bytes m rest → IsWaiting db bytes → ⊥
   message_not_waiting bytes m rest b (inl p) = p.1.0 b.head b.after b.has.reads
   message_not_waiting bytes m rest b (inr p) =
       let one = one_head bytes b.head p.0 b.after p.1 b.has p.4 in
-      let same = framed_request m.request p.2 (length m.body) p.3 (sym b.framed.asks ∙ ap (asks_of db) one.0 ∙ p.5) in
+      let same = framed_request m.request p.2 (length m.body) p.3 (sym b.framed.framing ∙ ap (framing_of db) one.0 ∙ p.5) in
       omega (arith, p.6, same.1, ap length one.1, ap length b.joined, length-append m.body rest)
 
   -- bytes that begin with a message are neither incomplete nor refused
-  pub no_stop : (bytes : List ℕ) (m : Message) (rest text : List ℕ) → Begins db bytes m rest → Stops db bytes text → ⊥
+  pub no_stop : (bytes : List ℕ) (m : Message) (rest text : List ℕ) → Begins db bytes m rest → EndsTranscript db bytes text → ⊥
   no_stop bytes m rest text b (inl x) = message_not_waiting bytes m rest b x.0
   no_stop bytes m rest text b (inr x) = message_not_refused bytes m rest x.0 x.1 b x.2
 
@@ -111,7 +111,7 @@ one_reply w (refuses refusal) bytes a b u v x y = (some_some a b (x.0 ∙ sym y.
 
 module _ (db : List ℕ) where
   -- the text of bytes that cannot be answered is a prefix of each transcript of those bytes and more
-  pub after_stop : (w : World) (bytes more text : List ℕ) (ns : List Message) (longer : List ℕ) → Stops db bytes text → Speaks AtWorld db ns (passage w (bytes ++ more) longer) → IsBytePrefix text longer
+  pub after_stop : (w : World) (bytes more text : List ℕ) (ns : List Message) (longer : List ℕ) → EndsTranscript db bytes text → IsTranscriptOf AtWorld db ns (passage w (bytes ++ more) longer) → IsBytePrefix text longer
   after_stop w bytes more text ns longer (inl x) k = (longer, rw x.1 refl)
   after_stop w bytes more text [] longer (inr x) (inl y) = absurd (waiting_not_refused db (bytes ++ more) x.0 x.1 y.0 (refused_more db bytes more x.0 x.1 x.2))
   after_stop w bytes more text [] longer (inr x) (inr y) =
@@ -121,7 +121,7 @@ module _ (db : List ℕ) where
       absurd (message_not_refused db (bytes ++ more) n k.after x.0 x.1 k.begins (refused_more db bytes more x.0 x.1 x.2))
 
   pub begins : (w : World) (bytes more : List ℕ) (ms : List Message) (text : List ℕ) (ns : List Message) (longer : List ℕ)
-      → Speaks AtWorld db ms (passage w bytes text) → Speaks AtWorld db ns (passage w (bytes ++ more) longer) → IsBytePrefix text longer
+      → IsTranscriptOf AtWorld db ms (passage w bytes text) → IsTranscriptOf AtWorld db ns (passage w (bytes ++ more) longer) → IsBytePrefix text longer
   begins w bytes more [] text ns longer h k = after_stop w bytes more text ns longer h k
   begins w bytes more (m ∷ ms) text [] longer h k = absurd (no_stop db (bytes ++ more) m (h.after ++ more) longer (Begins-append db bytes m h.after more h.begins) k)
   begins w bytes more (m ∷ ms) text (n ∷ ns) longer h k =

@@ -8,7 +8,7 @@ use Rattle.std.proofs.Math.Seq.{take-append_seam, drop-append_seam, take-append-
 use Rattle.httparse.specs.Grammar.{RequestHead, IsRequestHead, LineEnd, crlf, print_blank, print_request, ReadsRequest, NeverHasRequest, EndsInTarget, IsToken, AllPass, is_uri_byte, IsField}
 use Rattle.httparse.proofs.GrammarLemmas.{request_unique, ReadsRequest-append}
 use Rattle.mg_engine.specs.declared.refusal.Refusal.{Refusal}
-use Rattle.mg_http.specs.Head.{framed, unframed, asks_of, omits_body_of, closes_after}
+use Rattle.mg_http.specs.Head.{framed, unframed, framing_of, omits_body_of, closes_after}
 use Rattle.mg_http.specs.Message.{Message, HasHead, Begins, IsNoHead}
 use Rattle.mg_http.specs.Target.{Request}
 
@@ -75,7 +75,7 @@ same_message m n a b c d =
 pub two_messages : (db bytes : List ℕ) (m n : Message) (p q : List ℕ) → Begins db bytes m p → Begins db bytes n q → (m ≡ n) × (p ≡ q)
 two_messages db bytes m n p q x y =
     let one = one_head bytes x.head y.head x.after y.after x.has y.has in
-    let asked : framed m.request (length m.body) ≡ framed n.request (length n.body) = sym x.framed.asks ∙ ap (asks_of db) one.0 ∙ y.framed.asks in
+    let asked : framed m.request (length m.body) ≡ framed n.request (length n.body) = sym x.framed.framing ∙ ap (framing_of db) one.0 ∙ y.framed.framing in
     let parts = framed_request m.request n.request (length m.body) (length n.body) asked in
     let bodies = same_length m.body n.body p q parts.1 (sym x.joined ∙ one.1 ∙ y.joined) in
     let omits_body : m.omits_body ≡ n.omits_body = x.framed.omits_body ∙ ap omits_body_of one.0 ∙ sym y.framed.omits_body in
@@ -136,9 +136,9 @@ in_target_before w more never (blank, method, target, token, uri, is) =
           ∙ sym (some_head_text blank method) ∙ sym (append-nil (print_request (some_head blank method))) in
           absurd (never (r.0 ++ tail) (some_head blank method) [] (some_head_is blank method token, joined))
       | inr r ↦
-          let behind : r.0 ++ more ≡ target =
+          let routes_after : r.0 ++ more ≡ target =
           append_cancel_left prefix (r.0 ++ more) target (sym (append_assoc prefix r.0 more) ∙ ap (λ (t : List ℕ). t ++ more) (sym r.1) ∙ whole) in
-          (blank, method, r.0, token, part_of_target r.0 more (rw (← behind) at uri), r.1 ∙ append_assoc start (32 ∷ []) r.0)
+          (blank, method, r.0, token, part_of_target r.0 more (rw (← routes_after) at uri), r.1 ∙ append_assoc start (32 ∷ []) r.0)
     ]
 
 pub no_head_more : (w more : List ℕ) → IsNoHead w → IsNoHead (w ++ more)

@@ -13,7 +13,7 @@ use Rattle.std.proofs.lemmas.List.Sums.{fails_before_first}
 use Rattle.matchit.specs.Rows.{RowsOf, param_token, catch_all_token}
 use Rattle.matchit.specs.Seek.{seek, param_step, own, step, or_else, first, has_slash, slash}
 use Rattle.mg_http.specs.Routes.{Route, literal, routes}
-use Rattle.mg_http.specs.Walk.{goes_on}
+use Rattle.mg_http.specs.Walk.{any_begins_with}
 use Rattle.mg_http.proofs.ListLemmas.{both}
 
 module _ {K : Type 0} where
@@ -118,7 +118,7 @@ again false c = refl
 pub seconds : (text : List ℕ)
     → (bytes_eq (codes "_bulk_docs") text || (bytes_eq (codes "_explain") text || (bytes_eq (codes "_find") text || (bytes_eq (codes "_index") text
     || (bytes_eq (codes "_placement") text || false)))))
-    ≡ goes_on (literal text) routes
+    ≡ any_begins_with (literal text) routes
 seconds text =
     ap (λ (b : Bool). bytes_eq (codes "_bulk_docs") text || (bytes_eq (codes "_explain") text || (bytes_eq (codes "_find") text || b)))
     (again (bytes_eq (codes "_index") text) (bytes_eq (codes "_placement") text || false))
@@ -156,7 +156,7 @@ one_behind {Y = Y} f h xs i d before after found inside was e pushed =
 
 -- if any routes are left, they are those of the table, so either answers the test
 pub the_table : {A : Type 0} (f : A → Route) (xs : List A) (b : Bool) (segment : List ℕ) → 0 < length xs
-    → (map f xs ≡ []) ⊎ (map f xs ≡ routes) → b ≡ goes_on (literal segment) routes → b ≡ goes_on (literal segment) (map f xs)
+    → (map f xs ≡ []) ⊎ (map f xs ≡ routes) → b ≡ any_begins_with (literal segment) routes → b ≡ any_begins_with (literal segment) (map f xs)
 the_table f [] b segment some left h = absurd (omega (arith, some))
 the_table f (x ∷ xs) b segment some (inl e) h = cc
-the_table f (x ∷ xs) b segment some (inr e) h = h ∙ ap (goes_on (literal segment)) (sym e)
+the_table f (x ∷ xs) b segment some (inr e) h = h ∙ ap (any_begins_with (literal segment)) (sym e)

@@ -18,7 +18,7 @@ use Rattle.mg_http.specs.declared.sessions.SessionEnd.TheVariants.{Eof, Closed, 
 use Rattle.mg_http.specs.Device.{WritesBytes}
 use Rattle.mg_http.specs.Message.{HasHead, Begins, IsRefused, IsWaiting}
 use Rattle.mg_http.specs.Reply.{text_of, reply_text}
-use Rattle.mg_http.specs.Session.{Call, IsHandled, Handles, call_text, Serves, LacksMemory, IsRefusalText, Ends, Converses}
+use Rattle.mg_http.specs.Session.{Call, IsHandled, Handles, call_text, Serves, LacksMemory, IsRefusalText, IsSessionEnd, Converses}
 use Rattle.mg_http.specs.Transcript.{IsAtLimit}
 use Rattle.mg_http.specs.Steps.{request_in, message_of, IsFramed, LacksMemoryForHead, Steps, Progress, Counts, StopsWith}
 use Rattle.mg_http.proofs.Forms.{exchange, handling}
@@ -29,32 +29,32 @@ use Rattle.mg_http.proofs.MessageLemmas.{HasHead-append, Begins-append}
 cut : (xs : List ℕ) (i n : ℕ) → drop i xs ≡ slice_range xs i (i + n) ++ drop (i + n) xs
 cut xs i n = let e : i + n - i ≡ n = omega arith in rw e (sym (take-append-drop n (drop i xs)) ∙ ap (λ (t : List ℕ). take n (drop i xs) ++ t) (drop-drop n i xs))
 
-module _ (db : List ℕ) (h : RequestHead) (f : Framed) (bytes : List ℕ) (has : HasHead bytes h (drop f.len bytes)) (is : IsFramed db h f) where
+module _ (db : List ℕ) (h : RequestHead) (f : Framed) (bytes : List ℕ) (has : HasHead bytes h (drop f.head_len bytes)) (is : IsFramed db h f) where
   -- if the body is complete, the bytes begin with the message
-  pub whole_message : f.len + f.body ≤ length bytes
-      → Begins db bytes (message_of f (slice_range bytes f.len (f.len + f.body))) (drop (f.len + f.body) bytes)
+  pub whole_message : f.head_len + f.body_len ≤ length bytes
+      → Begins db bytes (message_of f (slice_range bytes f.head_len (f.head_len + f.body_len))) (drop (f.head_len + f.body_len) bytes)
   whole_message there =
-      let long : length (slice_range bytes f.len (f.len + f.body)) ≡ f.body = grind (arith, common_steps) in
+      let long : length (slice_range bytes f.head_len (f.head_len + f.body_len)) ≡ f.body_len = grind (arith, common_steps) in
       record {
         head = h;
-        after = drop f.len bytes;
+        after = drop f.head_len bytes;
         has = has;
-        framed = record { asks = rw long is.asks; omits_body = is.omits_body; closes = is.closes };
-        joined = cut bytes f.len f.body;
+        framed = record { framing = rw long is.framing; omits_body = is.omits_body; closes = is.closes };
+        joined = cut bytes f.head_len f.body_len;
       }
 
   -- if the body is incomplete, the session waits
-  pub part_message : f.len ≤ length bytes → length bytes < f.len + f.body → IsWaiting db bytes
+  pub part_message : f.head_len ≤ length bytes → length bytes < f.head_len + f.body_len → IsWaiting db bytes
   part_message within short =
-      inr (h, drop f.len bytes, request_in f.target, f.body, has, is.asks, omega (arith, within, short, length-drop f.len bytes))
+      inr (h, drop f.head_len bytes, request_in f.target, f.body_len, has, is.framing, omega (arith, within, short, length-drop f.head_len bytes))
 
   -- there may be no memory after a complete head
   pub lacks_memory : LacksMemory bytes f.omits_body
-  lacks_memory = inr (inr (h, drop f.len bytes, has, is.omits_body))
+  lacks_memory = inr (inr (h, drop f.head_len bytes, has, is.omits_body))
 
   -- the bytes still begin with the head when more arrive
-  pub head_with : (more : List ℕ) → f.len ≤ length bytes → HasHead (bytes ++ more) h (drop f.len (bytes ++ more))
-  head_with more within = rw (drop-append-le f.len bytes more within) (HasHead-append bytes h (drop f.len bytes) more has)
+  pub head_with : (more : List ℕ) → f.head_len ≤ length bytes → HasHead (bytes ++ more) h (drop f.head_len (bytes ++ more))
+  head_with more within = rw (drop-append-le f.head_len bytes more within) (HasHead-append bytes h (drop f.head_len bytes) more has)
 
 -- a head has at least one byte
 pub head_counts : (bytes : List ℕ) (h : RequestHead) (len : ℕ) → HasHead bytes h (drop len bytes) → len ≤ length bytes → 1 ≤ len
@@ -92,29 +92,29 @@ refused_text (Err x) end bytes e = rw e tt
 -- the progress of a step that answered a message
 pub answered_counts : {A : Type 0} (old new : Progress) (came : List ℕ) (written : Result A IoFault) (closes : Bool) (result : Result ⊤ SessionEnd)
     → result ≡ cond (is_ok written) (cond closes (Err Closed) (Ok tt)) (Err WriteFault)
-    → new.requests + new.held ≤ old.requests + (old.held + length came) → new.reads ≤ old.reads + length came
+    → new.messages + new.held ≤ old.messages + (old.held + length came) → new.reads ≤ old.reads + length came
     → Counts old new came result
 answered_counts old new came (Ok a) true result e few often = rw e (λ at. let f : Closed ≡ Limit = at in cc)
 answered_counts old new came (Ok a) false result e few often = rw e (few, often)
 answered_counts old new came (Err x) closes result e few often = rw e (λ at. let f : WriteFault ≡ Limit = at in cc)
 
 -- a session that ends at its limit has read at least 4,294,967,295 bytes
-pub at_limit : (end : SessionEnd) (bytes came held : List ℕ) (requests reads : ℕ) → requests + length held ≤ length bytes → reads ≤ length bytes
-    → (end ≡ Limit → (4294967295 ≤ requests) ⊎ (4294967295 ≤ reads + length came)) → IsAtLimit end (bytes ++ came)
-at_limit Limit bytes came held requests reads few often k =
+pub at_limit : (end : SessionEnd) (bytes came held : List ℕ) (messages reads : ℕ) → messages + length held ≤ length bytes → reads ≤ length bytes
+    → (end ≡ Limit → (4294967295 ≤ messages) ⊎ (4294967295 ≤ reads + length came)) → IsAtLimit end (bytes ++ came)
+at_limit Limit bytes came held messages reads few often k =
     elim (k refl) [
       | inl many ↦ omega (arith, many, few, length-append bytes came)
       | inr many ↦ omega (arith, many, often, length-append bytes came)
     ]
-at_limit Eof bytes came held requests reads few often k = tt
-at_limit Closed bytes came held requests reads few often k = tt
-at_limit Refused bytes came held requests reads few often k = tt
-at_limit ReadFault bytes came held requests reads few often k = tt
-at_limit WriteFault bytes came held requests reads few often k = tt
+at_limit Eof bytes came held messages reads few often k = tt
+at_limit Closed bytes came held messages reads few often k = tt
+at_limit Refused bytes came held messages reads few often k = tt
+at_limit ReadFault bytes came held messages reads few often k = tt
+at_limit WriteFault bytes came held messages reads few often k = tt
 
 module _ {S : Type 0} (answers : S → Asked → Option Answer → S → Type 0) (db : List ℕ) where
   -- a session that ends with its first message, or before it
-  pub ends_at : (old : S) (bytes last : List ℕ) (new : S) (end : SessionEnd) → Ends answers db end (exchange old bytes last new)
+  pub ends_at : (old : S) (bytes last : List ℕ) (new : S) (end : SessionEnd) → IsSessionEnd answers db end (exchange old bytes last new)
       → Converses answers db end (exchange old bytes last new)
   ends_at old bytes last new end h =
       record { calls = []; text = []; rest = bytes; mid = old; served = (refl, refl, refl); last = last; ended = h; written_is = refl }
@@ -192,18 +192,18 @@ module _ {S : Type 0} (answers : S → Asked → Option Answer → S → Type 0)
   -- a message whose head was read, whose body is there, and whose reply was written
   abbrev pub answered : {A : Type 0} (r r' w w' : Option (List ℕ)) (old : S) (held came bytes left : List ℕ) (h : RequestHead) (f : Framed) (new : S) (reply : Option Answer)
       (written : Result A IoFault) (result : Result ⊤ SessionEnd)
-      → HasHead held h (drop f.len held) → IsFramed db h f → f.len ≤ length held → Consumes r r' came → bytes ≡ held ++ came → f.len + f.body ≤ length bytes
-      → left ≡ drop (f.len + f.body) bytes
-      → Handles answers (request_in f.target) (slice_range bytes f.len (f.len + f.body)) (handling old reply new) → WritesBytes w w' (reply_text f.omits_body reply) written
+      → HasHead held h (drop f.head_len held) → IsFramed db h f → f.head_len ≤ length held → Consumes r r' came → bytes ≡ held ++ came → f.head_len + f.body_len ≤ length bytes
+      → left ≡ drop (f.head_len + f.body_len) bytes
+      → Handles answers (request_in f.target) (slice_range bytes f.head_len (f.head_len + f.body_len)) (handling old reply new) → WritesBytes w w' (reply_text f.omits_body reply) written
       → result ≡ cond (is_ok written) (cond f.closes (Err Closed) (Ok tt)) (Err WriteFault)
       → (came : List ℕ) × (text : List ℕ) × Consumes r r' came × Appends w w' text × Steps answers db (exchange old (held ++ came) text new) left result
   answered r r' w w' old held came bytes left h f new reply written result has is within read joined there rest handled wrote e =
-      let now : HasHead bytes h (drop f.len bytes) = subst (λ (t : List ℕ). HasHead t h (drop f.len t)) (sym joined) (head_with db h f held has is came within) in
+      let now : HasHead bytes h (drop f.head_len bytes) = subst (λ (t : List ℕ). HasHead t h (drop f.head_len t)) (sym joined) (head_with db h f held has is came within) in
       let message = whole_message db h f bytes now is there in
-      let call : Call = record { message = message_of f (slice_range bytes f.len (f.len + f.body)); reply = reply } in
-      let one = handled_one w w' old bytes (drop (f.len + f.body) bytes) new call written f.closes refl message handled wrote in
+      let call : Call = record { message = message_of f (slice_range bytes f.head_len (f.head_len + f.body_len)); reply = reply } in
+      let one = handled_one w w' old bytes (drop (f.head_len + f.body_len) bytes) new call written f.closes refl message handled wrote in
       let last : Steps answers db (exchange old bytes one.0 new) left result =
-      subst (λ (t : List ℕ). Steps answers db (exchange old bytes one.0 new) t result) (sym rest) (subst (Steps answers db (exchange old bytes one.0 new) (drop (f.len + f.body) bytes)) (sym e) one.2) in
+      subst (λ (t : List ℕ). Steps answers db (exchange old bytes one.0 new) t result) (sym rest) (subst (Steps answers db (exchange old bytes one.0 new) (drop (f.head_len + f.body_len) bytes)) (sym e) one.2) in
       (came, one.0, read, one.1, subst (λ (t : List ℕ). Steps answers db (exchange old t one.0 new) left result) joined last)
 
   -- the session stopped reading within a message or between two
@@ -223,11 +223,11 @@ module _ {S : Type 0} (answers : S → Asked → Option Answer → S → Type 0)
 
   -- the session stopped reading within a body
   abbrev pub stopped_in_body : (r r' w w' : Option (List ℕ)) (old : S) (held came bytes : List ℕ) (h : RequestHead) (f : Framed) (s : Stop) (end : SessionEnd)
-      → HasHead held h (drop f.len held) → IsFramed db h f → f.len ≤ length held → Consumes r r' came → bytes ≡ held ++ came → length bytes < f.len + f.body
+      → HasHead held h (drop f.head_len held) → IsFramed db h f → f.head_len ≤ length held → Consumes r r' came → bytes ≡ held ++ came → length bytes < f.head_len + f.body_len
       → StopsWith w w' f.omits_body s end → Promises r r' w w' old held old end
   stopped_in_body r r' w w' old held came bytes h f s end has is within read joined short stops =
-      let now : HasHead bytes h (drop f.len bytes) = subst (λ (t : List ℕ). HasHead t h (drop f.len t)) (sym joined) (head_with db h f held has is came within) in
-      let inside : f.len ≤ length bytes = omega (arith, within, ap length joined, length-append held came) in
+      let now : HasHead bytes h (drop f.head_len bytes) = subst (λ (t : List ℕ). HasHead t h (drop f.head_len t)) (sym joined) (head_with db h f held has is came within) in
+      let inside : f.head_len ≤ length bytes = omega (arith, within, ap length joined, length-append held came) in
       let one = stopped w w' old bytes f.omits_body s end (part_message db h f bytes now is inside short) (lacks_memory db h f bytes now is) stops in
       (came, one.0, read, one.1, subst (λ (t : List ℕ). Converses answers db end (exchange old t one.0 old)) joined one.2)
 

@@ -6,7 +6,7 @@ use Rattle.mg_engine.specs.World.{World}
 use Rattle.mg_http.specs.declared.request.routes.Endpoint.{Endpoint}
 use Rattle.mg_http.specs.declared.sessions.SessionEnd.{SessionEnd}
 use Rattle.mg_http.specs.declared.sessions.SessionEnd.TheVariants.{Eof, Closed, Refused, ReadFault, WriteFault, Limit}
-use Rattle.mg_http.specs.Session.{Call, HandlesBody, Handles, Serves, IsLastCall, Ends, Converses}
+use Rattle.mg_http.specs.Session.{Call, HandlesBody, Handles, Serves, IsLastCall, IsSessionEnd, Converses}
 use Rattle.mg_http.specs.AtWorld.{AtWorld}
 use Rattle.mg_http.specs.Target.{Request, body, asks, refuses}
 use Rattle.mg_http.proofs.Forms.{exchange, handling}
@@ -55,8 +55,8 @@ module _ {S T : Type 0} (answers : S → Asked → Option Answer → S → Type 
         more.2,
       )
 
-  ended : (end : SessionEnd) (old : S) (rest last : List ℕ) (new : S) (w : T) → Ends answers db end (exchange old rest last new) → stands old w
-      → (u : T) × Ends shown db end (exchange w rest last u) × stands new u
+  ended : (end : SessionEnd) (old : S) (rest last : List ℕ) (new : S) (w : T) → IsSessionEnd answers db end (exchange old rest last new) → stands old w
+      → (u : T) × IsSessionEnd shown db end (exchange w rest last u) × stands new u
   ended Eof old rest last new w h st = (w, (h.0, h.1, refl), same old new w h.2 st)
   ended ReadFault old rest last new w h st = (w, (h.0, h.1, refl), same old new w h.2 st)
   ended Limit old rest last new w h st = (w, (h.0, refl), same old new w h.1 st)

@@ -11,13 +11,13 @@ use Rattle.mg_engine.specs.World.{World}
 use Rattle.mg_http.specs.declared.sessions.SessionEnd.{SessionEnd}
 use Rattle.mg_http.specs.declared.sessions.SessionEnd.TheVariants.{Eof, Closed, Refused, ReadFault, WriteFault, Limit}
 use Rattle.mg_http.specs.Device.{IsBytePrefix}
-use Rattle.mg_http.specs.Head.{framed, unframed, asks_of, omits_body_of, closes_after}
+use Rattle.mg_http.specs.Head.{framed, unframed, framing_of, omits_body_of, closes_after}
 use Rattle.mg_http.specs.Message.{Message, HasHead, Begins, IsRefused, IsNoHead, CanGoOn}
 use Rattle.mg_http.specs.Reply.{text_of, reply_text}
-use Rattle.mg_http.specs.Session.{Call, Handles, call_text, Serves, IsLastCall, Ends, Converses, asked_by}
+use Rattle.mg_http.specs.Session.{Call, Handles, call_text, Serves, IsLastCall, IsSessionEnd, Converses, asked_by}
 use Rattle.mg_http.specs.AtWorld.{AtWorld, ConversesAt, IsTranscriptAt, WroteTranscriptAt}
 use Rattle.mg_http.specs.Target.{Request, body, asks, refuses}
-use Rattle.mg_http.specs.Transcript.{Stops, Speaks, IsTranscript, IsAnswered, EndsAmply, IsAmple, IsAtLimit, WroteAll, WroteTranscript}
+use Rattle.mg_http.specs.Transcript.{EndsTranscript, IsTranscriptOf, IsTranscript, IsAnswered, EndsAmply, IsAmple, IsAtLimit, WroteAll, WroteTranscript}
 use Rattle.mg_http.proofs.Forms.{course, exchange, passage, handling}
 use Rattle.mg_http.proofs.MessageLemmas.{has_head, two_messages, Begins-append}
 use Rattle.mg_http.proofs.HeadLemmas.{head_long}
@@ -43,8 +43,8 @@ module _ {S : Type 0} (answers : S → Asked → Option Answer → S → Type 0)
 
   -- what the calls wrote and then a transcript of the rest are a transcript of the whole
   speaks : (w : S) (bytes : List ℕ) (calls : List Call) (text rest : List ℕ) (u : S) (ms : List Message) (later : List ℕ)
-      → Serves answers db calls rest (exchange w bytes text u) → All IsAnswered calls → Speaks answers db ms (passage u rest later)
-      → Speaks answers db (messages_in calls ++ ms) (passage w bytes (text ++ later))
+      → Serves answers db calls rest (exchange w bytes text u) → All IsAnswered calls → IsTranscriptOf answers db ms (passage u rest later)
+      → IsTranscriptOf answers db (messages_in calls ++ ms) (passage w bytes (text ++ later))
   speaks w bytes [] text rest u ms later h all k = rw (h.0, h.1, ← h.2) k
   speaks w bytes (call ∷ calls) text rest u ms later h all k =
       let has = All-head IsAnswered call calls all in record {
@@ -60,7 +60,7 @@ module _ {S : Type 0} (answers : S → Asked → Option Answer → S → Type 0)
       }
 
   -- the last text is a transcript of the rest of the bytes
-  last_speaks : (end : SessionEnd) (w : S) (rest last : List ℕ) (u : S) (e : Ends answers db end (exchange w rest last u))
+  last_speaks : (end : SessionEnd) (w : S) (rest last : List ℕ) (u : S) (e : IsSessionEnd answers db end (exchange w rest last u))
       → EndsAmply answers db end (exchange w rest last u) e → WroteAll end → IsTranscript answers db (passage w rest last)
   last_speaks Eof w rest last u e ample all = ([], inl (e.0, e.1))
   last_speaks ReadFault w rest last u e ample all = ([], inl (e.0, e.1))
@@ -87,7 +87,7 @@ module _ {S : Type 0} (answers : S → Asked → Option Answer → S → Type 0)
   whole_transcript w bytes written u end t ample all =
       let last = last_speaks end t.mid t.rest t.last u t.ended ample.last all in
       let ms : List Message = messages_in t.calls ++ last.0 in
-      (ms, subst (λ (x : List ℕ). Speaks answers db ms (passage w bytes x)) (sym t.written_is) (speaks w bytes t.calls t.text t.rest t.mid last.0 t.last t.served ample.calls last.1))
+      (ms, subst (λ (x : List ℕ). IsTranscriptOf answers db ms (passage w bytes x)) (sym t.written_is) (speaks w bytes t.calls t.text t.rest t.mid last.0 t.last t.served ample.calls last.1))
 
   pub holds : (read wrote : List ℕ → Type 0) (old new : S) (end : SessionEnd) (bytes written : List ℕ)
       → read bytes → wrote written → Converses answers db end (exchange old bytes written new) → IsAtLimit end bytes
@@ -105,8 +105,8 @@ module _ {S : Type 0} (answers : S → Asked → Option Answer → S → Type 0)
 module _ (db : List ℕ) where
   -- each transcript of the bytes is what the calls wrote, and then a transcript of the rest
   follows : (w : World) (bytes : List ℕ) (calls : List Call) (text rest : List ℕ) (u : World) (ns : List Message) (longer : List ℕ)
-      → Serves AtWorld db calls rest (exchange w bytes text u) → All IsAnswered calls → Speaks AtWorld db ns (passage w bytes longer)
-      → (ms : List Message) × (later : List ℕ) × (longer ≡ text ++ later) × Speaks AtWorld db ms (passage u rest later)
+      → Serves AtWorld db calls rest (exchange w bytes text u) → All IsAnswered calls → IsTranscriptOf AtWorld db ns (passage w bytes longer)
+      → (ms : List Message) × (later : List ℕ) × (longer ≡ text ++ later) × IsTranscriptOf AtWorld db ms (passage u rest later)
   follows w bytes [] text rest u ns longer h all k = (ns, longer, rw h.1 refl, rw (h.2, ← h.0) k)
   follows w bytes (call ∷ calls) text rest u [] longer h all k = absurd (no_stop db bytes call.message h.after longer h.begins k)
   follows w bytes (call ∷ calls) text rest u (n ∷ ns) longer h all k =
@@ -120,8 +120,8 @@ module _ (db : List ℕ) where
       elim k.others_follow [
         | inl d ↦ absurd (let e : true ≡ false = sym d.0 ∙ sym (ap (λ (m : Message). m.closes) one.0) ∙ h.stays in cc)
         | inr d ↦
-            let same : Speaks AtWorld db ns (passage h.mid h.after k.later) =
-            subst (λ (v : World). Speaks AtWorld db ns (passage v h.after k.later)) (sym reply.1) (subst (λ (b : List ℕ). Speaks AtWorld db ns (passage k.mid b k.later)) (sym one.1) d.1) in
+            let same : IsTranscriptOf AtWorld db ns (passage h.mid h.after k.later) =
+            subst (λ (v : World). IsTranscriptOf AtWorld db ns (passage v h.after k.later)) (sym reply.1) (subst (λ (b : List ℕ). IsTranscriptOf AtWorld db ns (passage k.mid b k.later)) (sym one.1) d.1) in
             let more = follows h.mid h.after calls h.later rest u ns k.later h.others_follow (All-tail IsAnswered call calls all) same in (
               more.0,
               more.1,
@@ -133,7 +133,7 @@ module _ (db : List ℕ) where
 
   -- the reply to the first message is a prefix of each transcript, whatever bytes follow
   call_begins : (w : World) (rest more : List ℕ) (call : Call) (whole : List ℕ) (u : World) (ms : List Message) (later : List ℕ)
-      → IsLastCall AtWorld db call (exchange w rest whole u) → IsAnswered call → Speaks AtWorld db ms (passage w (rest ++ more) later) → IsBytePrefix whole later
+      → IsLastCall AtWorld db call (exchange w rest whole u) → IsAnswered call → IsTranscriptOf AtWorld db ms (passage w (rest ++ more) later) → IsBytePrefix whole later
   call_begins w rest more call whole u [] later a has k =
       absurd (no_stop db (rest ++ more) call.message (a.after ++ more) later (Begins-append db rest call.message a.after more a.begins) k)
   call_begins w rest more call whole u (n ∷ ns) later a has k =
@@ -148,15 +148,15 @@ module _ (db : List ℕ) where
   -- a text that refuses the bytes is a prefix of each transcript of them, whatever bytes follow
   refusal_begins : (w : World) (rest more whole : List ℕ) (ms : List Message) (later : List ℕ)
       → ((refusal : Refusal) × (omits_body : Bool) × IsRefused db rest refusal omits_body × (whole ≡ text_of omits_body (refused refusal)))
-      → Speaks AtWorld db ms (passage w (rest ++ more) later) → IsBytePrefix whole later
+      → IsTranscriptOf AtWorld db ms (passage w (rest ++ more) later) → IsBytePrefix whole later
   refusal_begins w rest more whole ms later r k = after_stop db w rest more whole ms later (inr r) k
 
   nothing_begins : (last later : List ℕ) → last ≡ [] → IsBytePrefix last later
   nothing_begins last later e = (later, rw e refl)
 
   -- the last text is a prefix of each transcript of the rest of the bytes, whatever bytes follow
-  last_begins : (end : SessionEnd) (w : World) (rest last : List ℕ) (u : World) (e : Ends AtWorld db end (exchange w rest last u))
-      → EndsAmply AtWorld db end (exchange w rest last u) e → (more : List ℕ) (ms : List Message) (later : List ℕ) → Speaks AtWorld db ms (passage w (rest ++ more) later) → IsBytePrefix last later
+  last_begins : (end : SessionEnd) (w : World) (rest last : List ℕ) (u : World) (e : IsSessionEnd AtWorld db end (exchange w rest last u))
+      → EndsAmply AtWorld db end (exchange w rest last u) e → (more : List ℕ) (ms : List Message) (later : List ℕ) → IsTranscriptOf AtWorld db ms (passage w (rest ++ more) later) → IsBytePrefix last later
   last_begins Eof w rest last u e ample more ms later k = nothing_begins last later e.1
   last_begins ReadFault w rest last u e ample more ms later k = nothing_begins last later e.1
   last_begins Limit w rest last u e ample more ms later k = nothing_begins last later e.0
@@ -196,7 +196,7 @@ module _ (db : List ℕ) where
       lacking (refused InvalidJson) w (inr (inl (λ v r. lacking (reply_of w (asked_by endpoint v)) (next w (asked_by endpoint v)) (inl (v, r, (refl, refl))), refl, refl)))
 
   -- bytes without a head are incomplete or refused
-  no_head_stops : (bytes : List ℕ) → ((h : RequestHead) (after : List ℕ) → ¬ (HasHead bytes h after)) → ((text : List ℕ) → ¬ (Stops db bytes text)) → ⊥
+  no_head_stops : (bytes : List ℕ) → ((h : RequestHead) (after : List ℕ) → ¬ (HasHead bytes h after)) → ((text : List ℕ) → ¬ (EndsTranscript db bytes text)) → ⊥
   no_head_stops bytes none stops =
       let bad : ¬ (IsNoHead (take 16384 bytes)) = λ x. stops (text_of false (refused BadHead)) (inr (BadHead, false, inr (inl (x, refl, refl)), refl)) in
       let going : CanGoOn (take 16384 bytes) = (λ h r reads. none h (r ++ drop 16384 bytes) (has_head bytes 16384 h r (omega arith) reads), bad) in
@@ -213,9 +213,9 @@ module _ (db : List ℕ) where
   some_transcript : (k : ℕ) (bytes : List ℕ) (w : World) → length bytes < k → ¬ ((text : List ℕ) → ¬ (IsTranscriptAt db w bytes text))
   some_transcript zero bytes w small none = absurd (omega (arith, small))
   some_transcript (suc k) bytes w small none =
-      let stops : (text : List ℕ) → ¬ (Stops db bytes text) = λ text s. none text ([], s) in
+      let stops : (text : List ℕ) → ¬ (EndsTranscript db bytes text) = λ text s. none text ([], s) in
       no_head_stops bytes (λ h after has.
-      elim (asks_of db h) as (λ a. asks_of db h ≡ a → ⊥) [
+      elim (framing_of db h) as (λ a. framing_of db h ≡ a → ⊥) [
         | unframed refusal ↦ λ e. stops (text_of (omits_body_of h) (refused refusal)) (inr (refusal, omits_body_of h, inl (h, after, has, e, refl), refl))
         | framed request n ↦ λ e.
             elim (cases_lt (length after) n) [
@@ -227,13 +227,13 @@ module _ (db : List ℕ) where
                     head = h;
                     after = after;
                     has = has;
-                    framed = record { asks = rw size e; omits_body = refl; closes = refl };
+                    framed = record { framing = rw size e; omits_body = refl; closes = refl };
                     joined = sym (take-append-drop n after);
                   } in
                   let one : (text later : List ℕ) (answer : Answer) (u : World) (ms : List Message) → Handles AtWorld request (take n after) (handling w (Some answer) u)
                   → text ≡ text_of (omits_body_of h) answer ++ later
-                  → ((closes_after h ≡ true) × (ms ≡ []) × (later ≡ [])) ⊎ ((closes_after h ≡ false) × Speaks AtWorld db ms (passage u (drop n after) later))
-                  → Speaks AtWorld db (m ∷ ms) (passage w bytes text) =
+                  → ((closes_after h ≡ true) × (ms ≡ []) × (later ≡ [])) ⊎ ((closes_after h ≡ false) × IsTranscriptOf AtWorld db ms (passage u (drop n after) later))
+                  → IsTranscriptOf AtWorld db (m ∷ ms) (passage w bytes text) =
                   λ text later answer u ms handled is others. record {
                     after = drop n after;
                     later = later;

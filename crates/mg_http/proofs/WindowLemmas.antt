@@ -7,8 +7,8 @@ use Rattle.mg_http.proofs.MessageLemmas.{has_head, same_window}
 
 pub refused_in_window : (db bytes : List ℕ) (k : ℕ) (refusal : Refusal) (omits_body : Bool) → k ≡ min (length bytes) 16384
     → IsHeadRead db (take k bytes) (pending.Refused refusal omits_body) → IsPending db bytes (pending.Refused refusal omits_body)
-refused_in_window db bytes k refusal omits_body e (inl (h, after, reads, inl asks, quiet)) =
-    inl (inl (h, after ++ drop k bytes, has_head bytes k h after (omega (arith, e)) reads, asks, quiet))
+refused_in_window db bytes k refusal omits_body e (inl (h, after, reads, inl framing, quiet)) =
+    inl (inl (h, after ++ drop k bytes, has_head bytes k h after (omega (arith, e)) reads, framing, quiet))
 refused_in_window db bytes k refusal omits_body e (inl (h, after, reads, inr lacks, quiet)) =
     inr (lacks, h, after ++ drop k bytes, has_head bytes k h after (omega (arith, e)) reads, quiet)
 refused_in_window db bytes k refusal omits_body e (inr (none, bad, quiet)) =

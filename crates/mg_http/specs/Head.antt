@@ -11,9 +11,9 @@ use Rattle.mg_http.specs.Fields.{Field, has_field, length_in, asks_close}
 use Rattle.mg_http.specs.Target.{Request, body, asks, refuses, request_of}
 
 -- what a head asks: a request whose body has this many bytes, or a refusal before the body
-pub data Asks : Type 0 where
-  framed : Request → ℕ → Asks
-  unframed : Refusal → Asks
+pub data Framing : Type 0 where
+  framed : Request → ℕ → Framing
+  unframed : Refusal → Framing
 
 -- the request's refusal if the request is refused, else `refusal`
 abbrev pub refusal_before : Refusal → Request → Refusal
@@ -22,7 +22,7 @@ refusal_before refusal (asks command) = refusal
 refusal_before refusal (refuses first) = first
 
 -- how a body is framed, by its length, whether a Transfer-Encoding is given (coded), and whether the method is POST, which needs a length
-abbrev pub framed_by : Length → Bool → Bool → Request → Asks
+abbrev pub framed_by : Length → Bool → Bool → Request → Framing
 framed_by Faulty coded post request = unframed BadHead
 framed_by Absent coded post request =
     if coded || post then unframed (refusal_before LengthRequired request) else framed request 0
@@ -32,20 +32,20 @@ framed_by TooMany coded post request =
     if coded then unframed (refusal_before LengthRequired request) else unframed (refusal_before TooLarge request)
 
 -- what a head with this method, target and fields asks of the database
-abbrev pub parts_ask : List ℕ → List ℕ → List ℕ → List Field → Asks
-parts_ask db method target fields =
+abbrev pub framing_by_parts : List ℕ → List ℕ → List ℕ → List Field → Framing
+framing_by_parts db method target fields =
     if nat_le (length fields) 64
     then framed_by (length_in fields) (has_field (codes "transfer-encoding") fields) (bytes_eq method (codes "POST")) (request_of db method target)
     else unframed HeadTooLarge
 
 -- what a head asks of the database
-abbrev pub asks_of : List ℕ → RequestHead → Asks
-asks_of db h = parts_ask db h.method h.target (map name_and_value h.fields)
+abbrev pub framing_of : List ℕ → RequestHead → Framing
+framing_of db h = framing_by_parts db h.method h.target (map name_and_value h.fields)
 
 -- the reply leaves out the bytes of its body
 abbrev pub omits_body_of : RequestHead → Bool
 omits_body_of h = bytes_eq h.method (codes "HEAD")
 
--- the session ends after the reply: the version is 1.0, or a Connection asks to close
+-- the session ends after the reply: the version is 1.0, or a Connection field asks to close
 abbrev pub closes_after : RequestHead → Bool
 closes_after h = h.minor == 0 || list_any asks_close (map name_and_value h.fields)

@@ -8,4 +8,4 @@ unanswered inbox = drop inbox.start inbox.held.items
 
 -- how many more messages may be answered and reads made
 abbrev pub steps_left : Inbox → ℕ
-steps_left inbox = (4294967295 - inbox.requests) + (4294967295 - inbox.reads)
+steps_left inbox = (4294967295 - inbox.messages) + (4294967295 - inbox.reads)

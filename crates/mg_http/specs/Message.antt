@@ -3,7 +3,7 @@ use Rattle.std.specs.Prelude.{◌≡◌, ℕ, ◌<◌, ◌≤◌, ◌⊎◌, Boo
 use Rattle.httparse.specs.Grammar.{RequestHead, print_request, ReadsRequest, HasNoRequest, NeverHasRequest, EndsInTarget}
 use Rattle.mg_engine.specs.declared.refusal.Refusal.{Refusal}
 use Rattle.mg_engine.specs.declared.refusal.Refusal.TheVariants.{HeadTooLarge, BadHead}
-use Rattle.mg_http.specs.Head.{framed, unframed, asks_of, omits_body_of, closes_after}
+use Rattle.mg_http.specs.Head.{framed, unframed, framing_of, omits_body_of, closes_after}
 use Rattle.mg_http.specs.Target.{Request}
 
 -- a message: what it asks for, its body, whether its reply leaves out the body, and whether the session ends after it
@@ -20,7 +20,7 @@ pub record HasHead (bytes : List ℕ) (h : RequestHead) (after : List ℕ) : Typ
 
 -- the head is the head of the message
 pub record IsHeadOf (db : List ℕ) (h : RequestHead) (m : Message) : Type 0 where
-  pub asks : asks_of db h ≡ framed m.request (length m.body)
+  pub framing : framing_of db h ≡ framed m.request (length m.body)
   pub omits_body : m.omits_body ≡ omits_body_of h
   pub closes : m.closes ≡ closes_after h
 
@@ -44,7 +44,7 @@ CanGoOn bytes = HasNoRequest bytes × (¬ (IsNoHead bytes))
 -- head that is longer than its limit.
 abbrev pub IsRefused : List ℕ → List ℕ → Refusal → Bool → Type 0
 IsRefused db bytes refusal omits_body =
-    ((h : RequestHead) × (after : List ℕ) × HasHead bytes h after × (asks_of db h ≡ unframed refusal) × (omits_body ≡ omits_body_of h))
+    ((h : RequestHead) × (after : List ℕ) × HasHead bytes h after × (framing_of db h ≡ unframed refusal) × (omits_body ≡ omits_body_of h))
     ⊎ ((IsNoHead (take 16384 bytes) × (refusal ≡ BadHead) × (omits_body ≡ false))
     ⊎ ((16384 ≤ length bytes) × CanGoOn (take 16384 bytes) × (refusal ≡ HeadTooLarge) × (omits_body ≡ false)))
 
@@ -56,7 +56,7 @@ IsPartHead bytes = (length bytes < 16384) × CanGoOn bytes
 abbrev pub IsPartBody : List ℕ → List ℕ → Type 0
 IsPartBody db bytes =
     (h : RequestHead) × (after : List ℕ) × (request : Request) × (body : ℕ)
-    × HasHead bytes h after × (asks_of db h ≡ framed request body) × (length after < body)
+    × HasHead bytes h after × (framing_of db h ≡ framed request body) × (length after < body)
 
 -- an incomplete message, or no byte
 abbrev pub IsWaiting : List ℕ → List ℕ → Type 0

@@ -15,7 +15,7 @@ part_seen Parameter = spec.parameter
 
 -- the route that a row of the table stands for
 abbrev pub route_of : Route → spec.Route
-route_of r = record { method = r.method.now; path = map part_seen r.path.now; asks = r.action }
+route_of r = record { method = r.method.now; path = map part_seen r.path.now; action = r.action }
 
 -- the state of a match that a `RouteMatch` stands for
 abbrev pub match_in : RouteMatch → walk.RouteMatch

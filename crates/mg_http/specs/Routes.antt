@@ -16,28 +16,28 @@ pub data RouteSegment : Type 0 where
 pub record Route : Type 0 where
   pub method : List ℕ
   pub path : List RouteSegment
-  pub asks : Action
+  pub action : Action
 
 -- the table of the routes
 abbrev pub routes : List Route
 routes =
-    record { method = codes "POST"; path = literal (codes "_bulk_docs") ∷ []; asks = Body BulkDocs }
-    ∷ record { method = codes "POST"; path = literal (codes "_explain") ∷ []; asks = Body Explain }
-    ∷ record { method = codes "POST"; path = literal (codes "_find") ∷ []; asks = Body Find }
-    ∷ record { method = codes "POST"; path = literal (codes "_index") ∷ []; asks = Body CreateIndex }
-    ∷ record { method = codes "GET"; path = literal (codes "_index") ∷ []; asks = ListIndexes }
+    record { method = codes "POST"; path = literal (codes "_bulk_docs") ∷ []; action = Body BulkDocs }
+    ∷ record { method = codes "POST"; path = literal (codes "_explain") ∷ []; action = Body Explain }
+    ∷ record { method = codes "POST"; path = literal (codes "_find") ∷ []; action = Body Find }
+    ∷ record { method = codes "POST"; path = literal (codes "_index") ∷ []; action = Body CreateIndex }
+    ∷ record { method = codes "GET"; path = literal (codes "_index") ∷ []; action = ListIndexes }
     ∷ record {
       method = codes "DELETE";
       path = literal (codes "_index") ∷ parameter ∷ literal (codes "json") ∷ parameter ∷ [];
-      asks = DropIndex;
+      action = DropIndex;
     }
     ∷ record {
       method = codes "DELETE";
       path = literal (codes "_index") ∷ literal (codes "_design") ∷ parameter ∷ literal (codes "json") ∷ parameter ∷ [];
-      asks = DropDesignIndex;
+      action = DropDesignIndex;
     }
-    ∷ record { method = codes "POST"; path = literal (codes "_placement") ∷ []; asks = Body Reshard }
-    ∷ record { method = codes "GET"; path = parameter ∷ []; asks = Document }
+    ∷ record { method = codes "POST"; path = literal (codes "_placement") ∷ []; action = Body Reshard }
+    ∷ record { method = codes "GET"; path = parameter ∷ []; action = Document }
     ∷ []
 
 -- the segments of a path; a path that does not begin with a slash has none
@@ -52,17 +52,17 @@ same_part (literal a) parameter = false
 same_part parameter (literal b) = false
 same_part parameter parameter = true
 
--- a literal takes the segment that equals it, a parameter any segment that is not empty
-abbrev pub takes : RouteSegment → List ℕ → Bool
-takes (literal text) segment = bytes_eq text segment
-takes parameter segment = not (length segment == 0)
+-- a literal matches the segment that equals it, a parameter any segment that is not empty
+abbrev pub matches_segment : RouteSegment → List ℕ → Bool
+matches_segment (literal text) segment = bytes_eq text segment
+matches_segment parameter segment = not (length segment == 0)
 
--- the path of a route has as many parts as there are segments, and each part takes its segment
-abbrev pub takes_all : List (List ℕ) → List RouteSegment → Bool
-takes_all [] [] = true
-takes_all [] (p ∷ path) = false
-takes_all (s ∷ segments) [] = false
-takes_all (s ∷ segments) (p ∷ path) = takes p s && takes_all segments path
+-- the path of a route has as many parts as there are segments, and each part matches its segment
+abbrev pub matches_path : List (List ℕ) → List RouteSegment → Bool
+matches_path [] [] = true
+matches_path [] (p ∷ path) = false
+matches_path (s ∷ segments) [] = false
+matches_path (s ∷ segments) (p ∷ path) = matches_segment p s && matches_path segments path
 
 -- at the first part in which the two paths differ, the other one has the segment as a literal
 abbrev pub passes_over : List (List ℕ) → List RouteSegment → List RouteSegment → Bool
@@ -76,10 +76,10 @@ passes_over (s ∷ segments) (p ∷ path) (q ∷ other) =
 abbrev pub whole_path : Route → List RouteSegment
 whole_path r = parameter ∷ r.path
 
--- the segments match the route: it takes all of them, and passes over no literal of another route
+-- the segments match the route: its path matches all of them, and passes over no literal of another route
 abbrev pub matches_route : List (List ℕ) → Route → Bool
 matches_route segments r =
-    takes_all segments (whole_path r) && not (list_any (λ other. passes_over segments (whole_path r) (whole_path other)) routes)
+    matches_path segments (whole_path r) && not (list_any (λ other. passes_over segments (whole_path r) (whole_path other)) routes)
 
 -- the segments match the route, and it has the method
 abbrev pub is_matched_by : List ℕ → List (List ℕ) → Route → Bool

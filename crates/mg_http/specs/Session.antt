@@ -110,13 +110,13 @@ IsRefusalText db bytes text =
     ⊎ ((omits_body : Bool) × LacksMemory bytes omits_body × (text ≡ reply_text omits_body None))
 
 -- How a session ends, from the last part of its input and output: the bytes that were still unanswered, and the last text.
-abbrev pub Ends : {S : Type 0} → (S → Asked → Option Answer → S → Type 0) → List ℕ → SessionEnd → Exchange S → Type 0
-Ends answers db Eof last = IsWaiting db last.bytes × (last.text ≡ []) × (last.new ≡ last.old)
-Ends answers db ReadFault last = IsWaiting db last.bytes × (last.text ≡ []) × (last.new ≡ last.old)
-Ends answers db Limit last = (last.text ≡ []) × (last.new ≡ last.old)
-Ends answers db Closed last = (call : Call) × (call.message.closes ≡ true) × IsLastCall answers db call last
-Ends answers db Refused last = IsRefusalText db last.bytes last.text × (last.new ≡ last.old)
-Ends answers db WriteFault last =
+abbrev pub IsSessionEnd : {S : Type 0} → (S → Asked → Option Answer → S → Type 0) → List ℕ → SessionEnd → Exchange S → Type 0
+IsSessionEnd answers db Eof last = IsWaiting db last.bytes × (last.text ≡ []) × (last.new ≡ last.old)
+IsSessionEnd answers db ReadFault last = IsWaiting db last.bytes × (last.text ≡ []) × (last.new ≡ last.old)
+IsSessionEnd answers db Limit last = (last.text ≡ []) × (last.new ≡ last.old)
+IsSessionEnd answers db Closed last = (call : Call) × (call.message.closes ≡ true) × IsLastCall answers db call last
+IsSessionEnd answers db Refused last = IsRefusalText db last.bytes last.text × (last.new ≡ last.old)
+IsSessionEnd answers db WriteFault last =
     (whole : List ℕ) × IsBytePrefix last.text whole
     × (((call : Call) × IsLastCall answers db call (record last { text = whole }))
     ⊎ (IsRefusalText db last.bytes whole × (last.new ≡ last.old)))
@@ -130,5 +130,5 @@ pub record Converses
   pub mid : S
   pub served : Serves answers db calls rest (record { old = all.old; bytes = all.bytes; text = text; new = mid })
   pub last : List ℕ
-  pub ended : Ends answers db end (record { old = mid; bytes = rest; text = last; new = all.new })
+  pub ended : IsSessionEnd answers db end (record { old = mid; bytes = rest; text = last; new = all.new })
   pub written_is : all.text ≡ text ++ last

@@ -1,14 +1,16 @@
 -- For private clauses: the loop of a session and the functions that it calls. What a session promises does not depend on this file.
-use Rattle.std.specs.Prelude.{◌≡◌, ◌⊎◌, ℕ, ◌+◌, ◌≤◌, List, length, drop, Bool, false, Option, None, Result, Ok, Err, ⊤}
+use Rattle.std.specs.Prelude.{◌≡◌, ◌⊎◌, ℕ, ◌+◌, ◌≤◌, List, length, drop, Bool, false, Option, None, Some, Result, Ok, Err, ⊤}
 use Rattle.std.specs.Io.KnownBytes.{Appends}
 use Rattle.httparse.specs.Grammar.{RequestHead, ReadsRequest}
-use Rattle.mg_engine.specs.Commands.{Asked, Answer}
+use Rattle.mg_engine.specs.Commands.{Asked, Answer, refused}
 use Rattle.mg_engine.specs.View as engine
 use Rattle.mg_engine.specs.declared.refusal.Refusal.{Refusal}
 use Rattle.mg_engine.specs.declared.refusal.Refusal.TheVariants.{BadHead, OutOfMemory}
 use Rattle.mg_http.specs.declared.request.head.Framed.{Framed}
 use Rattle.mg_http.specs.declared.request.head.Pending.{Pending}
 use Rattle.mg_http.specs.declared.request.head.Pending.TheVariants as pending
+use Rattle.mg_http.specs.declared.sessions.answer.MessageReply.{MessageReply}
+use Rattle.mg_http.specs.declared.sessions.answer.MessageReply.TheVariants as message
 use Rattle.mg_http.specs.declared.sessions.inbox.Inbox.{Inbox}
 use Rattle.mg_http.specs.declared.sessions.inbox.Stop.{Stop}
 use Rattle.mg_http.specs.declared.sessions.inbox.Stop.TheVariants as stop
@@ -19,7 +21,7 @@ use Rattle.mg_http.specs.declared.request.target.RequestTarget.TheVariants as ta
 use Rattle.mg_http.specs.Device.{WritesPrefix}
 use Rattle.mg_http.specs.Inbox.{unanswered}
 use Rattle.mg_http.specs.Reply.{reply_text}
-use Rattle.mg_http.specs.Head.{Asks, framed, unframed, asks_of, omits_body_of, closes_after}
+use Rattle.mg_http.specs.Head.{Framing, framed, unframed, framing_of, omits_body_of, closes_after}
 use Rattle.mg_http.specs.Message.{Message, HasHead, IsNoHead, CanGoOn, IsPartHead, IsRefused}
 use Rattle.mg_http.specs.Session.{Call, Exchange, Serves, Converses}
 use Rattle.mg_http.specs.Target.{Request, body, asks, refuses}
@@ -30,23 +32,28 @@ request_in (target.Body endpoint) = body endpoint
 request_in (target.Asks command) = asks (engine.asked command)
 request_in (target.Refuses refusal) = refuses refusal
 
+-- the answer that a `MessageReply` stands for
+abbrev pub answer_in : MessageReply → Option Answer
+answer_in (message.Service reply) = engine.said reply
+answer_in (message.Refusal refusal) = Some (refused refusal)
+
 -- the message of a head and its body
 abbrev pub message_of : Framed → List ℕ → Message
 message_of f bytes = record { request = request_in f.target; body = bytes; omits_body = f.omits_body; closes = f.closes }
 
 -- the code's view of the head is right
 pub record IsFramed (db : List ℕ) (h : RequestHead) (f : Framed) : Type 0 where
-  pub asks : asks_of db h ≡ framed (request_in f.target) f.body
+  pub framing : framing_of db h ≡ framed (request_in f.target) f.body_len
   pub omits_body : f.omits_body ≡ omits_body_of h
   pub closes : f.closes ≡ closes_after h
 
 -- the code's decision about the body of a request is right: its length, or a refusal before it
-abbrev pub IsBodyFramed : Asks → Request → Result ℕ Refusal → Type 0
+abbrev pub IsBodyFramed : Framing → Request → Result ℕ Refusal → Type 0
 IsBodyFramed asked request (Ok n) = (asked ≡ framed request n) × (n ≤ 8388608)
 IsBodyFramed asked request (Err refusal) = asked ≡ unframed refusal
 
 -- the code's framing of a message is right: its target and the length of its body; or a refusal before the body, or out of memory
-abbrev pub IsFramedBy : Asks → Result (RequestTarget × ℕ) Refusal → Type 0
+abbrev pub IsFramedBy : Framing → Result (RequestTarget × ℕ) Refusal → Type 0
 IsFramedBy asked (Ok f) = (asked ≡ framed (request_in f.0) f.1) × (f.1 ≤ 8388608)
 IsFramedBy asked (Err refusal) = (asked ≡ unframed refusal) ⊎ (refusal ≡ OutOfMemory)
 
@@ -55,11 +62,11 @@ abbrev pub IsHeadRead : List ℕ → List ℕ → Pending → Type 0
 IsHeadRead db bytes pending.Waiting = CanGoOn bytes
 IsHeadRead db bytes (pending.Refused refusal omits_body) =
     ((h : RequestHead) × (after : List ℕ) × ReadsRequest bytes h after
-    × ((asks_of db h ≡ unframed refusal) ⊎ (refusal ≡ OutOfMemory)) × (omits_body ≡ omits_body_of h))
+    × ((framing_of db h ≡ unframed refusal) ⊎ (refusal ≡ OutOfMemory)) × (omits_body ≡ omits_body_of h))
     ⊎ (IsNoHead bytes × (refusal ≡ BadHead) × (omits_body ≡ false))
 IsHeadRead db bytes (pending.Message f) =
-    (f.len ≤ length bytes) × (f.body ≤ 8388608)
-    × (h : RequestHead) × ReadsRequest bytes h (drop f.len bytes) × IsFramed db h f
+    (f.head_len ≤ length bytes) × (f.body_len ≤ 8388608)
+    × (h : RequestHead) × ReadsRequest bytes h (drop f.head_len bytes) × IsFramed db h f
 
 -- a complete head, for whose target there was no memory
 abbrev pub LacksMemoryForHead : List ℕ → Refusal → Bool → Type 0
@@ -72,8 +79,8 @@ IsPending db bytes pending.Waiting = IsPartHead bytes
 IsPending db bytes (pending.Refused refusal omits_body) =
     IsRefused db bytes refusal omits_body ⊎ LacksMemoryForHead bytes refusal omits_body
 IsPending db bytes (pending.Message f) =
-    (f.len ≤ length bytes) × (f.body ≤ 8388608)
-    × (h : RequestHead) × HasHead bytes h (drop f.len bytes) × IsFramed db h f
+    (f.head_len ≤ length bytes) × (f.body_len ≤ 8388608)
+    × (h : RequestHead) × HasHead bytes h (drop f.head_len bytes) × IsFramed db h f
 
 -- The session continues with the bytes `left` unanswered, or it ended.
 abbrev pub Steps : {S : Type 0} → (S → Asked → Option Answer → S → Type 0) → List ℕ → Exchange S → List ℕ → Result ⊤ SessionEnd → Type 0
@@ -82,21 +89,21 @@ Steps answers db all left (Err end) = Converses answers db end all
 
 -- what a session has done so far: how many messages it answered, how often it called its reader, and how many bytes it holds unanswered
 pub record Progress : Type 0 where
-  pub requests : ℕ
+  pub messages : ℕ
   pub reads : ℕ
   pub held : ℕ
 
 -- the progress of a session with this inbox
 abbrev pub progress_of : Inbox → Progress
-progress_of inbox = record { requests = inbox.requests; reads = inbox.reads; held = length (unanswered inbox) }
+progress_of inbox = record { messages = inbox.messages; reads = inbox.reads; held = length (unanswered inbox) }
 
 -- How a step that read the bytes `came` changes the progress: each answered message, and each read that continued the session, has at
 -- least one byte. The step ends the session at its limit only after that many messages or reads.
 abbrev pub Counts : Progress → Progress → List ℕ → Result ⊤ SessionEnd → Type 0
 Counts old new came (Ok a) =
-    (new.requests + new.held ≤ old.requests + (old.held + length came)) × (new.reads ≤ old.reads + length came)
+    (new.messages + new.held ≤ old.messages + (old.held + length came)) × (new.reads ≤ old.reads + length came)
 Counts old new came (Err end) =
-    end ≡ Limit → (4294967295 ≤ old.requests) ⊎ (4294967295 ≤ old.reads + length came)
+    end ≡ Limit → (4294967295 ≤ old.messages) ⊎ (4294967295 ≤ old.reads + length came)
 
 -- What was written of a refusing text: all of it if the session ends `Refused`, a prefix of it after a write fault.
 abbrev pub RefusesBy : Option (List ℕ) → Option (List ℕ) → List ℕ → SessionEnd → Type 0

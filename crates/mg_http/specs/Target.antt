@@ -78,7 +78,7 @@ request_with db (Some parameters) action query =
 abbrev pub request_on : List ℕ → List ℕ → List ℕ → List (List ℕ) → Request
 request_on db method query segments =
     request_with db (option_map (λ r. parameters_of segments (whole_path r)) (find (matches_route segments) routes))
-    (option_map (λ r. r.asks) (find (is_matched_by method segments) routes)) query
+    (option_map (λ r. r.action) (find (is_matched_by method segments) routes)) query
 
 -- what a method and a target ask of the database
 abbrev pub request_of : List ℕ → List ℕ → List ℕ → Request

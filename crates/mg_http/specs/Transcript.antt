@@ -1,5 +1,5 @@
--- The transcript of some input: the text that a service's replies make of it, if memory suffices (RFC 9112). These definitions do not
--- speak of loops, buffers or memory.
+-- The transcript of some input: the text of a service's replies to it, where memory suffices (RFC 9112). These definitions name no loop
+-- and no buffer.
 use Rattle.std.specs.Prelude.{◌≡◌, ◌≤◌, ◌⊎◌, ⊤, ℕ, Bool, true, false, List, [], ◌∷◌, ◌++◌, length, All, Option, Some}
 use Rattle.std.proofs.Common.{inl, inr}
 use Rattle.mg_engine.specs.declared.refusal.Refusal.{Refusal}
@@ -8,25 +8,25 @@ use Rattle.mg_http.specs.declared.sessions.SessionEnd.{SessionEnd}
 use Rattle.mg_http.specs.declared.sessions.SessionEnd.TheVariants.{Eof, Closed, Refused, ReadFault, WriteFault, Limit}
 use Rattle.mg_http.specs.Message.{Message, Begins, IsRefused, IsWaiting}
 use Rattle.mg_http.specs.Reply.{text_of}
-use Rattle.mg_http.specs.Session.{Call, Exchange, Handles, Ends, Converses}
+use Rattle.mg_http.specs.Session.{Call, Exchange, Handles, IsSessionEnd, Converses}
 
 -- the bytes do not begin with a message that can be answered: they are incomplete, or this text refuses them
-abbrev pub Stops : List ℕ → List ℕ → List ℕ → Type 0
-Stops db bytes text =
+abbrev pub EndsTranscript : List ℕ → List ℕ → List ℕ → Type 0
+EndsTranscript db bytes text =
     (IsWaiting db bytes × (text ≡ []))
     ⊎ ((refusal : Refusal) × (omits_body : Bool) × IsRefused db bytes refusal omits_body × (text ≡ text_of omits_body (refused refusal)))
 
 -- a text for some bytes, from a state of a service
-pub record Passage (S : Type 0) : Type 0 where
+pub record TextFor (S : Type 0) : Type 0 where
   pub from : S
   pub bytes : List ℕ
   pub text : List ℕ
 
 -- The bytes begin with the message, and the text begins with its reply, which is not out of memory. `others` is what follows: it holds of
 -- the bytes after the message and the text after its reply, from the state between.
-pub record SpeaksFirst
-    {S : Type 0} (answers : S → Asked → Option Answer → S → Type 0) (db : List ℕ) (m : Message) (all : Passage S)
-    (others : Passage S → Type 0) : Type 0 where
+pub record AnswersFirst
+    {S : Type 0} (answers : S → Asked → Option Answer → S → Type 0) (db : List ℕ) (m : Message) (all : TextFor S)
+    (others : TextFor S → Type 0) : Type 0 where
   pub after : List ℕ
   pub later : List ℕ
   pub answer : Answer
@@ -38,15 +38,15 @@ pub record SpeaksFirst
 
 -- These are the messages of the bytes that are answered, and the text is their replies. What follows a message is answered from the state
 -- that it leaves, unless the message ends the session.
-abbrev pub Speaks : {S : Type 0} → (S → Asked → Option Answer → S → Type 0) → List ℕ → List Message → Passage S → Type 0
-Speaks answers db [] all = Stops db all.bytes all.text
-Speaks answers db (m ∷ ms) all =
-    SpeaksFirst answers db m all (λ others.
-    ((m.closes ≡ true) × (ms ≡ []) × (others.text ≡ [])) ⊎ ((m.closes ≡ false) × Speaks answers db ms others))
+abbrev pub IsTranscriptOf : {S : Type 0} → (S → Asked → Option Answer → S → Type 0) → List ℕ → List Message → TextFor S → Type 0
+IsTranscriptOf answers db [] all = EndsTranscript db all.bytes all.text
+IsTranscriptOf answers db (m ∷ ms) all =
+    AnswersFirst answers db m all (λ others.
+    ((m.closes ≡ true) × (ms ≡ []) × (others.text ≡ [])) ⊎ ((m.closes ≡ false) × IsTranscriptOf answers db ms others))
 
 -- the text is a transcript of the bytes, from the state
-abbrev pub IsTranscript : {S : Type 0} → (S → Asked → Option Answer → S → Type 0) → List ℕ → Passage S → Type 0
-IsTranscript answers db all = (messages : List Message) × Speaks answers db messages all
+abbrev pub IsTranscript : {S : Type 0} → (S → Asked → Option Answer → S → Type 0) → List ℕ → TextFor S → Type 0
+IsTranscript answers db all = (messages : List Message) × IsTranscriptOf answers db messages all
 
 -- the reply of the call is not out of memory
 abbrev pub IsAnswered : Call → Type 0
@@ -55,7 +55,7 @@ IsAnswered call = (answer : Answer) × (call.reply ≡ Some answer)
 -- the session's last reply, if there is one, is not out of memory
 abbrev pub EndsAmply
     : {S : Type 0} (answers : S → Asked → Option Answer → S → Type 0) (db : List ℕ) (end : SessionEnd) (last : Exchange S)
-    → Ends answers db end last → Type 0
+    → IsSessionEnd answers db end last → Type 0
 EndsAmply answers db Eof last ended = ⊤
 EndsAmply answers db ReadFault last ended = ⊤
 EndsAmply answers db Limit last ended = ⊤

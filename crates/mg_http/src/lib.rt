@@ -1,4 +1,4 @@
-//! HTTP sessions: reads requests from any reader, and writes their replies to any writer.
+//! HTTP sessions: reads messages from any reader, and writes their replies to any writer.
 #![tactic(auto)]
 
 pub mod laws;

@@ -7,7 +7,7 @@ mod fields;
 mod head;
 mod route_match;
 mod routes;
-mod table;
+mod second_literals;
 mod target;
 mod text;
 mod unfinished;
@@ -17,8 +17,8 @@ pub(crate) use head::{Framed, Pending};
 use httparse::spans::HeaderSpan;
 use mg_engine::Refusal;
 pub(crate) use routes::Endpoint;
+pub(crate) use second_literals::SecondLiterals;
 use std::alloc::Global;
-pub(crate) use table::Table;
 pub(crate) use target::RequestTarget;
 
 /// The most bytes of a head.
@@ -28,14 +28,20 @@ pub(crate) const MAX_HEAD: usize = 16_384;
 pub(crate) fn read_pending(
     alloc: Global,
     db: &str,
-    table: &Table,
+    literals: &SecondLiterals,
     bytes: &[u8],
     spans: &mut [HeaderSpan],
 ) -> Pending
     requires { 5461 ≤ length spans.old }
     ensures { IsPending db.now bytes.now result }
 {
-    match read_head(alloc, db, table, &bytes[..bytes.len().min(MAX_HEAD)], spans) {
+    match read_head(
+        alloc,
+        db,
+        literals,
+        &bytes[..bytes.len().min(MAX_HEAD)],
+        spans,
+    ) {
         Pending::Waiting if bytes.len() < MAX_HEAD => Pending::Waiting,
         Pending::Waiting => Pending::Refused(Refusal::HeadTooLarge, false),
         Pending::Refused(refusal, omits_body) => Pending::Refused(refusal, omits_body),

@@ -21,7 +21,7 @@ pub use device::Device;
 use device::IoFault;
 use inbox::{Inbox, Stop, rest_of};
 use mg_engine::Reply;
-use reply::{write_refusal, write_reply};
+use reply::{write_answer, write_refusal, write_reply};
 pub use service::{SeatService, Service, Solo};
 use std::alloc::Global;
 use std::io::{Read, Write};
@@ -35,7 +35,7 @@ pub enum SessionEnd {
     Eof,
     /// The last message asked to close, or its version was 1.0.
     Closed,
-    /// The input was refused at its head, or memory ran out; the last reply says which.
+    /// The input was refused at its head, or there was no memory for a message or its target; the last reply says which.
     Refused,
     /// The reader failed.
     ReadFault,
@@ -105,12 +105,12 @@ fn answer_message<H: Wait + Threads + Sync, S: Service, R: Read, W: Write>(
 ) -> Result<(), SessionEnd>
     requires reading { has_failed reader.old ≡ false }
     requires writing { has_failed writer.old ≡ false }
-    requires len { framed.len ≤ length (unanswered inbox.old) }
-    requires body { framed.body ≤ 8388608 }
+    requires len { framed.head_len ≤ length (unanswered inbox.old) }
+    requires body { framed.body_len ≤ 8388608 }
 
     // If the unanswered bytes begin with this head: what was read and written.
     ensures bytes { (db : List ℕ) (h : RequestHead)
-        → HasHead (unanswered inbox.old) h (drop framed.len (unanswered inbox.old))
+        → HasHead (unanswered inbox.old) h (drop framed.head_len (unanswered inbox.old))
         → IsFramed db h framed → (came : List ℕ) × (written : List ℕ)
         × Consumes (R.remaining (inner_of reader.old)) (R.remaining (inner_of reader.new)) came
         × Appends (W.contents (inner_of writer.old)) (W.contents (inner_of writer.new)) written
@@ -128,26 +128,17 @@ fn answer_message<H: Wait + Threads + Sync, S: Service, R: Read, W: Write>(
     ensures write_fault { IsTrue (has_failed writer.new) ↔ IsErrOf result SessionEnd.WriteFault }
     ensures progress { OnOk result (steps_left inbox.new < steps_left inbox.old) }
 {
-    let end = framed.len + framed.body as usize;
+    let end = framed.head_len + framed.body_len as usize;
     if let Err(stop) = inbox.fill(reader, end) {
         return Err(end_after_stop(writer, &mut inbox.output, framed.omits_body, stop));
     }
-    if inbox.requests == u32::MAX {
+    if inbox.messages == u32::MAX {
         return Err(SessionEnd::Limit);
     }
-    let body = &rest_of(&inbox.held, inbox.start)[framed.len..end];
-    let written = answer_request(
-        rt,
-        alloc,
-        service,
-        writer,
-        &mut inbox.output,
-        &mut inbox.buffer,
-        framed.omits_body,
-        framed.target,
-        body,
-    );
-    inbox.requests += 1;
+    let body = &rest_of(&inbox.held, inbox.start)[framed.head_len..end];
+    let answer = answer_request(rt, alloc, service, &mut inbox.buffer, framed.target, body);
+    let written = write_answer(writer, &mut inbox.output, framed.omits_body, &answer);
+    inbox.messages += 1;
     inbox.start += end;
     continue_after(written, framed.closes)
 }

@@ -13,7 +13,7 @@ use Rattle.std.specs.Str.{bytes_eq}
 use Rattle.mg_collate.specs.declared.direction.Direction.{Direction}
 use Rattle.mg_collate.specs.declared.direction.Direction.TheVariants.{Asc, Desc}
 use Rattle.mg_path.specs.Equal.{path_eq}
-use Rattle.mg_index.specs.Catalog.{definition_order, is_at, definition_at, with_definition, without_definition, IsCatalog}
+use Rattle.mg_index.specs.Catalog.{definition_order, is_named, definition_at, with_definition, without_definition, IsCatalog}
 use Rattle.mg_index.specs.Definition.{Steps, IndexDefinition}
 use Rattle.mg_index.specs.Reading.{is_same}
 use Rattle.mg_index.specs.Same.{is_same_definition, is_there}
@@ -32,8 +32,8 @@ bytes_eq-is s t =
     sym (same_from_slice_cmp nat_cmp is_eq bytes_eq refl (λ _ _. refl) (λ _ _. refl) (λ x y xs ys o h. grind (arith, nat_tests)) s t (slice_cmp nat_cmp s t) refl)
 
 -- a definition has the design document and name of another exactly where the two tie
-is_at-is : (d e : IndexDefinition) → is_at d.ddoc d.name e ≡ is_eq (definition_order d e)
-is_at-is d e = ap₂ ◌&&◌ (bytes_eq-is d.ddoc e.ddoc) (bytes_eq-is d.name e.name) ∙ sym (is_eq-then (slice_cmp nat_cmp d.ddoc e.ddoc) (slice_cmp nat_cmp d.name e.name))
+is_named-is : (d e : IndexDefinition) → is_named d.ddoc d.name e ≡ is_eq (definition_order d e)
+is_named-is d e = ap₂ ◌&&◌ (bytes_eq-is d.ddoc e.ddoc) (bytes_eq-is d.name e.name) ∙ sym (is_eq-then (slice_cmp nat_cmp d.ddoc e.ddoc) (slice_cmp nat_cmp d.name e.name))
 
 abbrev AllAbove : IndexDefinition → List IndexDefinition → Type 0
 AllAbove d ds = AllByRecursion (λ e. definition_order d e ≡ Less) ds
@@ -48,7 +48,7 @@ alike_all d e (x ∷ xs) h t = (total.congr d e x h ∙ t.0, alike_all d e xs h 
 
 none_below : (d : IndexDefinition) (es : List IndexDefinition) → AllAbove d es → definition_at d.ddoc d.name es ≡ None
 none_below d [] h = refl
-none_below d (x ∷ xs) h = ap (λ b. cond b (Some x) (definition_at d.ddoc d.name xs)) (is_at-is d x ∙ ap is_eq h.0) ∙ none_below d xs h.1
+none_below d (x ∷ xs) h = ap (λ b. cond b (Some x) (definition_at d.ddoc d.name xs)) (is_named-is d x ∙ ap is_eq h.0) ∙ none_below d xs h.1
 
 -- ---- a definition goes to its place
 
@@ -69,7 +69,7 @@ goes_before d (e ∷ es) (suc i) c le above here =
     let g : definition_order d e ≡ Greater = above d 0 (omega arith) in
     let more = goes_before d es i c.1 (omega arith) (λ x k lt. above x (suc k) (omega arith)) (λ lt. here (omega arith)) in (
       ap (with_at d e es) g ∙ ap (λ xs. e ∷ xs) more.0,
-      ap (λ b. cond b (Some e) (definition_at d.ddoc d.name es)) (is_at-is d e ∙ ap is_eq g) ∙ more.1,
+      ap (λ b. cond b (Some e) (definition_at d.ddoc d.name es)) (is_named-is d e ∙ ap is_eq g) ∙ more.1,
     )
 
 -- all before the place are below, and the one there ties
@@ -79,26 +79,26 @@ pub goes_at : (d : IndexDefinition) (ds : List IndexDefinition) (i : ℕ) → i 
     → (with_definition d ds ≡ set ds i d) × ((x : IndexDefinition) → definition_at d.ddoc d.name ds ≡ Some (get_or ds i x))
 goes_at d [] i lt above here = absurd (omega arith)
 goes_at d (e ∷ es) zero lt above here =
-    (ap (with_at d e es) here, λ x. ap (λ b. cond b (Some e) (definition_at d.ddoc d.name es)) (is_at-is d e ∙ ap is_eq here))
+    (ap (with_at d e es) here, λ x. ap (λ b. cond b (Some e) (definition_at d.ddoc d.name es)) (is_named-is d e ∙ ap is_eq here))
 goes_at d (e ∷ es) (suc i) lt above here =
     let g : definition_order d e ≡ Greater = above d 0 (omega arith) in
     let more = goes_at d es i (omega arith) (λ x k lt. above x (suc k) (omega arith)) here in (
       ap (with_at d e es) g ∙ ap (λ xs. e ∷ xs) more.0,
-      λ x. ap (λ b. cond b (Some e) (definition_at d.ddoc d.name es)) (is_at-is d e ∙ ap is_eq g) ∙ more.1 x,
+      λ x. ap (λ b. cond b (Some e) (definition_at d.ddoc d.name es)) (is_named-is d e ∙ ap is_eq g) ∙ more.1 x,
     )
 
 -- ---- a definition is looked for
 
 -- the one at the place is the first
 pub stands_at : (ddoc name : List ℕ) (ds : List IndexDefinition) (i : ℕ) (d : IndexDefinition) → i < length ds
-    → ((x : IndexDefinition) (k : ℕ) → k < i → is_at ddoc name (get_or ds k x) ≡ false)
-    → is_at ddoc name (get_or ds i d) ≡ true
+    → ((x : IndexDefinition) (k : ℕ) → k < i → is_named ddoc name (get_or ds k x) ≡ false)
+    → is_named ddoc name (get_or ds i d) ≡ true
     → (is_some (definition_at ddoc name ds) ≡ true) × (without_definition ddoc name ds ≡ remove ds i)
 stands_at ddoc name [] i d lt before here = absurd (omega arith)
 stands_at ddoc name (e ∷ es) zero d lt before here =
     (ap (λ b. is_some (cond b (Some e) (definition_at ddoc name es))) here, ap (λ b. cond b es (e ∷ without_definition ddoc name es)) here)
 stands_at ddoc name (e ∷ es) (suc i) d lt before here =
-    let no : is_at ddoc name e ≡ false = before d 0 (omega arith) in
+    let no : is_named ddoc name e ≡ false = before d 0 (omega arith) in
     let more = stands_at ddoc name es i d (omega arith) (λ x k lt. before x (suc k) (omega arith)) here in (
       ap (λ b. is_some (cond b (Some e) (definition_at ddoc name es))) no ∙ more.0,
       ap (λ b. cond b es (e ∷ without_definition ddoc name es)) no ∙ ap (λ xs. e ∷ xs) more.1,
@@ -106,11 +106,11 @@ stands_at ddoc name (e ∷ es) (suc i) d lt before here =
 
 -- none is the one
 pub stands_nowhere : (ddoc name : List ℕ) (ds : List IndexDefinition) (n : ℕ) → n ≡ length ds
-    → ((x : IndexDefinition) (k : ℕ) → k < n → is_at ddoc name (get_or ds k x) ≡ false)
+    → ((x : IndexDefinition) (k : ℕ) → k < n → is_named ddoc name (get_or ds k x) ≡ false)
     → (is_some (definition_at ddoc name ds) ≡ false) × (without_definition ddoc name ds ≡ ds)
 stands_nowhere ddoc name [] n e before = (refl, refl)
 stands_nowhere ddoc name (d ∷ ds) n e before =
-    let no : is_at ddoc name d ≡ false = before d 0 (omega arith) in
+    let no : is_named ddoc name d ≡ false = before d 0 (omega arith) in
     let more = stands_nowhere ddoc name ds (length ds) refl (λ x k lt. before x (suc k) (omega arith)) in (
       ap (λ b. is_some (cond b (Some d) (definition_at ddoc name ds))) no ∙ more.0,
       ap (λ b. cond b ds (d ∷ without_definition ddoc name ds)) no ∙ ap (λ xs. d ∷ xs) more.1,
@@ -144,7 +144,7 @@ all_without_at P d ds more p h w false = (p, w)
 
 all_without : (P : IndexDefinition → Type 0) (ddoc name : List ℕ) (ds : List IndexDefinition) → AllByRecursion P ds → AllByRecursion P (without_definition ddoc name ds)
 all_without P ddoc name [] h = tt
-all_without P ddoc name (d ∷ ds) h = all_without_at P d ds (without_definition ddoc name ds) h.0 h.1 (all_without P ddoc name ds h.1) (is_at ddoc name d)
+all_without P ddoc name (d ∷ ds) h = all_without_at P d ds (without_definition ddoc name ds) h.0 h.1 (all_without P ddoc name ds h.1) (is_named ddoc name d)
 
 in_order_without : (d : IndexDefinition) (ds more : List IndexDefinition) → IsCatalog ds → IsCatalog (d ∷ more) → (b : Bool) → IsCatalog (cond b ds (d ∷ more))
 in_order_without d ds more h w true = h
@@ -154,7 +154,7 @@ in_order_without d ds more h w false = w
 pub IsCatalog-without : (ddoc name : List ℕ) (ds : List IndexDefinition) → IsCatalog ds → IsCatalog (without_definition ddoc name ds)
 IsCatalog-without ddoc name [] h = tt
 IsCatalog-without ddoc name (d ∷ ds) h =
-    in_order_without d ds (without_definition ddoc name ds) h.1 (all_without (λ e. definition_order d e ≡ Less) ddoc name ds h.0, IsCatalog-without ddoc name ds h.1) (is_at ddoc name d)
+    in_order_without d ds (without_definition ddoc name ds) h.1 (all_without (λ e. definition_order d e ≡ Less) ddoc name ds h.0, IsCatalog-without ddoc name ds h.1) (is_named ddoc name d)
 
 -- ---- the same definition
 
@@ -180,7 +180,7 @@ same_fields a b ddoc name texts columns direction =
 -- definitions that pass the test are the same
 pub same_definition : (a b : IndexDefinition) → is_same_definition a b ≡ true → a ≡ b
 same_definition a b h =
-    let p = and_parts (is_at b.ddoc b.name a) (is_same a.direction b.direction && (path_eq a.texts b.texts && pointwise path_eq a.columns b.columns)) h in
+    let p = and_parts (is_named b.ddoc b.name a) (is_same a.direction b.direction && (path_eq a.texts b.texts && pointwise path_eq a.columns b.columns)) h in
     let q = and_parts (is_same a.direction b.direction) (path_eq a.texts b.texts && pointwise path_eq a.columns b.columns) p.1 in
     let r = and_parts (path_eq a.texts b.texts) (pointwise path_eq a.columns b.columns) q.1 in
     let s = and_parts (bytes_eq b.ddoc a.ddoc) (bytes_eq b.name a.name) p.0 in
@@ -216,9 +216,9 @@ kept_at : (d e : IndexDefinition) (es : List IndexDefinition) → IsCatalog (e �
     → (definition_at d.ddoc d.name es ≡ Some d → with_definition d es ≡ es) → (o : Ordering) → definition_order d e ≡ o → with_at d e es o ≡ e ∷ es
 kept_at d e es c at more Less is = let none = sym (none_below d (e ∷ es) (is, below_all d e es is c.0)) ∙ at in absurd cc
 kept_at d e es c at more Equal is =
-    ap (λ x. x ∷ es) (some_same d e (sym (ap (λ b. cond b (Some e) (definition_at d.ddoc d.name es)) (is_at-is d e ∙ ap is_eq is)) ∙ at))
+    ap (λ x. x ∷ es) (some_same d e (sym (ap (λ b. cond b (Some e) (definition_at d.ddoc d.name es)) (is_named-is d e ∙ ap is_eq is)) ∙ at))
 kept_at d e es c at more Greater is =
-    ap (λ xs. e ∷ xs) (more (sym (ap (λ b. cond b (Some e) (definition_at d.ddoc d.name es)) (is_at-is d e ∙ ap is_eq is)) ∙ at))
+    ap (λ xs. e ∷ xs) (more (sym (ap (λ b. cond b (Some e) (definition_at d.ddoc d.name es)) (is_named-is d e ∙ ap is_eq is)) ∙ at))
 
 pub kept : (d : IndexDefinition) (ds : List IndexDefinition) → IsCatalog ds → definition_at d.ddoc d.name ds ≡ Some d → with_definition d ds ≡ ds
 kept d [] c at = absurd cc

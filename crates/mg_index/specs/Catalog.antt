@@ -13,12 +13,12 @@ abbrev pub definition_order : IndexDefinition → IndexDefinition → Ordering
 definition_order = then_cmp (on (λ d. d.ddoc) (slice_cmp nat_cmp)) (on (λ d. d.name) (slice_cmp nat_cmp))
 
 -- the definition has this design document and name
-abbrev pub is_at : List ℕ → List ℕ → IndexDefinition → Bool
-is_at ddoc name d = bytes_eq ddoc d.ddoc && bytes_eq name d.name
+abbrev pub is_named : List ℕ → List ℕ → IndexDefinition → Bool
+is_named ddoc name d = bytes_eq ddoc d.ddoc && bytes_eq name d.name
 
 -- the definition of that design document and name, if there is one
 abbrev pub definition_at : List ℕ → List ℕ → List IndexDefinition → Option IndexDefinition
-definition_at ddoc name ds = find (is_at ddoc name) ds
+definition_at ddoc name ds = find (is_named ddoc name) ds
 
 -- the definitions with d at its place in the order, where d replaces one of the same design document and name
 abbrev pub with_definition : IndexDefinition → List IndexDefinition → List IndexDefinition
@@ -28,7 +28,7 @@ with_definition d (e ∷ es) = match_ordering (definition_order d e) (d ∷ e �
 -- the definitions but the one of that design document and name
 abbrev pub without_definition : List ℕ → List ℕ → List IndexDefinition → List IndexDefinition
 without_definition ddoc name [] = []
-without_definition ddoc name (d ∷ ds) = if is_at ddoc name d then ds else d ∷ without_definition ddoc name ds
+without_definition ddoc name (d ∷ ds) = if is_named ddoc name d then ds else d ∷ without_definition ddoc name ds
 
 -- the definitions are in the order of design document, then name, each pair once: each is below all after it
 abbrev pub IsCatalog : List IndexDefinition → Type 0

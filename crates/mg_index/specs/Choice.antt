@@ -32,14 +32,14 @@ abbrev pub needs_part : Atom → Bool
 needs_part a = not (operator_holds a.operator a.sense None)
 
 -- the atom is on the column, and fails if that is missing
-abbrev pub asks_of : Steps → Atom → Bool
-asks_of column a = path_eq a.steps column && needs_part a
+abbrev pub requires_column : Steps → Atom → Bool
+requires_column column a = path_eq a.steps column && needs_part a
 
 -- each document that a query with these atoms and this sort finds has the column: each document has it (`_id`, `_rev`), or the
 -- sort names it, or some atom on it fails if it is missing
 abbrev pub is_covered : List Atom → List Steps → Steps → Bool
 is_covered atoms sort column =
-    path_eq column id_path || (path_eq column rev_path || (list_any (path_eq column) sort || list_any (asks_of column) atoms))
+    path_eq column id_path || (path_eq column rev_path || (list_any (path_eq column) sort || list_any (requires_column column) atoms))
 
 -- an index of these columns is usable for the query: each column is covered, and the columns begin with the sort's paths
 abbrev pub is_usable : List Atom → List Steps → List Steps → Bool

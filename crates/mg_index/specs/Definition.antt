@@ -8,7 +8,7 @@ use Rattle.hex.specs.Hex.{encode_lower}
 use Rattle.mg_value.specs.Value.{Value, null, text, list, object, no_members, member}
 use Rattle.mg_value.specs.View.{items_of}
 use Rattle.mg_value.specs.Text.{compact}
-use Rattle.mg_collate.specs.Direction.{direction_word}
+use Rattle.mg_collate.specs.Direction.{direction_name}
 use Rattle.mg_collate.specs.contracts.direction.Direction as direction
 use Rattle.mg_collate.specs.declared.direction.Direction.{Direction}
 use Rattle.mg_collate.specs.declared.direction.Direction.TheVariants.{Asc}
@@ -36,7 +36,7 @@ definition_code =
 
 -- a column as it is listed: `{path: direction}`
 abbrev pub field_value : Direction → List ℕ → Value
-field_value direction path = object (member path (text (direction_word direction)) no_members)
+field_value direction path = object (member path (text (direction_name direction)) no_members)
 
 -- `{"fields":[{path: direction},..]}`
 abbrev pub fields_value : Direction → List (List ℕ) → Value

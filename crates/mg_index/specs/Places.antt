@@ -12,6 +12,6 @@ IsSlotOf d ds (At n) = (n < length ds) × (with_definition d ds ≡ slice_set ds
 IsSlotOf d ds (Before n) = (n ≤ length ds) × (with_definition d ds ≡ insert ds n d) × (definition_at d.ddoc d.name ds ≡ None)
 
 -- the place, if there is one, is that of the definition of this design document and name
-abbrev pub IsPositionOf : List ℕ → List ℕ → List IndexDefinition → Option ℕ → Type 0
-IsPositionOf ddoc name ds None = (is_some (definition_at ddoc name ds) ≡ false) × (without_definition ddoc name ds ≡ ds)
-IsPositionOf ddoc name ds (Some n) = (n < length ds) × (is_some (definition_at ddoc name ds) ≡ true) × (without_definition ddoc name ds ≡ remove ds n)
+abbrev pub IsPlaceOf : List ℕ → List ℕ → List IndexDefinition → Option ℕ → Type 0
+IsPlaceOf ddoc name ds None = (is_some (definition_at ddoc name ds) ≡ false) × (without_definition ddoc name ds ≡ ds)
+IsPlaceOf ddoc name ds (Some n) = (n < length ds) × (is_some (definition_at ddoc name ds) ≡ true) × (without_definition ddoc name ds ≡ remove ds n)

@@ -108,9 +108,9 @@ is_not_partitioned (Some v) = false
 abbrev pub member_of_index : List ℕ → Value → Option Value
 member_of_index name v = option_and_then (member_of name) (member_of (codes "index") v)
 
--- the body asks for a JSON index of all documents
-abbrev pub is_plain : Value → Bool
-is_plain v =
+-- the body asks for an index of type `json` that is neither filtered nor partitioned
+abbrev pub is_json_index : Value → Bool
+is_json_index v =
     is_json_type (member_of (codes "type") v) && (is_not_partitioned (member_of (codes "partitioned") v)
     && (is_no_filter (member_of (codes "partial_filter_selector") v) && is_no_filter (member_of_index (codes "partial_filter_selector") v)))
 
@@ -125,7 +125,7 @@ definition_named ddoc name c =
 -- the definition that a body gives, or its fault
 abbrev pub definition_of : Value → Result IndexDefinition IndexError
 definition_of v =
-    if is_plain v then
+    if is_json_index v then
     or_fault Shape (text_given (member_of (codes "ddoc") v)) >>= (λ ddoc.
     or_fault Shape (text_given (member_of (codes "name") v)) >>= (λ name.
     columns_read (member_of_index (codes "fields") v) >>= (λ columns.
@@ -133,9 +133,9 @@ definition_of v =
     else Err Shape
 
 -- the fault of a body for a fault of a path
-abbrev pub fault_of_path : PathError → IndexError
-fault_of_path path_fault.Empty = Shape
-fault_of_path path_fault.NoMemory = NoMemory
+abbrev pub error_of_path : PathError → IndexError
+error_of_path path_fault.Empty = Shape
+error_of_path path_fault.NoMemory = NoMemory
 
 -- a call returned what the definition gives, unless an allocation failed
 abbrev pub ReadsAs : {X Y : Type 0} → (X → Y) → Result X IndexError → Result Y IndexError → Type 0

@@ -3,13 +3,13 @@ use Rattle.std.specs.Prelude.{Bool, false, ◌&&◌, List}
 use Rattle.std.specs.Option.{option_map_or}
 use Rattle.std.specs.Cmp.Lexicographic.{pointwise}
 use Rattle.mg_path.specs.Equal.{path_eq}
-use Rattle.mg_index.specs.Catalog.{definition_at, is_at}
+use Rattle.mg_index.specs.Catalog.{definition_at, is_named}
 use Rattle.mg_index.specs.Definition.{IndexDefinition}
 use Rattle.mg_index.specs.Reading.{is_same}
 
 -- whether two definitions are the same
 abbrev pub is_same_definition : IndexDefinition → IndexDefinition → Bool
-is_same_definition a b = is_at b.ddoc b.name a && (is_same a.direction b.direction && (path_eq a.texts b.texts && pointwise path_eq a.columns b.columns))
+is_same_definition a b = is_named b.ddoc b.name a && (is_same a.direction b.direction && (path_eq a.texts b.texts && pointwise path_eq a.columns b.columns))
 
 -- whether the same definition is among these
 abbrev pub is_there : IndexDefinition → List IndexDefinition → Bool

@@ -9,11 +9,11 @@ use Rattle.mg_index.specs.declared.choice.Choice.TheVariants.{AllDocs, Index}
 use Rattle.mg_index.specs.declared.error.NoUsableIndex.{NoUsableIndex}
 use Rattle.mg_index.specs.declared.query.Hint as code
 
--- the columns that were read
+-- the columns that a `Columns` of the code stands for
 abbrev pub columns_seen : column.Columns → Columns
 columns_seen c = record { texts = map string_bytes c.texts.items; steps = c.paths.items; direction = c.direction }
 
--- the hint
+-- the hint that a `Hint` of the code stands for
 abbrev pub hint_of : code.Hint → Hint
 hint_of code.TheVariants.None = no_hint
 hint_of (code.TheVariants.Ddoc ddoc) = in_document (string_bytes ddoc)

@@ -4,9 +4,8 @@ ghost use Rattle.mg_value.specs.View.{view};
 ghost use Rattle.mg_path.specs.Equal.{path_eq};
 ghost use Rattle.mg_selector.specs.View.{operator_of};
 ghost use Rattle.mg_normal.specs.View.{atom_view, atoms_view, sense_of};
-ghost use Rattle.mg_index.specs.Bound.{allows, bound_by, bound_in, bound_on, bounds_on, is_exact, is_fixed as has_one_value, is_bounded as has_bound, bounded_count};
+ghost use Rattle.mg_index.specs.Bound.{allows, bound_by, bound_in, bound_on, bounds_on, is_exact, is_fixed, is_bounded, bounded_count};
 
-use mg_collate::compare;
 use mg_normal::Atom;
 use mg_path::Path;
 use mg_selector::Op;
@@ -56,7 +55,7 @@ impl<'a> Bound<'a> {
         ensures { option_map (λ b. bound_by b.comparison (view b.value.now)) result
             ≡ bound_on column.now (atom_view atom.now) }
     {
-        if is_asked_of(atom, column) {
+        if is_on(atom, column) {
             bound_of(&atom.op, atom.negated)
         } else {
             None
@@ -65,7 +64,7 @@ impl<'a> Bound<'a> {
 }
 
 // Whether the atom is on the part at the path.
-pub(crate) fn is_asked_of(atom: &Atom, column: &Path) -> bool
+pub(crate) fn is_on(atom: &Atom, column: &Path) -> bool
     ensures { result ≡ path_eq (map string_bytes atom.now.steps.items) column.now }
 {
     atom.steps.as_slice() == column.steps()
@@ -121,13 +120,13 @@ pub fn fixed_value<'a>(column: &Path, atoms: &'a [Atom]) -> Option<&'a Json>
 
 #[tactic(auto, using(crate::proofs::Bounds::some_found))]
 fn is_fixed(column: &Path, atoms: &[Atom]) -> bool
-    ensures { result ≡ has_one_value (atoms_view atoms.now) column.now }
+    ensures { result ≡ is_fixed (atoms_view atoms.now) column.now }
 {
     fixed_value(column, atoms).is_some()
 }
 
 fn is_bounded(column: &Path, atoms: &[Atom]) -> bool
-    ensures { result ≡ has_bound (atoms_view atoms.now) column.now }
+    ensures { result ≡ is_bounded (atoms_view atoms.now) column.now }
 {
     for atom in atoms {
         if Bound::on(column, atom).is_some() {

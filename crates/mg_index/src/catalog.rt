@@ -1,6 +1,6 @@
 ghost use Rattle.std.specs.Prelude.{◌≡◌, ◌≢◌, List, [], ◌∷◌, IfOk, OnOk, OnErr, Ok, Some, true, option_map, is_some};
 ghost use Rattle.mg_index.specs.Catalog.{IsCatalog, definition_at, with_definition, without_definition};
-ghost use Rattle.mg_index.specs.Places.{IsPositionOf, IsSlotOf};
+ghost use Rattle.mg_index.specs.Places.{IsPlaceOf, IsSlotOf};
 ghost use Rattle.mg_index.specs.Same.{is_there};
 
 use crate::definition::IndexDef;
@@ -127,7 +127,7 @@ impl Catalog {
         ensures removed { result ≡ is_some (definition_at ddoc.now name.now self.old) }
         ensures rest { self.new ≡ without_definition ddoc.now name.now self.old }
     {
-        match position_of(&self.definitions, ddoc, name) {
+        match place_of(&self.definitions, ddoc, name) {
             Some(place) => {
                 drop(self.definitions.remove(place));
                 true
@@ -150,15 +150,15 @@ impl Catalog {
 fn definition_at<'a>(definitions: &'a [IndexDef], ddoc: &str, name: &str) -> Option<&'a IndexDef>
     ensures { option_map (λ d. d.now) result ≡ definition_at ddoc.now name.now definitions.now }
 {
-    definitions.iter().find(|d| d.is_at(ddoc, name))
+    definitions.iter().find(|d| d.is_named(ddoc, name))
 }
 
 // The place of the definition of this design document and name, if there is one.
-fn position_of(definitions: &[IndexDef], ddoc: &str, name: &str) -> Option<usize>
-    ensures { IsPositionOf ddoc.now name.now definitions.now result }
+fn place_of(definitions: &[IndexDef], ddoc: &str, name: &str) -> Option<usize>
+    ensures { IsPlaceOf ddoc.now name.now definitions.now result }
 {
     for (place, definition) in definitions.iter().enumerate() {
-        if definition.is_at(ddoc, name) {
+        if definition.is_named(ddoc, name) {
             return Some(place);
         }
     }

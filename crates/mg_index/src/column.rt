@@ -4,11 +4,11 @@ ghost use Rattle.mg_value.specs.View.{view, items_view};
 ghost use Rattle.mg_value.specs.Value.{list};
 ghost use Rattle.mg_path.specs.Part.{steps_of};
 ghost use Rattle.mg_selector.specs.Fault.{or_fault};
-ghost use Rattle.mg_index.specs.Reading.{ReadsAs, each_of, field_path as path_text, field_direction as direction_given, one_direction as shared_direction, columns_of, columns_read};
+ghost use Rattle.mg_index.specs.Reading.{ReadsAs, each_of, field_path, field_direction, one_direction, columns_of, columns_read};
 ghost use Rattle.mg_index.specs.View.{columns_seen};
 
 use crate::error::IndexError;
-use crate::field::{are_all, field_direction, field_path};
+use crate::field::{all_have_direction, field_direction, field_path};
 use mg_collate::Direction;
 use mg_path::Path;
 use mg_value::Json;
@@ -45,7 +45,7 @@ fn columns_in(alloc: Global, fields: &[Json]) -> Result<Columns, IndexError>
 
 fn read_texts(alloc: Global, fields: &[Json]) -> Result<Vec<String>, IndexError>
     ensures { ReadsAs (λ v. map string_bytes v.items) result
-        (or_fault IndexError.Shape (each_of path_text (map view fields.now))) }
+        (or_fault IndexError.Shape (each_of field_path (map view fields.now))) }
 {
     let mut texts = Vec::with_capacity(alloc, fields.len())?;
     for field in fields {
@@ -71,7 +71,7 @@ fn read_paths(alloc: Global, texts: &[String]) -> Result<Vec<Path>, IndexError>
 
 fn read_directions(alloc: Global, fields: &[Json]) -> Result<Vec<Direction>, IndexError>
     ensures { ReadsAs (λ v. v.items) result
-        (or_fault IndexError.Shape (each_of direction_given (map view fields.now))) }
+        (or_fault IndexError.Shape (each_of field_direction (map view fields.now))) }
 {
     let mut directions = Vec::with_capacity(alloc, fields.len())?;
     for field in fields {
@@ -85,12 +85,12 @@ fn read_directions(alloc: Global, fields: &[Json]) -> Result<Vec<Direction>, Ind
 
 // The direction that all columns have. `Shape` without columns, `Mixed` if the directions differ.
 fn one_direction(directions: &[Direction]) -> Result<Direction, IndexError>
-    ensures { ReadsAs (λ d. d) result (shared_direction directions.now) }
+    ensures { ReadsAs (λ d. d) result (one_direction directions.now) }
 {
     let Some((first, others)) = directions.split_first() else {
         return Err(IndexError::Shape);
     };
-    if are_all(*first, others) {
+    if all_have_direction(*first, others) {
         Ok(*first)
     } else {
         Err(IndexError::Mixed)

@@ -2,7 +2,7 @@ ghost use Rattle.std.specs.Prelude.{◌≡◌, Err, IfOk, map, string_bytes, unw
 ghost use Rattle.std.specs.Result.{result_err};
 ghost use Rattle.mg_value.specs.View.{view as json_view};
 ghost use Rattle.mg_path.specs.Equal.{path_eq};
-ghost use Rattle.mg_index.specs.Catalog.{is_at as is_the_one, definition_order};
+ghost use Rattle.mg_index.specs.Catalog.{is_named, definition_order};
 ghost use Rattle.mg_index.specs.Definition.{listed_of};
 ghost use Rattle.mg_index.specs.Same.{is_same_definition};
 ghost use Rattle.mg_index.specs.Reading.{ReadsAs, definition_of};
@@ -18,7 +18,7 @@ use std::alloc::Global;
 use std::cmp::Ordering;
 use std::marker::Model;
 
-/// An index definition: the design document and the name that identify it, its columns, at least one, and
+/// An index definition: the design document and the name that identify it, its columns (at least one), and
 /// the direction that was given for them. An index can be read in both directions.
 #[derive(Debug, Drop)]
 pub struct IndexDef {
@@ -51,7 +51,7 @@ impl IndexDef {
     ///
     /// - `index`, an object whose `fields` is an array of one or more columns, each `{path: "asc"}`,
     ///   `{path: "desc"}`, or the text of a path, which is ascending.
-    /// - `ddoc` and `name`, texts that are not empty; both may be absent. `_design/` is put before a `ddoc`
+    /// - `ddoc` and `name`, texts that are not empty; either may be absent. `_design/` is put before a `ddoc`
     ///   that does not begin with it. An absent name is the MD5, in lower-case hexadecimal, of the compact
     ///   text of `{"fields":[{path: direction},..]}`, and an absent ddoc is `_design/` and that digest.
     /// - `type`, which is `json`; `partial_filter_selector`, here or in `index`, which is `{}`;
@@ -128,8 +128,8 @@ impl IndexDef {
     }
 
     /// Whether the definition has this design document and name. Takes no memory. Cost: the length of both texts.
-    pub fn is_at(&self, ddoc: &str, name: &str) -> bool
-        ensures { result ≡ is_the_one ddoc.now name.now self.now }
+    pub fn is_named(&self, ddoc: &str, name: &str) -> bool
+        ensures { result ≡ is_named ddoc.now name.now self.now }
     {
         name == self.name.as_str() && ddoc == self.ddoc.as_str()
     }
@@ -147,7 +147,7 @@ impl IndexDef {
     pub fn is_same(&self, other: &IndexDef) -> bool
         ensures { result ≡ is_same_definition self.now other.now }
     {
-        self.is_at(other.ddoc.as_str(), other.name.as_str())
+        self.is_named(other.ddoc.as_str(), other.name.as_str())
             && self.direction == other.direction
             && are_same_texts(&self.texts, &other.texts)
             && self.columns == other.columns

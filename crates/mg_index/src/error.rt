@@ -57,9 +57,9 @@ impl From<NoMemory> for IndexError {
 
 impl From<PathError> for IndexError {
     ghost use Rattle.std.specs.Prelude.{◌≡◌};
-    ghost use Rattle.mg_index.specs.Reading.{fault_of_path};
+    ghost use Rattle.mg_index.specs.Reading.{error_of_path};
 
-    ghost from_gives = { λ fault error. error ≡ fault_of_path fault };
+    ghost from_gives = { λ fault error. error ≡ error_of_path fault };
 
     fn from(fault: PathError) -> IndexError {
         match fault {

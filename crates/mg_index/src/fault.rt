@@ -4,12 +4,12 @@ ghost use Rattle.std.specs.List.{list_all};
 ghost use Rattle.std.specs.Result.{result_err};
 ghost use Rattle.mg_value.specs.View.{view, items_view};
 ghost use Rattle.mg_value.specs.Value.{list};
-ghost use Rattle.mg_index.specs.Fault.{is_column as gives_column, is_directed as gives_direction, fault_of_directions};
-ghost use Rattle.mg_index.specs.Reading.{each_of, definition_of, columns_read, field_direction as direction_given};
+ghost use Rattle.mg_index.specs.Fault.{is_column, is_directed, fault_of_directions};
+ghost use Rattle.mg_index.specs.Reading.{each_of, definition_of, columns_read, field_direction};
 
 use crate::error::IndexError;
 use crate::field::{field_direction, field_path};
-use crate::reader::{is_plain, member_of_index, text_given};
+use crate::reader::{is_json_index, member_of_index, text_given};
 use mg_collate::Direction;
 use mg_path::is_path;
 use mg_value::Json;
@@ -18,7 +18,7 @@ use mg_value::Json;
 pub(crate) fn fault_of(body: &Json) -> Option<IndexError>
     ensures { result ≡ result_err (definition_of (view body.now)) }
 {
-    if !is_plain(body) {
+    if !is_json_index(body) {
         return Some(IndexError::Shape);
     }
     if text_given(body.member("ddoc")).is_err() || text_given(body.member("name")).is_err() {
@@ -50,7 +50,7 @@ fn columns_fault(fields: &[Json]) -> Option<IndexError>
 
 // Whether each field gives a path and a direction.
 fn are_columns(fields: &[Json]) -> bool
-    ensures { result ≡ list_all gives_column (map view fields.now) }
+    ensures { result ≡ list_all is_column (map view fields.now) }
 {
     for field in fields {
         if !is_column(field) {
@@ -61,7 +61,7 @@ fn are_columns(fields: &[Json]) -> bool
 }
 
 fn is_column(field: &Json) -> bool
-    ensures { result ≡ gives_column (view field.now) }
+    ensures { result ≡ is_column (view field.now) }
 {
     match field_path(field) {
         Some(path) => is_path(path) && field_direction(field).is_some(),
@@ -71,7 +71,7 @@ fn is_column(field: &Json) -> bool
 
 // The fault of the directions of columns that each have one.
 fn direction_fault(fields: &[Json]) -> Option<IndexError>
-    requires { is_some (each_of direction_given (map view fields.now)) ≡ true }
+    requires { is_some (each_of field_direction (map view fields.now)) ≡ true }
     ensures { result ≡ fault_of_directions (map view fields.now) }
 {
     let Some((first, others)) = fields.split_first() else {
@@ -85,7 +85,7 @@ fn direction_fault(fields: &[Json]) -> Option<IndexError>
 
 // `Mixed` if one of the others does not have this direction.
 fn mixed_fault(direction: Direction, others: &[Json]) -> Option<IndexError>
-    ensures { result ≡ (if list_all (gives_direction direction) (map view others.now)
+    ensures { result ≡ (if list_all (is_directed direction) (map view others.now)
         then None else Some IndexError.Mixed) }
 {
     for field in others {
@@ -97,7 +97,7 @@ fn mixed_fault(direction: Direction, others: &[Json]) -> Option<IndexError>
 }
 
 fn is_directed(direction: Direction, field: &Json) -> bool
-    ensures { result ≡ gives_direction direction (view field.now) }
+    ensures { result ≡ is_directed direction (view field.now) }
 {
     match field_direction(field) {
         Some(given) => direction == given,

@@ -3,14 +3,14 @@
 ghost use Rattle.std.specs.Prelude.{◌≡◌, option_map};
 ghost use Rattle.std.specs.List.{list_all};
 ghost use Rattle.mg_value.specs.View.{view, members_view};
-ghost use Rattle.mg_index.specs.Reading.{field_path as path_text, field_direction as direction_given, direction_in as named_direction, only_member as member_alone, is_same};
+ghost use Rattle.mg_index.specs.Reading.{field_path, field_direction, direction_in, only_member, is_same};
 
 use mg_collate::Direction;
 use mg_value::Json;
 use std::collections::BTreeMap;
 
 /// Whether all others have this direction. Takes no memory. Cost: their number.
-pub fn are_all(direction: Direction, others: &[Direction]) -> bool
+pub fn all_have_direction(direction: Direction, others: &[Direction]) -> bool
     ensures { result ≡ list_all (is_same direction) others.now }
 {
     for other in others {
@@ -24,7 +24,7 @@ pub fn are_all(direction: Direction, others: &[Direction]) -> bool
 /// The text of a field's path, if it has one. Takes no memory. Source: `fields` and `sort` in CouchDB's API
 /// reference.
 pub fn field_path(field: &Json) -> Option<&str>
-    ensures { option_map (λ t. t.now) result ≡ path_text (view field.now) }
+    ensures { option_map (λ t. t.now) result ≡ field_path (view field.now) }
 {
     match field {
         Json::Text(path) => Some(path.as_str()),
@@ -39,7 +39,7 @@ pub fn field_path(field: &Json) -> Option<&str>
 /// A field's direction, if it has one: ascending if the field is a text. Takes no memory. Source: as for
 /// `field_path`.
 pub fn field_direction(field: &Json) -> Option<Direction>
-    ensures { result ≡ direction_given (view field.now) }
+    ensures { result ≡ field_direction (view field.now) }
 {
     match field {
         Json::Text(_) => Some(Direction::Asc),
@@ -53,7 +53,7 @@ pub fn field_direction(field: &Json) -> Option<Direction>
 
 // The direction that a value names.
 fn direction_in(value: &Json) -> Option<Direction>
-    ensures { result ≡ named_direction (view value.now) }
+    ensures { result ≡ direction_in (view value.now) }
 {
     match value {
         Json::Text(word) => Direction::named(word.as_str()),
@@ -64,7 +64,7 @@ fn direction_in(value: &Json) -> Option<Direction>
 // The one member of an object.
 fn only_member(members: &BTreeMap<String, Json>) -> Option<(&str, &Json)>
     ensures { option_map (λ m. (m.0.now, view m.1.now)) result
-        ≡ member_alone (members_view members.now.entries) }
+        ≡ only_member (members_view members.now.entries) }
 {
     let mut members = members.iter();
     let (name, value) = members.next()?;

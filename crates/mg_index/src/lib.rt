@@ -20,6 +20,6 @@ pub use catalog::{Added, Catalog};
 pub use choice::{Choice, choose};
 pub use definition::IndexDef;
 pub use error::{IndexError, NoUsableIndex};
-pub use field::{are_all, field_direction, field_path};
+pub use field::{all_have_direction, field_direction, field_path};
 pub use listing::{all_docs_listed, design_document};
 pub use query::{Hint, Sort};

@@ -1,7 +1,7 @@
 // How an index is listed and named.
 ghost use Rattle.std.specs.Prelude.{◌≡◌, IfOk, map, string_bytes};
 ghost use Rattle.mg_value.specs.View.{view};
-ghost use Rattle.mg_index.specs.Definition.{fields_value, fields_digest as digest_of, field_value, design_document as design_of, design_front, listed_all_docs};
+ghost use Rattle.mg_index.specs.Definition.{fields_value, fields_digest, field_value, design_document, design_front, listed_all_docs};
 
 use md5::{Digest, Md5};
 use mg_collate::Direction;
@@ -14,7 +14,7 @@ const DESIGN_FRONT: &str = "_design/";
 ///
 /// Errors: `NoMemory` if an allocation fails. Cost: the length of the text.
 pub fn design_document(alloc: Global, text: &str) -> Result<String, NoMemory>
-    ensures { IfOk result (λ t. string_bytes t ≡ design_of text.now) }
+    ensures { IfOk result (λ t. string_bytes t ≡ design_document text.now) }
 {
     if text.starts_with(DESIGN_FRONT) {
         Ok(String::from_str(alloc, text)?)
@@ -69,9 +69,9 @@ pub(crate) fn fields_json(
 fn field_json(alloc: Global, direction: Direction, text: &str) -> Result<Json, NoMemory>
     ensures { IfOk result (λ v. view v ≡ field_value direction text.now) }
 {
-    let word = String::from_str(alloc, direction.word())?;
+    let name = String::from_str(alloc, direction.name())?;
     let mut field = Json::empty_object(alloc);
-    field.insert(alloc, text, Json::Text(word))?;
+    field.insert(alloc, text, Json::Text(name))?;
     Ok(field)
 }
 
@@ -82,7 +82,7 @@ pub(crate) fn fields_digest(
     texts: &[String],
 ) -> Result<String, NoMemory>
     ensures { IfOk result
-        (λ t. string_bytes t ≡ digest_of direction (map string_bytes texts.now)) }
+        (λ t. string_bytes t ≡ fields_digest direction (map string_bytes texts.now)) }
 {
     let fields = fields_json(alloc, direction, texts)?;
     let text = write(alloc, &fields)?;

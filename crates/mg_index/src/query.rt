@@ -1,4 +1,4 @@
-// What a query says of the indexes: its sort and its hint.
+// The sort and the hint of a query.
 ghost use Rattle.std.specs.Prelude.{◌≡◌};
 ghost use Rattle.mg_index.specs.Choice.{is_hinted};
 ghost use Rattle.mg_index.specs.View.{hint_of};
@@ -15,7 +15,7 @@ pub struct Sort {
 }
 
 /// Which indexes a query prefers: none, those of a design document, or the one of a design document and
-/// name. Design documents begin with `_design/`.
+/// name. The name of a design document begins with `_design/`.
 #[derive(Debug, Drop)]
 pub enum Hint {
     None,
@@ -31,7 +31,7 @@ impl Hint {
         match self {
             Hint::None => false,
             Hint::Ddoc(ddoc) => ddoc.as_str() == definition.ddoc(),
-            Hint::Both(ddoc, name) => definition.is_at(ddoc.as_str(), name.as_str()),
+            Hint::Both(ddoc, name) => definition.is_named(ddoc.as_str(), name.as_str()),
         }
     }
 }

@@ -3,7 +3,7 @@ ghost use Rattle.std.specs.Prelude.{◌≡◌, IfOk, Some, is_err, is_none, opti
 ghost use Rattle.mg_value.specs.Value.{object};
 ghost use Rattle.mg_value.specs.View.{view, members_view};
 ghost use Rattle.mg_selector.specs.Fault.{or_fault};
-ghost use Rattle.mg_index.specs.Reading.{ReadsAs, definition_of, columns_read, is_plain as asks_plainly, is_json_type as names_json, is_no_filter as keeps_all, is_not_partitioned as has_one_part, member_of_index as member_in_index, definition_named as named_by, text_given as given_text};
+ghost use Rattle.mg_index.specs.Reading.{ReadsAs, definition_of, columns_read, is_json_index, is_json_type, is_no_filter, is_not_partitioned, member_of_index, definition_named, text_given};
 ghost use Rattle.mg_index.specs.View.{columns_seen};
 
 use crate::column::{Columns, read_columns};
@@ -18,7 +18,7 @@ use std::collections::BTreeMap;
 pub(crate) fn read_definition(alloc: Global, body: &Json) -> Result<IndexDef, IndexError>
     ensures { ReadsAs (λ d. d) result (definition_of (view body.now)) }
 {
-    if !is_plain(body) {
+    if !is_json_index(body) {
         return Err(IndexError::Shape);
     }
     let ddoc = text_given(body.member("ddoc"))?;
@@ -37,11 +37,11 @@ fn read_fields(alloc: Global, fields: Option<&Json>) -> Result<Columns, IndexErr
     }
 }
 
-// The text, if the value is there; `Shape` if it is an empty text or no text.
+// The text, if the value is there; `Shape` if it is an empty text or not a text.
 pub(crate) fn text_given(value: Option<&Json>) -> Result<Option<&str>, IndexError>
     ensures text { ReadsAs (option_map (λ t. t.now)) result
-        (or_fault IndexError.Shape (given_text (option_map (λ j. view j.now) value.entry))) }
-    ensures fault { is_err result ≡ is_none (given_text (option_map (λ j. view j.now) value.entry)) }
+        (or_fault IndexError.Shape (text_given (option_map (λ j. view j.now) value.entry))) }
+    ensures fault { is_err result ≡ is_none (text_given (option_map (λ j. view j.now) value.entry)) }
 {
     match value {
         None => Ok(None),
@@ -50,14 +50,15 @@ pub(crate) fn text_given(value: Option<&Json>) -> Result<Option<&str>, IndexErro
     }
 }
 
-// The definition of these columns. An absent name or design document is named by the digest of the fields.
+// The definition of these columns. An absent name is the digest of the fields, and an absent design document is
+// `_design/` and that digest.
 fn name_definition(
     alloc: Global,
     ddoc: Option<&str>,
     name: Option<&str>,
     columns: Columns,
 ) -> Result<IndexDef, NoMemory>
-    ensures { IfOk result (λ d. d ≡ named_by (option_map (λ t. t.now) ddoc.entry)
+    ensures { IfOk result (λ d. d ≡ definition_named (option_map (λ t. t.now) ddoc.entry)
         (option_map (λ t. t.now) name.entry) (columns_seen columns)) }
 {
     let digest = fields_digest(alloc, columns.direction, &columns.texts)?;
@@ -78,9 +79,9 @@ fn name_definition(
     })
 }
 
-// Whether the body asks for a JSON index of all documents: no other type, no partial filter, not partitioned.
-pub(crate) fn is_plain(body: &Json) -> bool
-    ensures { result ≡ asks_plainly (view body.now) }
+// Whether the body asks for an index of type `json` that is neither filtered nor partitioned.
+pub(crate) fn is_json_index(body: &Json) -> bool
+    ensures { result ≡ is_json_index (view body.now) }
 {
     is_json_type(body.member("type"))
         && is_not_partitioned(body.member("partitioned"))
@@ -89,7 +90,7 @@ pub(crate) fn is_plain(body: &Json) -> bool
 }
 
 fn is_json_type(value: Option<&Json>) -> bool
-    ensures { result ≡ names_json (option_map (λ j. view j.now) value.entry) }
+    ensures { result ≡ is_json_type (option_map (λ j. view j.now) value.entry) }
 {
     match value {
         None => true,
@@ -99,7 +100,7 @@ fn is_json_type(value: Option<&Json>) -> bool
 }
 
 fn is_no_filter(value: Option<&Json>) -> bool
-    ensures { result ≡ keeps_all (option_map (λ j. view j.now) value.entry) }
+    ensures { result ≡ is_no_filter (option_map (λ j. view j.now) value.entry) }
 {
     match value {
         None => true,
@@ -109,13 +110,13 @@ fn is_no_filter(value: Option<&Json>) -> bool
 }
 
 fn has_none(members: &BTreeMap<String, Json>) -> bool
-    ensures { result ≡ keeps_all (Some (object (members_view members.now.entries))) }
+    ensures { result ≡ is_no_filter (Some (object (members_view members.now.entries))) }
 {
     members.iter().next().is_none()
 }
 
 fn is_not_partitioned(value: Option<&Json>) -> bool
-    ensures { result ≡ has_one_part (option_map (λ j. view j.now) value.entry) }
+    ensures { result ≡ is_not_partitioned (option_map (λ j. view j.now) value.entry) }
 {
     match value {
         None => true,
@@ -126,7 +127,7 @@ fn is_not_partitioned(value: Option<&Json>) -> bool
 
 // The member of `index` that has this name.
 pub(crate) fn member_of_index<'a>(body: &'a Json, name: &str) -> Option<&'a Json>
-    ensures { option_map (λ v. view v.now) result ≡ member_in_index name.now (view body.now) }
+    ensures { option_map (λ v. view v.now) result ≡ member_of_index name.now (view body.now) }
 {
     body.member("index")?.member(name)
 }

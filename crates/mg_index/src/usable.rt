@@ -3,22 +3,22 @@ ghost use Rattle.std.specs.Prelude.{◌≡◌, [], ◌∷◌};
 ghost use Rattle.std.specs.List.{list_all, list_any};
 ghost use Rattle.mg_path.specs.Equal.{path_eq};
 ghost use Rattle.mg_normal.specs.View.{atom_view, atoms_view};
-ghost use Rattle.mg_index.specs.Choice.{is_usable as serves, is_covered as has_cover, needs_part as part_is_needed, all_docs_usable as all_docs_serves, asks_of};
+ghost use Rattle.mg_index.specs.Choice.{is_usable, is_covered, needs_part, all_docs_usable, requires_column};
 
-use crate::bound::is_asked_of;
+use crate::bound::is_on;
 use mg_normal::Atom;
 use mg_path::Path;
 use mg_selector::Sense;
 
 // Whether an index of these columns is usable for a query with these atoms and this sort.
 pub(crate) fn is_usable(atoms: &[Atom], sort: &[Path], columns: &[Path]) -> bool
-    ensures { result ≡ serves (atoms_view atoms.now) sort.now columns.now }
+    ensures { result ≡ is_usable (atoms_view atoms.now) sort.now columns.now }
 {
     are_covered(atoms, sort, columns) && columns.starts_with(sort)
 }
 
 fn are_covered(atoms: &[Atom], sort: &[Path], columns: &[Path]) -> bool
-    ensures { result ≡ list_all (has_cover (atoms_view atoms.now) sort.now) columns.now }
+    ensures { result ≡ list_all (is_covered (atoms_view atoms.now) sort.now) columns.now }
 {
     for column in columns {
         if !is_covered(atoms, sort, column) {
@@ -30,12 +30,12 @@ fn are_covered(atoms: &[Atom], sort: &[Path], columns: &[Path]) -> bool
 
 // Whether each document that the query finds has the column.
 fn is_covered(atoms: &[Atom], sort: &[Path], column: &Path) -> bool
-    ensures { result ≡ has_cover (atoms_view atoms.now) sort.now column.now }
+    ensures { result ≡ is_covered (atoms_view atoms.now) sort.now column.now }
 {
     is_member(column, "_id")
         || is_member(column, "_rev")
         || is_among(sort, column)
-        || is_asked_of_some(atoms, column)
+        || some_requires_column(atoms, column)
 }
 
 fn is_among(paths: &[Path], column: &Path) -> bool
@@ -50,11 +50,11 @@ fn is_among(paths: &[Path], column: &Path) -> bool
 }
 
 // Whether some atom fails if the column is missing.
-fn is_asked_of_some(atoms: &[Atom], column: &Path) -> bool
-    ensures { result ≡ list_any (asks_of column.now) (atoms_view atoms.now) }
+fn some_requires_column(atoms: &[Atom], column: &Path) -> bool
+    ensures { result ≡ list_any (requires_column column.now) (atoms_view atoms.now) }
 {
     for atom in atoms {
-        if asks_of(column, atom) {
+        if requires_column(column, atom) {
             return true;
         }
     }
@@ -62,15 +62,15 @@ fn is_asked_of_some(atoms: &[Atom], column: &Path) -> bool
 }
 
 // Whether the atom fails if the column is missing.
-fn asks_of(column: &Path, atom: &Atom) -> bool
-    ensures { result ≡ asks_of column.now (atom_view atom.now) }
+fn requires_column(column: &Path, atom: &Atom) -> bool
+    ensures { result ≡ requires_column column.now (atom_view atom.now) }
 {
-    is_asked_of(atom, column) && needs_part(atom)
+    is_on(atom, column) && needs_part(atom)
 }
 
 // Whether the atom fails if its part is missing.
 fn needs_part(atom: &Atom) -> bool
-    ensures { result ≡ part_is_needed (atom_view atom.now) }
+    ensures { result ≡ needs_part (atom_view atom.now) }
 {
     let sense = if atom.negated {
         Sense::Negated
@@ -82,7 +82,7 @@ fn needs_part(atom: &Atom) -> bool
 
 // Whether the index of all documents is usable for the sort.
 pub(crate) fn is_all_docs_usable(sort: &[Path]) -> bool
-    ensures { result ≡ all_docs_serves sort.now }
+    ensures { result ≡ all_docs_usable sort.now }
 {
     match sort {
         [] => true,

@@ -24,15 +24,15 @@ use Rattle.mg_engine.specs.contracts.engine.Engine as Engine
 use Rattle.mg_engine.specs.contracts.engine.Engine.TheInside as engine
 use Rattle.mg_engine.specs.contracts.state.State as State
 use Rattle.mg_index.proofs.definition.IndexDef.TheSendSync as definition
-use Rattle.mg_live.specs.contracts.database.Waiting as Waiting
+use Rattle.mg_live.specs.contracts.database.WaitForReaders as WaitForReaders
 use Rattle.mg_live.specs.contracts.desk.Desk as Desk
 use Rattle.mg_live.specs.contracts.desk.Desk.TheInside as desk
 use Rattle.mg_live.specs.contracts.tally.Tally.TheInside as tally
 use Rattle.mg_live.proofs.commit_log.Prefix.TheSendSync as prefix
-use Rattle.mg_live.specs.contracts.markers.Ours as Ours
-use Rattle.mg_live.specs.contracts.markers.OursProtocolSnapshotUnit.TheImpl as protocol_of
+use Rattle.mg_live.specs.contracts.markers.SnapshotRule as SnapshotRule
+use Rattle.mg_live.specs.contracts.markers.SnapshotRuleProtocolSnapshotUnit.TheImpl as protocol_of
 use Rattle.mg_live.specs.contracts.publication.SnapshotAbsorbUnit.TheImpl as absorb_of
-use Rattle.mg_live.specs.contracts.seat.Named as Named
+use Rattle.mg_live.specs.contracts.seat.OwnLogWord as OwnLogWord
 use Rattle.mg_live.specs.contracts.seat.Seat.TheInside as seat
 use Rattle.mg_live.specs.contracts.seat.Seat as Seat
 use Rattle.mg_live.specs.contracts.seat.SharedDesk as SharedDesk
@@ -81,11 +81,11 @@ mutex_send R s = search (sendable, crosses, s) depth 20
 mutex_sync : (R : RattleType) → IsSend R → IsSync (Mutex.the_row R)
 mutex_sync R s = search (sendable, crosses, s) depth 20
 
-named_send : (D : RattleType) (d : database.Ghosts D.Denot) (l : ledger.Ghosts D.Denot) → IsSend (Named.the_row D d l)
-named_send D d l = declared_send (Named.the_type D d l) (log_word.the_send, (search (sendable, as_row_send) depth 10, tt))
+named_send : (D : RattleType) (d : database.Ghosts D.Denot) (l : ledger.Ghosts D.Denot) → IsSend (OwnLogWord.the_row D d l)
+named_send D d l = declared_send (OwnLogWord.the_type D d l) (log_word.the_send, (search (sendable, as_row_send) depth 10, tt))
 
-named_sync : (D : RattleType) (d : database.Ghosts D.Denot) (l : ledger.Ghosts D.Denot) → IsSync (Named.the_row D d l)
-named_sync D d l = declared_sync (Named.the_type D d l) (log_word.the_sync, (search (sendable, as_row_sync) depth 10, tt))
+named_sync : (D : RattleType) (d : database.Ghosts D.Denot) (l : ledger.Ghosts D.Denot) → IsSync (OwnLogWord.the_row D d l)
+named_sync D d l = declared_sync (OwnLogWord.the_type D d l) (log_word.the_sync, (search (sendable, as_row_sync) depth 10, tt))
 
 unit_send : IsSend unit
 unit_send = search sendable depth 10
@@ -93,21 +93,21 @@ unit_send = search sendable depth 10
 -- ---- a database, what ends it, and the placement of its documents
 
 module _ (D C P : RattleType) (d : database.Ghosts D.Denot) (l : ledger.Ghosts D.Denot) (p : placement.Ghosts P.Denot) (b : absorb.Ghosts (Snapshot.the_row P).Denot unit.Denot unit.Denot) (c : IsSend C) (s : IsSend P) (y : IsSync P) where
-  abbrev rule : protocol.Ghosts (Ours.the_row D P).Denot (Snapshot.the_row P).Denot unit.Denot
+  abbrev rule : protocol.Ghosts (SnapshotRule.the_row D P).Denot (Snapshot.the_row P).Denot unit.Denot
   rule = protocol_of.ghosts D P d protocol_of.no_dict l protocol_of.no_dict p protocol_of.no_dict
 
   abbrev Reads : RattleType
-  Reads = Reader.the_row (Snapshot.the_row P) unit (Ours.the_row D P) Global.the_row rule allocator.ghosts
+  Reads = Reader.the_row (Snapshot.the_row P) unit (SnapshotRule.the_row D P) Global.the_row rule allocator.ghosts
 
   reads_send : IsSend Reads
-  reads_send = reader.the_send (Snapshot.the_row P) unit (Ours.the_row D P) Global.the_row rule allocator.ghosts send (snapshot_sync P s y) sync frees
+  reads_send = reader.the_send (Snapshot.the_row P) unit (SnapshotRule.the_row D P) Global.the_row rule allocator.ghosts send (snapshot_sync P s y) sync frees
 
   abbrev Writes : RattleType
-  Writes = Writer.the_row (Snapshot.the_row P) unit unit (Ours.the_row D P) Global.the_row unit b rule allocator.ghosts
+  Writes = Writer.the_row (Snapshot.the_row P) unit unit (SnapshotRule.the_row D P) Global.the_row unit b rule allocator.ghosts
 
   writes_send : IsSend Writes
   writes_send =
-      writer.the_send (Snapshot.the_row P) unit unit (Ours.the_row D P) Global.the_row unit b rule allocator.ghosts (snapshot_send P s y) unit_send send (snapshot_sync P s y) sync frees
+      writer.the_send (Snapshot.the_row P) unit unit (SnapshotRule.the_row D P) Global.the_row unit b rule allocator.ghosts (snapshot_send P s y) unit_send send (snapshot_sync P s y) sync frees
 
   desk_send : IsSend (Desk.the_row D C P b d l p)
   desk_send = view_send _ _ _ _ _ (declared_send (desk.the_type D C P b d l p) (writes_send, (book.the_send D l, (as_row_send (row_field C) c, tt))))
@@ -139,9 +139,9 @@ module _ (D C P : RattleType) (d : database.Ghosts D.Denot) (l : ledger.Ghosts D
 
 -- ---- the program's seats
 
--- `Waiting` is `Send` if its runtime is
-pub waiting_send : (R : RattleType) → IsSend R → IsSend (Waiting.the_row R)
-waiting_send R s = declared_send (Waiting.the_type R) (as_row_send (row_field R) s, tt)
+-- `WaitForReaders` is `Send` if its runtime is
+pub waiting_send : (R : RattleType) → IsSend R → IsSend (WaitForReaders.the_row R)
+waiting_send R s = declared_send (WaitForReaders.the_type R) (as_row_send (row_field R) s, tt)
 
 -- a seat over the program's placement is `Send` if what ends its database is
 pub seat_send : (D C : RattleType) (d : database.Ghosts D.Denot) (l : ledger.Ghosts D.Denot) → IsSend C → IsSend (Seat.the_row D C Md5Placement.the_row d l md5.ghosts (absorb_of.ghosts Md5Placement.the_row))

@@ -11,7 +11,7 @@ use Rattle.mg_engine.specs.declared.refusal.Refusal.TheVariants.{TooLarge}
 use Rattle.mg_engine.specs.declared.reply.Reply.{Reply}
 use Rattle.mg_machine.specs.Laws.{IsPrefix}
 use Rattle.mg_machine.specs.Machine.{Commit, after_write, are_full, write_reply}
-use Rattle.mg_machine.specs.Points.{IsAfter, IsDealt}
+use Rattle.mg_machine.specs.Points.{IsAfter, HasShardsAfter}
 use Rattle.mg_live.specs.Published.{Publishes, Standing, WriteLeaves}
 use Rattle.mg_live.specs.Snapshots.{StandsAfter, IsSnapshotOf, commits_of}
 use Rattle.mg_live.specs.SeatView.{IsLater, Learned, SeatView, SeatWrites}
@@ -75,12 +75,12 @@ there {place = place} name log after seat c r p is taken added at =
 
 -- the shards after an accepted write
 pub dealt : {P : Type 0} (name : List ℕ) (opened : ℕ) (log after : List Entry) (seat : ℕ) (c : Command) (r : Reply) (p : Point P) → said r ≡ Some (write_reply name (commits_seen log) (asked c)) → accepts r ≡ true → after ≡ log ++ log_entry seat c ∷ []
-    → IsDealt opened p (after_write name (commits_seen log) seat (asked c)) → IsDealt opened p (commits_seen after)
+    → HasShardsAfter opened p (after_write name (commits_seen log) seat (asked c)) → HasShardsAfter opened p (commits_seen after)
 dealt name opened log after seat c r p is taken added at =
     let cs = commits_seen log in
     let accepted : is_accepted (write_reply name cs (asked c)) ≡ true = answered r (write_reply name cs (asked c)) true is taken in
-    let now : IsDealt opened p (cs ++ (seat, asked c) ∷ []) = rw accepted at at in
-    subst (λ (ds : List Commit). IsDealt opened p ds) (sym (more log after seat c added)) now
+    let now : HasShardsAfter opened p (cs ++ (seat, asked c) ∷ []) = rw accepted at at in
+    subst (λ (ds : List Commit). HasShardsAfter opened p ds) (sym (more log after seat c added)) now
 
 -- the commits after a write that leaves a snapshot
 pub added : (name : List ℕ) (cs : List Commit) (write : Commit) (o : Option Answer) (new : List Commit) → WriteLeaves name cs write o (Some new) → new ≡ cs ++ write ∷ []

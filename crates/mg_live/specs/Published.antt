@@ -8,7 +8,7 @@ use Rattle.mg_live.specs.View.{commits_seen}
 use Rattle.mg_live.specs.SeatView.{tally_after}
 use Rattle.mg_live.specs.declared.commit_log.Prefix.{Prefix}
 
--- a write after these commits gets this answer and, if it is accepted, leaves these new commits; or memory was refused
+-- a write after these commits gets this answer and, if it is accepted, leaves the commits `new`; or memory was refused
 abbrev pub WriteLeaves : List ℕ → List Commit → Commit → Option Answer → Option (List Commit) → Type 0
 WriteLeaves name cs write None None = Unit {0}
 WriteLeaves name cs write None (Some new) = ⊥

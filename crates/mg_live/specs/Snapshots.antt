@@ -4,7 +4,7 @@ use Rattle.std.specs.Arc.{arc_value}
 use Rattle.logbook.specs.Pages.{Book}
 use Rattle.mg_engine.specs.Stands.{StateView, Stands}
 use Rattle.mg_machine.specs.Machine.{Commit, shards_of, world_of}
-use Rattle.mg_machine.specs.Points.{IsAfter, IsDealt}
+use Rattle.mg_machine.specs.Points.{IsAfter, HasShardsAfter}
 use Rattle.mg_live.specs.View.{commits_seen}
 use Rattle.mg_live.specs.declared.snapshot.Snapshot.{Snapshot}
 
@@ -21,7 +21,7 @@ state_of s = (arc_value s.point.engine).1
 pub record IsSnapshotOf {P : Type 0} (place : P → List ℕ → ℕ → ℕ) (log : Book) (name : List ℕ) (opened : ℕ) (s : Snapshot P) : Type 0 where
   pub book : s.prefix.seen.book ≡ log
   pub after : IsAfter place name s.point (commits_of s)
-  pub dealt : IsDealt opened s.point (commits_of s)
+  pub dealt : HasShardsAfter opened s.point (commits_of s)
 
 -- a snapshot, after these commits, of a database of this name, whose documents are placed by `place` and which was opened with `opened`
 -- shards: it stands for the world that the commits leave, with the number of shards that they leave
@@ -31,5 +31,5 @@ pub record StandsAfter {P : Type 0} (place : P → List ℕ → ℕ → ℕ) (na
   pub shards : length (state_of s).shards ≡ shards_of opened cs
 
 -- there is a snapshot right after these commits
-abbrev pub IsPublished : {P : Type 0} → (P → List ℕ → ℕ → ℕ) → List ℕ → ℕ → List Commit → Type 0
-IsPublished place name opened cs = (s : Snapshot _) × StandsAfter place name opened s cs
+abbrev pub HasSnapshot : {P : Type 0} → (P → List ℕ → ℕ → ℕ) → List ℕ → ℕ → List Commit → Type 0
+HasSnapshot place name opened cs = (s : Snapshot _) × StandsAfter place name opened s cs

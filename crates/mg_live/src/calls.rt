@@ -5,31 +5,32 @@ ghost use Rattle.mg_engine.specs.Commands.{bulk, create_index, drop_index, expla
 ghost use Rattle.mg_engine.specs.View.{said};
 ghost use Rattle.mg_live.specs.SeatView.{Answered};
 
-use crate::database::{Database, Ends};
+use crate::database::{Database, EndsWriter};
 use crate::seat::Seat;
 use crate::snapshot::Snapshot;
 use left_right::Absorb;
 use mg_engine::{Command, Reply};
 use mg_packed::Packed;
-use mg_scan::Gate;
+use mg_scan::{Gate, NoGate, Workers};
 use mg_shard::Placement;
 use mg_value::Json;
 use std::sync::Wait;
 use std::thread::Threads;
 
-// Each call makes a command from copies of its arguments, and is answered as `Seat::answer` answers that command.
-impl<D: Database, C: Ends, P: Placement + Drop> Seat<D, C, P>
+/// Each call makes a command from copies of its arguments, and is answered as `Seat::answer` answers that command. The reply is also
+/// `NoMemory` if an allocation for a copy fails.
+impl<D: Database, C: EndsWriter, P: Placement + Drop> Seat<D, C, P>
 where
     Snapshot<P>: Absorb<(), State = ()>,
 {
-    /// The page of a query, by 1 to 32 workers.
+    /// The page of a query, by at most `workers` workers, 1 to 32.
     pub fn find<R: Threads + Sync>(&mut self, rt: &R, body: &Json, workers: usize) -> Reply
         requires some { 1 ≤ workers }
         requires most { workers ≤ 32 }
         ensures { Answered D.db self.old (find (view body.now)) (said result) self.new }
     {
         match body.copy(self.alloc) {
-            Ok(body) => self.reply(rt, &Command::Find(body), workers),
+            Ok(body) => self.read(rt, &Command::Find(body), Workers::most(workers), &NoGate),
             Err(_) => Reply::NoMemory,
         }
     }
@@ -48,7 +49,7 @@ where
         ensures { Answered D.db self.old (find (view body.now)) (said result) self.new }
     {
         match body.copy(self.alloc) {
-            Ok(body) => self.read(rt, &Command::Find(body), workers, gate),
+            Ok(body) => self.read(rt, &Command::Find(body), Workers::exactly(workers), gate),
             Err(_) => Reply::NoMemory,
         }
     }
@@ -58,7 +59,7 @@ where
         ensures { Answered D.db self.old (explain (view body.now)) (said result) self.new }
     {
         match body.copy(self.alloc) {
-            Ok(body) => self.reply(rt, &Command::Explain(body), 1),
+            Ok(body) => self.read(rt, &Command::Explain(body), Workers::most(1), &NoGate),
             Err(_) => Reply::NoMemory,
         }
     }
@@ -67,7 +68,7 @@ where
     pub fn list_indexes<R: Threads + Sync>(&mut self, rt: &R) -> Reply
         ensures { Answered D.db self.old list_indexes (said result) self.new }
     {
-        self.reply(rt, &Command::ListIndexes, 1)
+        self.read(rt, &Command::ListIndexes, Workers::most(1), &NoGate)
     }
 
     /// The document of an id, with its conflicts if `conflicts` is true.
@@ -75,7 +76,12 @@ where
         ensures { Answered D.db self.old (get id.now conflicts) (said result) self.new }
     {
         match String::from_str(self.alloc, id) {
-            Ok(id) => self.reply(rt, &Command::Get { id, conflicts }, 1),
+            Ok(id) => self.read(
+                rt,
+                &Command::Get { id, conflicts },
+                Workers::most(1),
+                &NoGate,
+            ),
             Err(_) => Reply::NoMemory,
         }
     }
@@ -88,12 +94,13 @@ where
         ensures { Answered D.db self.old (bulk (view body.now)) (said result) self.new }
     {
         match Packed::of(self.alloc, body) {
-            Ok(body) => self.write(rt, Command::Bulk(body), workers),
+            Ok(body) => self.write(rt, Command::Bulk(body), Workers::most(workers)),
             Err(_) => Reply::NoMemory,
         }
     }
 
-    /// Creates an index, by 1 to 32 workers.
+    /// Creates an index, with 1 to 32 workers. With one worker no thread is started; with more, there may be more threads than workers, as
+    /// `mg_scan::build` says.
     pub fn create_index<R: Wait + Threads + Sync>(
         &mut self,
         rt: &R,
@@ -105,7 +112,7 @@ where
         ensures { Answered D.db self.old (create_index (view body.now)) (said result) self.new }
     {
         match body.copy(self.alloc) {
-            Ok(body) => self.write(rt, Command::CreateIndex(body), workers),
+            Ok(body) => self.write(rt, Command::CreateIndex(body), Workers::most(workers)),
             Err(_) => Reply::NoMemory,
         }
     }
@@ -126,7 +133,11 @@ where
             return Reply::NoMemory;
         };
         match String::from_str(self.alloc, name) {
-            Ok(name) => self.write(rt, Command::DropIndex { ddoc, name }, workers),
+            Ok(name) => self.write(
+                rt,
+                Command::DropIndex { ddoc, name },
+                Workers::most(workers),
+            ),
             Err(_) => Reply::NoMemory,
         }
     }
@@ -144,7 +155,7 @@ where
         ensures { Answered D.db self.old (reshard (view body.now)) (said result) self.new }
     {
         match body.copy(self.alloc) {
-            Ok(body) => self.write(rt, Command::Reshard(body), workers),
+            Ok(body) => self.write(rt, Command::Reshard(body), Workers::most(workers)),
             Err(_) => Reply::NoMemory,
         }
     }

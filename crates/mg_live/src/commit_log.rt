@@ -4,29 +4,30 @@ ghost use Rattle.mg_machine.specs.Laws.{IsPrefix};
 ghost use Rattle.mg_live.specs.Rules.{log_word_of, log_entry};
 ghost use Rattle.mg_live.specs.View.{commits_seen};
 
-use crate::markers::{Add, Entry, Law, Nothing};
+use crate::markers::{AddEntry, Entry, LogRule, NoGain};
 use logbook::{Offer, Seen, Start, Word};
 use mg_engine::Command;
+use mg_scan::Workers;
 use std::marker::Model;
-use std::snapshot::Snapshot;
+use std::snapshot::Snapshot as GhostCopy;
 
 /// A write that a seat asks for, with its number of workers. The command has no bytes here: only contracts see it, as the commit that
 /// the log gets.
 #[derive(Drop)]
 pub(crate) struct Write {
     pub(crate) seat: usize,
-    pub(crate) command: Snapshot<Command>,
-    pub(crate) workers: usize,
+    pub(crate) command: GhostCopy<Command>,
+    pub(crate) workers: Workers,
 }
 
 impl Write {
     /// The write of a seat. Of the command it keeps only what contracts see.
-    pub(crate) fn of(seat: usize, command: &Command, workers: usize) -> Write
+    pub(crate) fn of(seat: usize, command: &Command, workers: Workers) -> Write
         ensures seat { result.seat ≡ seat }
         ensures command { result.command.value ≡ command.now }
         ensures workers { result.workers ≡ workers }
     {
-        let command = Snapshot::of(command);
+        let command = GhostCopy::of(command);
         Write {
             seat,
             command,
@@ -38,14 +39,14 @@ impl Write {
 /// The word in memory that counts the entries of the commit log.
 #[derive(Drop)]
 pub struct LogWord {
-    word: Word<Entry, u64, Law>,
+    word: Word<Entry, u64, LogRule>,
 }
 
 /// A prefix of the commit log that was seen.
 #[derive(Drop)]
 pub struct Prefix {
     count: u64,
-    pub(crate) seen: Seen<Entry, u64, Law>,
+    pub(crate) seen: Seen<Entry, u64, LogRule>,
     ghost counted: { count ≡ length seen.log },
 }
 
@@ -118,6 +119,7 @@ impl Prefix {
             (length self.now.seen.log ≤ length other.now.seen.log)
             (length other.now.seen.log < length self.now.seen.log) }
     {
+        // For the proof: each of the two is a prefix of what `both` knows, so the shorter is a prefix of the longer.
         let mut both = self.seen.again();
         both.learn(&other.seen);
         self.count <= other.count
@@ -148,12 +150,20 @@ impl Prefix {
             × (f.seen.book ≡ self.now.seen.book)) }
     {
         let mut seen = self.seen.again();
-        let mut offer: Offer<Entry, u64, Law, Nothing> = seen.plain::<Nothing, Write, Add>(write);
+        let mut offer: Offer<Entry, u64, LogRule, NoGain> = seen.plain::<NoGain, Write, AddEntry>(
+            write,
+        );
         let mut pen = seen.no_pen();
         let count = self.count;
         let found = log_word
             .word
-            .compare_exchange::<Add, Nothing>(count, count + 1, &mut seen, &mut offer, &mut pen);
+            .compare_exchange::<AddEntry, NoGain>(
+                count,
+                count + 1,
+                &mut seen,
+                &mut offer,
+                &mut pen,
+            );
         if found == count {
             return Some(Prefix {
                 count: count + 1,

@@ -8,8 +8,8 @@ use std::sync::Wait;
 use std::sync::ledger::Ledger;
 
 /// A database as contracts name it: its name, the number of shards that it is opened with, its commit log, and the ledger of its
-/// tallies. A function that is generic over it is called with `Brand`, and the proof of the call picks the database. Such a function
-/// itself neither takes nor returns a `&str`.
+/// tallies. The outermost function that is generic over it is called with `Brand`, and the proof of that call picks the database. No
+/// `&str` is a parameter or the result of that function; the functions that it calls may have some.
 pub trait Database: Ledger {
     ghost use Rattle.logbook.specs.Pages.{Book};
     ghost use Rattle.std.specs.Prelude.{ℕ, List};
@@ -35,7 +35,7 @@ impl Database for Brand {
 }
 
 /// What ends the writer of a database that is dropped.
-pub trait Ends: Drop {
+pub trait EndsWriter: Drop {
     /// Ends the writer. May wait for readers.
     fn end<D: Database, P: Placement + Drop>(&self, writer: SnapshotWriter<D, P>)
     where
@@ -44,9 +44,9 @@ pub trait Ends: Drop {
 
 /// Ends a writer by waiting for its readers.
 #[derive(Drop)]
-pub struct Waiting<R: Drop>(pub R);
+pub struct WaitForReaders<R: Drop>(pub R);
 
-impl<R: Wait + Drop> Ends for Waiting<R> {
+impl<R: Wait + Drop> EndsWriter for WaitForReaders<R> {
     fn end<D: Database, P: Placement + Drop>(&self, writer: SnapshotWriter<D, P>)
     where
         Snapshot<P>: Absorb<(), State = ()>,

@@ -5,11 +5,11 @@ ghost use Rattle.mg_engine.specs.View.{asked, said};
 ghost use Rattle.mg_machine.specs.Laws.{IsPrefix};
 ghost use Rattle.mg_live.specs.Published.{Publishes, standing};
 ghost use Rattle.mg_live.specs.Rules.{log_word_of};
-ghost use Rattle.mg_live.specs.Snapshots.{IsPublished, IsSnapshotOf, commits_of};
+ghost use Rattle.mg_live.specs.Snapshots.{HasSnapshot, IsSnapshotOf, commits_of};
 ghost use Rattle.mg_live.specs.View.{commits_seen};
 
 use crate::commit_log::{LogWord, Prefix, Write};
-use crate::database::{Database, Ends};
+use crate::database::{Database, EndsWriter};
 use crate::publication::{SnapshotWriter, publish};
 use crate::snapshot::Snapshot;
 use crate::tally::Tally;
@@ -22,8 +22,8 @@ use std::sync::Wait;
 use std::sync::ledger::{Book, Share};
 use std::thread::Threads;
 
-/// What a write needs: the writer, the book of the tallies, and what ends the database. Contracts see the published commits.
-pub struct Desk<D: Database, C: Ends, P: Placement + Drop>
+/// What the writer's lock guards: the writer, the book of the tallies, and what ends the writer. Contracts see the published commits.
+pub struct Desk<D: Database, C: EndsWriter, P: Placement + Drop>
 where
     Snapshot<P>: Absorb<(), State = ()>,
 {
@@ -32,7 +32,7 @@ where
     ends: C,
 }
 
-impl<D: Database, C: Ends, P: Placement + Drop> Model for Desk<D, C, P>
+impl<D: Database, C: EndsWriter, P: Placement + Drop> Model for Desk<D, C, P>
 where
     Snapshot<P>: Absorb<(), State = ()>,
 {
@@ -52,7 +52,7 @@ where
         × IsSnapshotOf P.place D.commit_log D.db D.shards d.writer.desk.shown.value };
 }
 
-impl<D: Database, C: Ends, P: Placement + Drop> Drop for Desk<D, C, P>
+impl<D: Database, C: EndsWriter, P: Placement + Drop> Drop for Desk<D, C, P>
 where
     Snapshot<P>: Absorb<(), State = ()>,
 {
@@ -66,7 +66,7 @@ where
     }
 }
 
-impl<D: Database, C: Ends, P: Placement + Drop> Desk<D, C, P>
+impl<D: Database, C: EndsWriter, P: Placement + Drop> Desk<D, C, P>
 where
     Snapshot<P>: Absorb<(), State = ()>,
 {
@@ -99,8 +99,6 @@ where
     ) -> (Reply, Option<Snapshot<P>>)
         requires write { is_write (asked write.now.command.value) ≡ true }
         requires prepared { prepared ≡ asked write.now.command.value }
-        requires some { 1 ≤ write.now.workers }
-        requires most { write.now.workers ≤ 32 }
         requires here { (prefix.old.seen.book ≡ D.commit_log)
             × (log_word.now.word ≡ log_word_of D.commit_log) }
         ensures here { prefix.new.seen.book ≡ D.commit_log }
@@ -132,7 +130,7 @@ where
         ensures here { prefix.new.seen.book ≡ D.commit_log }
         ensures caught_up { MatchBool result ((commits_seen prefix.new.seen.log ≡ self.now)
             × IsPrefix (commits_seen prefix.old.seen.log) self.now) (prefix.new ≡ prefix.old) }
-        ensures published { IsPublished P.place D.db D.shards self.now }
+        ensures published { HasSnapshot P.place D.db D.shards self.now }
     {
         let now = self.writer.published();
         if !prefix.begins(&now.prefix) {

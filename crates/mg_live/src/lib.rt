@@ -13,7 +13,7 @@ mod snapshot;
 mod tally;
 
 pub use commit_log::CommitLog;
-pub use database::{Database, Ends, Waiting};
+pub use database::{Database, EndsWriter, WaitForReaders};
 pub use live::{CloseError, Closed, Live};
 pub use mg_machine::{interleave, laws};
 pub use seat::{Seat, Seen};

@@ -7,11 +7,11 @@ ghost use Rattle.mg_live.specs.View.{commits_seen};
 ghost use Rattle.mg_live.specs.declared.live.CloseError.TheVariants.{Ahead, Missing};
 
 use crate::commit_log::{CommitLog, LogWord, Prefix};
-use crate::database::{Database, Ends};
+use crate::database::{Database, EndsWriter};
 use crate::desk::Desk;
-use crate::markers::Ours;
+use crate::markers::SnapshotRule;
 use crate::publication::SnapshotWriter;
-use crate::seat::{Named, Seat, SharedDesk};
+use crate::seat::{OwnLogWord, Seat, SharedDesk};
 use crate::snapshot::Snapshot;
 use crate::tally::Tally;
 use left_right::Absorb;
@@ -27,7 +27,7 @@ use std::sync::{Arc, Mutex, Wait};
 
 /// An open database. Contracts see the number of its seats.
 #[derive(Drop)]
-pub struct Live<D: Database, C: Ends, P: Placement + Drop = Md5Placement>
+pub struct Live<D: Database, C: EndsWriter, P: Placement + Drop = Md5Placement>
 where
     Snapshot<P>: Absorb<(), State = ()>,
 {
@@ -37,7 +37,7 @@ where
     seats: usize,
 }
 
-impl<D: Database, C: Ends, P: Placement + Drop> Model for Live<D, C, P>
+impl<D: Database, C: EndsWriter, P: Placement + Drop> Model for Live<D, C, P>
 where
     Snapshot<P>: Absorb<(), State = ()>,
 {
@@ -75,12 +75,12 @@ pub enum CloseError {
 }
 
 // What an empty database begins with: what its seats share, what makes their readers, the empty prefix, and all parts of the ledger.
-struct Start<D: Database, C: Ends, P: Placement + Drop>
+struct Start<D: Database, C: EndsWriter, P: Placement + Drop>
 where
     Snapshot<P>: Absorb<(), State = ()>,
 {
     shared: SharedDesk<D, C, P>,
-    factory: Factory<Snapshot<P>, (), Ours<D, P>>,
+    factory: Factory<Snapshot<P>, (), SnapshotRule<D, P>>,
     prefix: Prefix,
     all: Share<D>,
 }
@@ -95,7 +95,7 @@ impl Closed {
 }
 
 // Makes the `Start` of an empty database with this name.
-fn begin<D: Database, C: Ends, P: Placement + Drop>(
+fn begin<D: Database, C: EndsWriter, P: Placement + Drop>(
     ends: C,
     alloc: Global,
     blank: Blank,
@@ -127,7 +127,7 @@ where
     let factory = writer.factory().another();
     let desk = Desk::new(ends, writer, tally_book);
     let shared = SharedDesk {
-        named: Named {
+        named: OwnLogWord {
             log_word,
             of: PhantomData,
         },
@@ -142,7 +142,7 @@ where
 }
 
 // How many commits the seats have made together. Each tally is a u64, so the sum does not overflow.
-fn all_made<D: Database, C: Ends, P: Placement + Drop>(seats: &[Seat<D, C, P>]) -> u128
+fn all_made<D: Database, C: EndsWriter, P: Placement + Drop>(seats: &[Seat<D, C, P>]) -> u128
 where
     Snapshot<P>: Absorb<(), State = ()>,
     ensures { result ≡ all_tallies seats.now }
@@ -155,7 +155,7 @@ where
 }
 
 // Whether a seat has seen more than `made` commits.
-fn has_seen_more<D: Database, C: Ends, P: Placement + Drop>(
+fn has_seen_more<D: Database, C: EndsWriter, P: Placement + Drop>(
     seats: &[Seat<D, C, P>],
     made: u128,
 ) -> bool
@@ -172,7 +172,7 @@ where
 }
 
 // The longest prefix of the commit log that a seat has seen. The prefixes that the others have seen are prefixes of it.
-fn longest<D: Database, C: Ends, P: Placement + Drop>(
+fn longest<D: Database, C: EndsWriter, P: Placement + Drop>(
     empty: &Prefix,
     seats: &[Seat<D, C, P>],
     made: u128,
@@ -193,7 +193,7 @@ where
 }
 
 // Joins the seats' parts of the ledger.
-fn join_all<D: Database, C: Ends, P: Placement + Drop>(
+fn join_all<D: Database, C: EndsWriter, P: Placement + Drop>(
     last_share: Share<D>,
     seats: Vec<Seat<D, C, P>>,
 ) -> Share<D>
@@ -211,13 +211,13 @@ where
     all
 }
 
-impl<D: Database, C: Ends, P: Placement + Drop> Live<D, C, P>
+impl<D: Database, C: EndsWriter, P: Placement + Drop> Live<D, C, P>
 where
     Snapshot<P>: Absorb<(), State = ()>,
 {
     /// Opens an empty database named `db`, with 1 to 64 shards, on which `placement` places the documents, and 1 to 16 seats, which are
     /// numbered from 0. `blank` is the new ledger of its tallies, with one part for each seat; `commit_log` is its new commit log. `ends`
-    /// ends the database once this `Live` and all seats are dropped.
+    /// ends the writer once this `Live` and all seats are dropped.
     ///
     /// Errors: `NoMemory` if an allocation fails. Cost: the number of shards and of seats, and the name.
     pub fn open(
@@ -271,8 +271,8 @@ where
     /// Closes the database, and counts its commits. The caller hands over all its seats.
     ///
     /// Errors: `Missing` if a seat is absent, else `Ahead` if a seat has seen more commits than all seats together have made. An error
-    /// hands the database and the seats back. Takes no memory. Cost: the number of seats. Waits for the writer's lock, and for what `ends`
-    /// waits for.
+    /// hands the database and the seats back. Takes no memory. Cost: the number of seats, and freeing the documents and indexes that no
+    /// snapshot still holds. Waits for the writer's lock, and for what `ends` waits for.
     pub fn close<R: Wait>(
         self,
         rt: &R,

@@ -1,4 +1,4 @@
-//! Markers: types of which no value is made. They name rules and steps for proofs.
+//! Types that are never constructed: proofs use them to name the entries, the rules and the steps.
 use crate::commit_log::Write;
 use crate::database::Database;
 use crate::snapshot::Snapshot;
@@ -17,9 +17,9 @@ pub struct Entry {
 }
 
 /// The rule of the commit log.
-pub struct Law;
+pub struct LogRule;
 
-impl Rule<Entry, u64> for Law {
+impl Rule<Entry, u64> for LogRule {
     ghost use Rattle.std.specs.Prelude.{[]};
     ghost use base.Fml.{ftrue};
     ghost use Rattle.mg_live.specs.Rules.{IsKept};
@@ -38,24 +38,24 @@ impl Rule<Entry, u64> for Law {
 }
 
 /// A seat gains nothing from a step.
-pub(crate) struct Nothing;
+pub(crate) struct NoGain;
 
-impl Gain<Entry, u64> for Nothing {
+impl Gain<Entry, u64> for NoGain {
     ghost use base.Fml.{ftrue};
 
     ghost after = { λ names about answer. ftrue };
 }
 
 /// A step that adds an entry.
-pub(crate) struct Add;
+pub(crate) struct AddEntry;
 
-impl Play<Entry, u64> for Add {
+impl Play<Entry, u64> for AddEntry {
     ghost use Rattle.mg_live.specs.Rules.{Adds};
 
     ghost then = { Adds };
 }
 
-impl Plain<Write, Entry, u64> for Add {
+impl Plain<Write, Entry, u64> for AddEntry {
     ghost use Rattle.std.specs.Prelude.{None};
     ghost use Rattle.mg_live.specs.Rules.{log_entry};
 
@@ -67,12 +67,12 @@ impl Plain<Write, Entry, u64> for Add {
 // ---- what is published
 
 /// The rule: what is published is a snapshot of this database, whose documents are placed by `P`.
-pub struct Ours<D, P> {
+pub struct SnapshotRule<D, P> {
     of: PhantomData<D>,
     by: PhantomData<P>,
 }
 
-impl<D: Database, P: Placement> Protocol<Snapshot<P>, ()> for Ours<D, P> {
+impl<D: Database, P: Placement> Protocol<Snapshot<P>, ()> for SnapshotRule<D, P> {
     ghost use Rattle.mg_live.specs.Snapshots.{IsSnapshotOf};
 
     ghost holds = { λ x views. IsSnapshotOf P.place D.commit_log D.db D.shards x };
@@ -80,7 +80,7 @@ impl<D: Database, P: Placement> Protocol<Snapshot<P>, ()> for Ours<D, P> {
     ghost first = { tt };
 }
 
-impl<D: Database, P: Placement> Outcome<Snapshot<P>, ()> for Ours<D, P> {
+impl<D: Database, P: Placement> Outcome<Snapshot<P>, ()> for SnapshotRule<D, P> {
     ghost use Rattle.mg_live.specs.Snapshots.{IsSnapshotOf};
 
     ghost then = { λ v x y w. IsSnapshotOf P.place D.commit_log D.db D.shards y };

@@ -3,7 +3,7 @@ ghost use Rattle.std.specs.Prelude.{◌≡◌, IfOk};
 ghost use Rattle.mg_live.specs.Snapshots.{IsSnapshotOf};
 
 use crate::database::Database;
-use crate::markers::Ours;
+use crate::markers::SnapshotRule;
 use crate::snapshot::Snapshot;
 use core::mem::{replace, replace_with};
 use left_right::Absorb;
@@ -13,9 +13,9 @@ use mg_shard::Placement;
 use std::alloc::AllocError;
 use std::sync::Wait;
 
-// `left_right` asks how an operation changes a copy. Its writer never gets one here: a new snapshot replaces the old copy. Every
-// snapshot meets the bound `Absorb`; types that hold a writer repeat it, since the prover does not look for the impl of a generic type
-// there.
+// `left_right` asks how an operation changes a copy. Its writer never gets an operation here: a new snapshot replaces the old copy.
+// Every snapshot meets the bound `Absorb`; types that hold a writer repeat it, since the prover does not look for the impl of a generic
+// type there.
 impl<P> Absorb<()> for Snapshot<P> {
     type State = ();
 
@@ -29,10 +29,10 @@ impl<P> Absorb<()> for Snapshot<P> {
 }
 
 /// Reads the published snapshot.
-pub(crate) type SnapshotReader<D, P> = Reader<Snapshot<P>, (), Ours<D, P>>;
+pub(crate) type SnapshotReader<D, P> = Reader<Snapshot<P>, (), SnapshotRule<D, P>>;
 
 /// Replaces the published snapshot.
-pub type SnapshotWriter<D, P> = Writer<Snapshot<P>, (), (), Ours<D, P>>;
+pub type SnapshotWriter<D, P> = Writer<Snapshot<P>, (), (), SnapshotRule<D, P>>;
 
 /// Publishes a snapshot in one step, which takes no memory and cannot fail. It waits for the readers that still look at the copy that
 /// the snapshot replaces, and returns this copy: dropping it may cost as much as what it alone holds.
@@ -65,7 +65,7 @@ where
     let mut writer = writer;
     let (open, mut spare) = writer.desk.open(rt);
     let before = replace(&mut *spare, snapshot);
-    writer.desk = open.show_as::<Ours<D, P>>(spare);
+    writer.desk = open.show_as::<SnapshotRule<D, P>>(spare);
     (writer, before)
 }
 
@@ -75,7 +75,7 @@ pub(crate) fn copy_published<D: Database, P: Placement + Drop>(
 ) -> (SnapshotReader<D, P>, Result<Snapshot<P>, AllocError>)
     ensures { IfOk result.1 (λ s. IsSnapshotOf P.place D.commit_log D.db D.shards s) }
 {
-    match reader.enter_as::<Ours<D, P>>() {
+    match reader.enter_as::<SnapshotRule<D, P>>() {
         Ok(reading) => {
             let snapshot = reading.get().again();
             (reading.leave(), snapshot)

@@ -2,19 +2,19 @@
 ghost use Rattle.std.specs.Prelude.{◌≡◌, ◌≤◌, true, false, IfOk, OnErr, OnOk};
 ghost use Rattle.mg_engine.specs.Commands.{is_write};
 ghost use Rattle.mg_engine.specs.View.{asked, said};
-ghost use Rattle.mg_live.specs.Snapshots.{StandsAfter, IsPublished};
+ghost use Rattle.mg_live.specs.Snapshots.{StandsAfter, HasSnapshot};
 ghost use Rattle.mg_live.specs.Rules.{log_word_of};
 ghost use Rattle.mg_live.specs.SeatView.{Answered, IsLater, SeatReads, Learned, SeatWrites};
 
 use crate::commit_log::{LogWord, Prefix, Write};
-use crate::database::{Database, Ends};
+use crate::database::{Database, EndsWriter};
 use crate::desk::Desk;
 use crate::publication::{SnapshotReader, copy_published};
 use crate::snapshot::Snapshot;
 use crate::tally::Tally;
 use left_right::Absorb;
 use mg_engine::{Command, Prepared, Reply};
-use mg_scan::{Gate, Place};
+use mg_scan::{Gate, NoGate, Place, Workers};
 use mg_shard::{Md5Placement, Placement};
 use mg_value::NoMemory;
 use std::alloc::Global;
@@ -24,17 +24,17 @@ use std::thread::Threads;
 
 /// What all seats share: the word that counts the entries of the commit log, and the desk, which the writer's lock guards.
 #[derive(Drop)]
-pub(crate) struct SharedDesk<D: Database, C: Ends, P: Placement + Drop>
+pub(crate) struct SharedDesk<D: Database, C: EndsWriter, P: Placement + Drop>
 where
     Snapshot<P>: Absorb<(), State = ()>,
 {
-    pub(crate) named: Named<D>,
+    pub(crate) named: OwnLogWord<D>,
     pub(crate) desk: Mutex<Desk<D, C, P>>,
 }
 
 /// The word that counts the entries of this database's commit log.
 #[derive(Drop)]
-pub(crate) struct Named<D: Database> {
+pub(crate) struct OwnLogWord<D: Database> {
     pub(crate) log_word: LogWord,
     pub(crate) of: PhantomData<D>,
     ghost is: { log_word.word ≡ log_word_of D.commit_log },
@@ -42,7 +42,7 @@ pub(crate) struct Named<D: Database> {
 
 /// A seat at a database. Contracts see its number, the commits that it has seen, and the tally of those that it has made.
 #[derive(Drop)]
-pub struct Seat<D: Database, C: Ends, P: Placement + Drop = Md5Placement>
+pub struct Seat<D: Database, C: EndsWriter, P: Placement + Drop = Md5Placement>
 where
     Snapshot<P>: Absorb<(), State = ()>,
 {
@@ -54,7 +54,7 @@ where
     pub(crate) shared: Arc<SharedDesk<D, C, P>>,
 }
 
-impl<D: Database, C: Ends, P: Placement + Drop> Model for Seat<D, C, P>
+impl<D: Database, C: EndsWriter, P: Placement + Drop> Model for Seat<D, C, P>
 where
     Snapshot<P>: Absorb<(), State = ()>,
 {
@@ -96,14 +96,14 @@ impl<D: Database> Model for Seen<D> {
     ghost invariant = { λ s. s.prefix.seen.book ≡ D.commit_log };
 }
 
-impl<D: Database, C: Ends, P: Placement + Drop> Seat<D, C, P>
+impl<D: Database, C: EndsWriter, P: Placement + Drop> Seat<D, C, P>
 where
     Snapshot<P>: Absorb<(), State = ()>,
 {
     /// Catches up with what is published, and returns the database after the commits that the seat has then seen. It waits for nobody.
     ///
-    /// Errors: `NoMemory` if the snapshot cannot be entered or shared, or if the seat has seen more commits than are published. Cost:
-    /// constant.
+    /// Errors: `NoMemory` if there are too many references to the engine, if `left_right` gives no reading, or if the seat has seen more
+    /// commits than are published. Cost: constant.
     pub fn snapshot(&mut self) -> Result<Snapshot<P>, NoMemory>
         ensures later { IsLater self.old self.new }
         ensures snapshot { IfOk result (λ s. StandsAfter P.place D.db D.shards s self.new.seen) }
@@ -121,8 +121,9 @@ where
         Ok(snapshot)
     }
 
-    /// The reply to a command, by 1 to 32 workers. A read is answered over one snapshot, and waits for nobody. A write is answered after
-    /// all commits; if it is accepted, it is one more commit. It may wait for the writer's lock, and for seats that take a snapshot.
+    /// The reply to a command, with 1 to 32 workers, which count as in `Engine::step`. A read is answered over one snapshot, and waits for
+    /// nobody. A write is answered after all commits; if it is accepted, it is one more commit. It may wait for the writer's lock, and for
+    /// seats that take a snapshot.
     ///
     /// The reply is `NoMemory` if an allocation fails, or if the seat has seen more commits than are published; a write is then not a
     /// commit, and leaves the seat as it was. Cost: that of the engine's reply. The documents of a bulk are read from its body in place.
@@ -137,47 +138,22 @@ where
         ensures { Answered D.db self.old (asked command) (said result) self.new }
     {
         if command.is_write() {
-            self.write(rt, command, workers)
+            self.write(rt, command, Workers::most(workers))
         } else {
-            self.reply(rt, &command, workers)
+            self.read(rt, &command, Workers::most(workers), &NoGate)
         }
     }
 
-    // The reply to a read, over one snapshot, by at most `workers` workers.
-    pub(crate) fn reply<R: Threads + Sync>(
-        &mut self,
-        rt: &R,
-        command: &Command,
-        workers: usize,
-    ) -> Reply
-        requires read { is_write (asked command.now) ≡ false }
-        requires some { 1 ≤ workers }
-        requires most { workers ≤ 32 }
-        ensures { SeatReads D.db self.old (asked command.now) (said result) self.new }
-    {
-        let Ok(snapshot) = self.snapshot() else {
-            return Reply::NoMemory;
-        };
-        match snapshot
-            .point
-            .read_at_most(rt, self.alloc, command, workers)
-        {
-            Ok(reply) => reply,
-            Err(_) => Reply::NoMemory,
-        }
-    }
-
-    // The reply to a read, over one snapshot, by exactly `workers` workers, which pass the gate.
+    // The reply to a read, over one snapshot, by these workers. The gate is passed at `Snapshot`, and then where the engine's reply
+    // passes it.
     pub(crate) fn read<R: Threads + Sync, G: Gate + Sync>(
         &mut self,
         rt: &R,
         command: &Command,
-        workers: usize,
+        workers: Workers,
         gate: &G,
     ) -> Reply
         requires read { is_write (asked command.now) ≡ false }
-        requires some { 1 ≤ workers }
-        requires most { workers ≤ 32 }
         ensures { SeatReads D.db self.old (asked command.now) (said result) self.new }
     {
         let Ok(snapshot) = self.snapshot() else {
@@ -196,11 +172,9 @@ where
         &mut self,
         rt: &R,
         command: Command,
-        workers: usize,
+        workers: Workers,
     ) -> Reply
         requires write { is_write (asked command) ≡ true }
-        requires some { 1 ≤ workers }
-        requires most { workers ≤ 32 }
         ensures { SeatWrites D.db self.old (asked command) (said result) self.new }
     {
         let Seat {
@@ -239,7 +213,7 @@ where
     pub fn share<R: Wait>(&mut self, rt: &R) -> Result<Seen<D>, NoMemory>
         ensures later { IsLater self.old self.new }
         ensures seen { IfOk result (λ s. s ≡ self.new.seen) }
-        ensures published { OnOk result (IsPublished P.place D.db D.shards self.new.seen) }
+        ensures published { OnOk result (HasSnapshot P.place D.db D.shards self.new.seen) }
         ensures refused { OnErr result (self.new ≡ self.old) }
     {
         let desk = self.shared.desk.lock(rt);

@@ -68,8 +68,6 @@ impl<P: Placement + Drop> Snapshot<P> {
     ) -> (Reply, Option<Snapshot<P>>)
         requires write { is_write (asked write.now.command.value) ≡ true }
         requires prepared { prepared ≡ asked write.now.command.value }
-        requires some { 1 ≤ write.now.workers }
-        requires most { write.now.workers ≤ 32 }
         requires log_word { log_word.now.word ≡ log_word_of D.commit_log }
         requires here { IsSnapshotOf P.place D.commit_log D.db D.shards self.now }
         ensures next { WriteLeaves D.db (commits_of self.now) (write.now.seat, asked write.now.command.value)

@@ -14,8 +14,8 @@ use Rattle.mg_engine.specs.declared.reply.Reply.{Reply}
 use Rattle.mg_shard.specs.declared.placement.Md5Placement.{Md5Placement}
 use Rattle.mg_machine.specs.Machine.{Commit, Machine, after_write, are_full, entered, commands_of, longer_of, seen_by, shards_of, with_seen, world_of, write_reply}
 use Rattle.mg_engine.specs.Settled.{is_accepted}
-use Rattle.mg_machine.specs.Follow.{AreAfter, Follow, by_md5}
-use Rattle.mg_machine.specs.Points.{IsAfter, IsDealt}
+use Rattle.mg_machine.specs.Seats.{AreAfter, SeatsStandFor, by_md5}
+use Rattle.mg_machine.specs.Points.{IsAfter, HasShardsAfter}
 use Rattle.mg_machine.specs.declared.point.Point.{Point}
 use Rattle.mg_machine.specs.declared.seats.Seats.{Seats}
 use Rattle.mg_machine.proofs.Commits.{world_of-one}
@@ -96,7 +96,7 @@ shards_of-one n cs p = ap (shards_after_all n) (map-append (λ c. c.1) cs (p ∷
 -- a write that is accepted, as in `one_more`
 pub dealt_more : {P : Type 0} (name : List ℕ) (n : ℕ) (p : Point P) (q : P × StateView) (cs : List Commit) (seat : ℕ) (c : Asked) (r given : Reply) (next : Option (P × StateView)) (now e : P × StateView)
     → said r ≡ Some (write_reply name cs c) → r ≡ given → now ≡ arc_value p.engine → next ≡ Some e → q ≡ e
-    → IfSome (said given) (λ _. shard_count (unwrap_or next now) ≡ shards_after (shard_count now) c) → IsSettled given next → IsDealt n p cs → shard_count q ≡ shards_of n (after_write name cs seat c)
+    → IfSome (said given) (λ _. shard_count (unwrap_or next now) ≡ shards_after (shard_count now) c) → IsSettled given next → HasShardsAfter n p cs → shard_count q ≡ shards_of n (after_write name cs seat c)
 dealt_more name n p q cs seat c r given next now e is made before kept left deals settled at =
     let reply_is : said given ≡ Some (write_reply name cs c) = rw made at is in
     let accepts : true ≡ option_map_or is_accepted (said given) false = rw kept at settled in
@@ -107,7 +107,7 @@ dealt_more name n p q cs seat c r given next now e is made before kept left deal
 
 -- a write that is refused
 pub dealt_same : {P : Type 0} (name : List ℕ) (n : ℕ) (p : Point P) (q : P × StateView) (cs : List Commit) (seat : ℕ) (c : Asked) (r given : Reply) (next : Option (P × StateView))
-    → said r ≡ Some (write_reply name cs c) → r ≡ given → next ≡ None → q ≡ arc_value p.engine → IsSettled given next → IsDealt n p cs → shard_count q ≡ shards_of n (after_write name cs seat c)
+    → said r ≡ Some (write_reply name cs c) → r ≡ given → next ≡ None → q ≡ arc_value p.engine → IsSettled given next → HasShardsAfter n p cs → shard_count q ≡ shards_of n (after_write name cs seat c)
 dealt_same name n p q cs seat c r given next is made left same settled at =
     let reply_is : said given ≡ Some (write_reply name cs c) = rw made at is in
     let refuses : false ≡ option_map_or is_accepted (said given) false = rw left at settled in
@@ -146,25 +146,25 @@ after_copies name (p ∷ ps) (suc n) cs h e = (h 0 p (omega arith), after_copies
 -- ---- the seats
 
 -- a seat has now seen these commits
-moved : (name : List ℕ) (s t : Seats) (m : Machine) (seat : ℕ) (p : Point Md5Placement) (cs : List Commit) → Follow name s m → t.latest ≡ s.latest → t.each.items ≡ slice_set s.each.items seat p → IsAfter by_md5 name p cs → Follow name t (with_seen m seat cs)
+moved : (name : List ℕ) (s t : Seats) (m : Machine) (seat : ℕ) (p : Point Md5Placement) (cs : List Commit) → SeatsStandFor name s m → t.latest ≡ s.latest → t.each.items ≡ slice_set s.each.items seat p → IsAfter by_md5 name p cs → SeatsStandFor name t (with_seen m seat cs)
 moved name s t m seat p cs f latest each at = record {
   latest = subst (λ (x : Point Md5Placement). IsAfter by_md5 name x m.commits) (sym latest) f.latest;
   each = subst (λ (ps : List (Point Md5Placement)). AreAfter name ps (slice_set m.seen seat cs)) (sym each) (after_set name s.each.items m.seen seat p cs f.each at);
 }
 
 -- a seat that catches up
-pub looks : (name : List ℕ) (s t : Seats) (m : Machine) (seat : ℕ) (p : Point Md5Placement) → Follow name s m → t.latest ≡ s.latest → t.each.items ≡ slice_set s.each.items seat p
-    → ((n : List ℕ) (cs : List Commit) → IsAfter by_md5 n s.latest cs → IsAfter by_md5 n p cs) → Follow name t (entered m seat)
+pub looks : (name : List ℕ) (s t : Seats) (m : Machine) (seat : ℕ) (p : Point Md5Placement) → SeatsStandFor name s m → t.latest ≡ s.latest → t.each.items ≡ slice_set s.each.items seat p
+    → ((n : List ℕ) (cs : List Commit) → IsAfter by_md5 n s.latest cs → IsAfter by_md5 n p cs) → SeatsStandFor name t (entered m seat)
 looks name s t m seat p f latest each again = moved name s t m seat p m.commits f latest each (again name m.commits f.latest)
 
 -- the point of a seat stands after what the seat has seen
-pub at_seat : (name : List ℕ) (s : Seats) (m : Machine) (seat : ℕ) (p : Point Md5Placement) → Follow name s m → seat < length s.each.items → p ≡ get_or s.each.items seat p → IsAfter by_md5 name p (seen_by m seat)
+pub at_seat : (name : List ℕ) (s : Seats) (m : Machine) (seat : ℕ) (p : Point Md5Placement) → SeatsStandFor name s m → seat < length s.each.items → p ≡ get_or s.each.items seat p → IsAfter by_md5 name p (seen_by m seat)
 at_seat name s m seat p f here is = subst (λ (x : Point Md5Placement). IsAfter by_md5 name x (seen_by m seat)) (sym is) (after_get name s.each.items m.seen seat p f.each here)
 
 -- a seat that learns of more than it has seen
-pub hears : (name : List ℕ) (s t : Seats) (m : Machine) (seat by : ℕ) (p q r next : Point Md5Placement) → Follow name s m → seat < length s.each.items → by < length s.each.items
+pub hears : (name : List ℕ) (s t : Seats) (m : Machine) (seat by : ℕ) (p q r next : Point Md5Placement) → SeatsStandFor name s m → seat < length s.each.items → by < length s.each.items
     → p ≡ get_or s.each.items seat p → q ≡ get_or s.each.items by q → r ≡ get_or s.each.items by r → p.commits < q.commits → t.latest ≡ s.latest → t.each.items ≡ slice_set s.each.items seat next
-    → ((n : List ℕ) (cs : List Commit) → IsAfter by_md5 n r cs → IsAfter by_md5 n next cs) → Follow name t (with_seen m seat (longer_of (seen_by m seat) (seen_by m by)))
+    → ((n : List ℕ) (cs : List Commit) → IsAfter by_md5 n r cs → IsAfter by_md5 n next cs) → SeatsStandFor name t (with_seen m seat (longer_of (seen_by m seat) (seen_by m by)))
 hears name s t m seat by p q r next f here there is other same more latest each again =
     let old = at_seat name s m seat p f here is in
     let new = at_seat name s m by q f there other in
@@ -172,8 +172,8 @@ hears name s t m seat by p q r next f here there is other same more latest each 
     rw longer (moved name s t m seat next (seen_by m by) f latest each (again name (seen_by m by) (at_seat name s m by r f there same)))
 
 -- a seat that learns of no more than it has seen
-pub stays : (name : List ℕ) (s : Seats) (m : Machine) (seat by : ℕ) (p q : Point Md5Placement) → Follow name s m → seat < length s.each.items → by < length s.each.items
-    → p ≡ get_or s.each.items seat p → q ≡ get_or s.each.items by q → q.commits ≤ p.commits → Follow name s (with_seen m seat (longer_of (seen_by m seat) (seen_by m by)))
+pub stays : (name : List ℕ) (s : Seats) (m : Machine) (seat by : ℕ) (p q : Point Md5Placement) → SeatsStandFor name s m → seat < length s.each.items → by < length s.each.items
+    → p ≡ get_or s.each.items seat p → q ≡ get_or s.each.items by q → q.commits ≤ p.commits → SeatsStandFor name s (with_seen m seat (longer_of (seen_by m seat) (seen_by m by)))
 stays name s m seat by p q f here there is other more =
     let old = at_seat name s m seat p f here is in
     let new = at_seat name s m by q f there other in
@@ -181,7 +181,7 @@ stays name s m seat by p q f here there is other more =
     rw longer (record { latest = f.latest; each = after_same name s.each.items m.seen seat f.each })
 
 -- the latest point after a write, before its seat catches up
-pub wrote : (name : List ℕ) (s t : Seats) (m : Machine) (cs : List Commit) → Follow name s m → IsAfter by_md5 name t.latest cs → t.each ≡ s.each → Follow name t (record m { commits = cs })
+pub wrote : (name : List ℕ) (s t : Seats) (m : Machine) (cs : List Commit) → SeatsStandFor name s m → IsAfter by_md5 name t.latest cs → t.each ≡ s.each → SeatsStandFor name t (record m { commits = cs })
 wrote name s t m cs f at each = record {
   latest = at;
   each = rw each f.each;

@@ -3,12 +3,12 @@ use Rattle.std.proofs.Common.{◌≡◌, ◌<◌, ℕ, List, [], ◌∷◌, ◌+
 use Rattle.mg_engine.specs.World.{empty_world}
 use Rattle.mg_engine.specs.Commands.{reply_of, replies_of}
 use Rattle.mg_machine.specs.Machine.{Event, enter, told, Machine, opened, seen_by, entered, commands_of, world_of, happens, machine_after}
-use Rattle.mg_machine.specs.Laws.{AreAt, AreAtOtherSeats, IsLaterMachine, IsPrefix, after, SeatsSeeBeginnings, NothingIsLost, WhatWasToldIsSeen, CommitsAreAnswered, ReadsAreOfTheSeen, LooksAreKept, TheCommandDecides}
+use Rattle.mg_machine.specs.Laws.{AreAt, AreAtOtherSeats, IsLaterMachine, IsPrefix, after, SeatsSeePrefixes, NothingIsLost, WhatWasToldIsSeen, CommitsAreAnswered, ReadsAreOfTheSeen, SnapshotsAreKept, TheCommandDecides}
 use Rattle.mg_machine.proofs.Beginnings.{in_turn}
 use Rattle.mg_machine.proofs.Events.{Stands, step, tells, run, opened_stands, after-append, at_left, at_right, same_seat, apart_run}
 use Rattle.mg_machine.proofs.Commits.{committed, replies-one}
 
-pub seats_see_beginnings : SeatsSeeBeginnings
+pub seats_see_beginnings : SeatsSeePrefixes
 seats_see_beginnings name seats es at seat = (run name seats (opened seats) es at (opened_stands seats)).stands.beginnings seat
 
 stands_after : (name : List ℕ) (seats : ℕ) (es : List Event) → AreAt seats es → Stands seats (after name seats es)
@@ -53,8 +53,8 @@ looked name seats es others seat at ne =
     let here : seat < length m.seen = subst (λ (n : ℕ). seat < n) (sym s.count) (at_right seats es (enter seat ∷ others) at).0 in
     ap (λ x. seen_by x seat) (after-append name (opened seats) es (enter seat ∷ others)) ∙ apart_run name (entered m seat) seat others ne ∙ same_seat m seat m.commits here
 
-pub looks_are_kept : LooksAreKept
-looks_are_kept name seats es others seat c at ne reads = rw reads (ap (λ cs. Some (reply_of (world_of name cs) c)) (looked name seats es others seat at ne))
+pub snapshots_are_kept : SnapshotsAreKept
+snapshots_are_kept name seats es others seat c at ne reads = rw reads (ap (λ cs. Some (reply_of (world_of name cs) c)) (looked name seats es others seat at ne))
 
 pub the_command_decides : TheCommandDecides
 the_command_decides = record {

@@ -36,8 +36,8 @@ pub record TheCommandDecides : Type 0 where
 -- ---- what seats have seen
 
 -- each seat has seen a prefix of the commit log
-abbrev pub SeatsSeeBeginnings : Type 0
-SeatsSeeBeginnings =
+abbrev pub SeatsSeePrefixes : Type 0
+SeatsSeePrefixes =
     (name : List ℕ) (seats : ℕ) (es : List Event) → AreAt seats es
     → (seat : ℕ) → IsPrefix (seen_by (after name seats es) seat) (after name seats es).commits
 
@@ -111,7 +111,7 @@ AreAtOtherSeats seat [] = Unit {0}
 AreAtOtherSeats seat (e ∷ es) = IsAtOtherSeat seat e × AreAtOtherSeats seat es
 
 -- a read is answered by the world of all commits that there were when its seat caught up, whatever others have published since
-abbrev pub LooksAreKept : Type 0
-LooksAreKept =
+abbrev pub SnapshotsAreKept : Type 0
+SnapshotsAreKept =
     (name : List ℕ) (seats : ℕ) (es others : List Event) (seat : ℕ) (c : Asked) → AreAt seats (es ++ enter seat ∷ others) → AreAtOtherSeats seat others → is_write c ≡ false
     → (happens name (after name seats (es ++ enter seat ∷ others)) (answer seat c)).1 ≡ Some (reply_of (world_of name (after name seats es).commits) c)

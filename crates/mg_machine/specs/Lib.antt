@@ -2,4 +2,4 @@ pub mod Machine
 pub mod Laws
 pub mod View
 pub mod Points
-pub mod Follow
+pub mod Seats

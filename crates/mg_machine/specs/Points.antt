@@ -12,5 +12,5 @@ pub record IsAfter {P : Type 0} (place : P → List ℕ → ℕ → ℕ) (name :
   pub commits : p.commits ≡ length cs
 
 -- a point after commits has as many shards as the last reshard asked for, or as the database was opened with if none did
-abbrev pub IsDealt : {P : Type 0} → ℕ → Point P → List Commit → Type 0
-IsDealt opened p cs = shard_count (arc_value p.engine) ≡ shards_of opened cs
+abbrev pub HasShardsAfter : {P : Type 0} → ℕ → Point P → List Commit → Type 0
+HasShardsAfter opened p cs = shard_count (arc_value p.engine) ≡ shards_of opened cs

@@ -3,7 +3,7 @@ ghost use Rattle.std.specs.Prelude.{◌≡◌, ◌↔◌, ℕ, List, IfOk, IsTru
 ghost use Rattle.mg_engine.specs.View.{said};
 ghost use Rattle.mg_machine.specs.Laws.{AreAt, IsAt};
 ghost use Rattle.mg_machine.specs.Machine.{Machine, happens, opened, replies_of_events};
-ghost use Rattle.mg_machine.specs.Follow.{Follow};
+ghost use Rattle.mg_machine.specs.Seats.{SeatsStandFor};
 ghost use Rattle.mg_machine.specs.View.{event_seen, events_seen};
 
 use crate::seats::Seats;
@@ -90,10 +90,10 @@ fn happen<R: Threads + Sync>(
     event: &Event,
 ) -> Result<Option<Reply>, NoMemory>
     requires { IsAt (vec_len at.old.each) (event_seen event.now) }
-    ensures follow { IfOk result (λ r. (name : List ℕ) (m : Machine) → Follow name at.old m
+    ensures follow { IfOk result (λ r. (name : List ℕ) (m : Machine) → SeatsStandFor name at.old m
         → (option_and_then said r ≡ (happens name m (event_seen event.now)).1)
         × (is_some r ≡ is_some (happens name m (event_seen event.now)).1)
-        × Follow name at.new (happens name m (event_seen event.now)).0) }
+        × SeatsStandFor name at.new (happens name m (event_seen event.now)).0) }
     ensures number { vec_len at.new.each ≡ vec_len at.old.each }
 {
     match event {
@@ -104,7 +104,7 @@ fn happen<R: Threads + Sync>(
         }
         Event::Answer { seat, command } => Ok(Some(at.answer(rt, alloc, *seat, command)?)),
         Event::Told { seat, by } => {
-            at.tell(*seat, *by)?;
+            at.learn(*seat, *by)?;
             Ok(None)
         }
     }

@@ -1,4 +1,5 @@
-ghost use Rattle.mg_machine.specs.Laws.{CommitsAreAnswered, LooksAreKept, NothingIsLost, ReadsAreOfTheSeen, SeatsSeeBeginnings, TheCommandDecides, WhatWasToldIsSeen};
+//! The laws of the machine, all of them the contract of one function that does nothing.
+ghost use Rattle.mg_machine.specs.Laws.{CommitsAreAnswered, SnapshotsAreKept, NothingIsLost, ReadsAreOfTheSeen, SeatsSeePrefixes, TheCommandDecides, WhatWasToldIsSeen};
 
 /// What holds of sessions side by side, for every number of seats and every list of events at these seats:
 ///
@@ -6,15 +7,15 @@ ghost use Rattle.mg_machine.specs.Laws.{CommitsAreAnswered, LooksAreKept, Nothin
 /// - what a seat has learned from another, it has seen from then on;
 /// - the commits are the accepted writes, and their replies are those that a single caller gets for these writes alone, one after
 ///   another;
-/// - a read is answered right after the commits that its seat has seen. If the last event of the seat was to catch up, these are
-///   all commits that there were then, whatever others have published since;
+/// - a read has the reply that a single caller gets after the commits that its seat has seen. If the last event of the seat was to
+///   catch up, these are all commits that there were then, whatever others have published since;
 /// - the command decides what is done: a write is published, and to publish a read is to catch up and then to read.
 pub fn running_sessions()
-    ensures beginnings { SeatsSeeBeginnings }
+    ensures prefixes { SeatsSeePrefixes }
     ensures kept { NothingIsLost }
     ensures told { WhatWasToldIsSeen }
     ensures commits { CommitsAreAnswered }
     ensures reads { ReadsAreOfTheSeen }
-    ensures looks { LooksAreKept }
+    ensures snapshots { SnapshotsAreKept }
     ensures decides { TheCommandDecides }
 {}

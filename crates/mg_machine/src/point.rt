@@ -6,10 +6,10 @@ ghost use Rattle.mg_engine.specs.View.{asked, said};
 ghost use Rattle.mg_engine.specs.Stands.{Stands};
 ghost use Rattle.mg_engine.specs.World.{World};
 ghost use Rattle.mg_machine.specs.Machine.{Commit, after_write, write_reply};
-ghost use Rattle.mg_machine.specs.Points.{IsAfter, IsDealt};
+ghost use Rattle.mg_machine.specs.Points.{IsAfter, HasShardsAfter};
 
 use mg_engine::{Command, Engine, Prepared, Refusal, Reply};
-use mg_scan::Gate;
+use mg_scan::{Gate, Workers};
 use mg_shard::Placement;
 use mg_value::NoMemory;
 use std::alloc::Global;
@@ -31,7 +31,7 @@ impl<P: Placement + Drop> Point<P> {
         requires some { 1 ≤ shards }
         requires most { shards ≤ 64 }
         ensures after { IfOk result (λ p. IsAfter P.place db.now p []) }
-        ensures dealt { IfOk result (λ p. IsDealt shards p []) }
+        ensures dealt { IfOk result (λ p. HasShardsAfter shards p []) }
     {
         let engine = Engine::new(alloc, db, placement, shards)?;
         let engine = Arc::new(alloc, engine)?;
@@ -52,7 +52,7 @@ impl<P: Placement + Drop> Point<P> {
         })
     }
 
-    /// The reply to a read, with exactly `workers` workers, whatever the gate does.
+    /// The reply to a read, by these workers, whatever the gate does. `Engine::answer_by` says which queries pass the gate.
     ///
     /// Errors: `NoMemory` if an allocation fails. Cost: that of the engine's reply.
     pub fn read<R: Threads + Sync, G: Gate + Sync>(
@@ -60,35 +60,14 @@ impl<P: Placement + Drop> Point<P> {
         rt: &R,
         alloc: Global,
         command: &Command,
-        workers: usize,
+        workers: Workers,
         gate: &G,
     ) -> Result<Reply, NoMemory>
         requires read { is_write (asked command.now) ≡ false }
-        requires some { 1 ≤ workers }
-        requires most { workers ≤ 32 }
         ensures { IfOk result (λ r. (w : World) → Stands P.place (arc_value self.now.engine) w
             → said r ≡ Some (reply_of w (asked command.now))) }
     {
-        into_result(self.engine.answer(rt, alloc, command, workers, gate))
-    }
-
-    /// The reply to a read, with at most `workers` workers.
-    ///
-    /// Errors: `NoMemory` if an allocation fails. Cost: that of the engine's reply.
-    pub fn read_at_most<R: Threads + Sync>(
-        &self,
-        rt: &R,
-        alloc: Global,
-        command: &Command,
-        workers: usize,
-    ) -> Result<Reply, NoMemory>
-        requires read { is_write (asked command.now) ≡ false }
-        requires some { 1 ≤ workers }
-        requires most { workers ≤ 32 }
-        ensures { IfOk result (λ r. (w : World) → Stands P.place (arc_value self.now.engine) w
-            → said r ≡ Some (reply_of w (asked command.now))) }
-    {
-        into_result(self.engine.reply(rt, alloc, command, workers))
+        into_result(self.engine.answer_by(rt, alloc, command, workers, gate))
     }
 
     /// The reply to a write, and the point after it: one commit later if the write is accepted, otherwise a copy of this point.
@@ -100,18 +79,16 @@ impl<P: Placement + Drop> Point<P> {
         rt: &R,
         alloc: Global,
         command: &Command,
-        workers: usize,
+        workers: Workers,
     ) -> Result<(Reply, Point<P>), NoMemory>
         requires write { is_write (asked command.now) ≡ true }
-        requires some { 1 ≤ workers }
-        requires most { workers ≤ 32 }
         ensures after { IfOk result
             (λ r. (name : List ℕ) (cs : List Commit) (seat : ℕ) → IsAfter P.place name self.now cs
             → (said r.0 ≡ Some (write_reply name cs (asked command.now)))
             × IsAfter P.place name r.1 (after_write name cs seat (asked command.now))) }
         ensures dealt { IfOk result (λ r. (name : List ℕ) (shards : ℕ) (cs : List Commit) (seat : ℕ)
-            → IsAfter P.place name self.now cs → IsDealt shards self.now cs
-            → IsDealt shards r.1 (after_write name cs seat (asked command.now))) }
+            → IsAfter P.place name self.now cs → HasShardsAfter shards self.now cs
+            → HasShardsAfter shards r.1 (after_write name cs seat (asked command.now))) }
     {
         let prepared = Prepared::of(alloc, command.copy(alloc)?)?;
         self.write_prepared(rt, alloc, prepared, workers)
@@ -125,18 +102,16 @@ impl<P: Placement + Drop> Point<P> {
         rt: &R,
         alloc: Global,
         prepared: Prepared,
-        workers: usize,
+        workers: Workers,
     ) -> Result<(Reply, Point<P>), NoMemory>
         requires write { is_write prepared ≡ true }
-        requires some { 1 ≤ workers }
-        requires most { workers ≤ 32 }
         ensures after { IfOk result
             (λ r. (name : List ℕ) (cs : List Commit) (seat : ℕ) → IsAfter P.place name self.now cs
             → (said r.0 ≡ Some (write_reply name cs prepared))
             × IsAfter P.place name r.1 (after_write name cs seat prepared)) }
         ensures dealt { IfOk result (λ r. (name : List ℕ) (shards : ℕ) (cs : List Commit) (seat : ℕ)
-            → IsAfter P.place name self.now cs → IsDealt shards self.now cs
-            → IsDealt shards r.1 (after_write name cs seat prepared)) }
+            → IsAfter P.place name self.now cs → HasShardsAfter shards self.now cs
+            → HasShardsAfter shards r.1 (after_write name cs seat prepared)) }
     {
         if self.commits == u64::MAX {
             let reply = Reply::refusing(alloc, Refusal::TooLarge)?;
@@ -151,19 +126,17 @@ impl<P: Placement + Drop> Point<P> {
         rt: &R,
         alloc: Global,
         prepared: Prepared,
-        workers: usize,
+        workers: Workers,
     ) -> Result<(Reply, Point<P>), NoMemory>
         requires write { is_write prepared ≡ true }
-        requires some { 1 ≤ workers }
-        requires most { workers ≤ 32 }
         requires room { self.now.commits < 18446744073709551615 }
         ensures after { IfOk result
             (λ r. (name : List ℕ) (cs : List Commit) (seat : ℕ) → IsAfter P.place name self.now cs
             → (said r.0 ≡ Some (write_reply name cs prepared))
             × IsAfter P.place name r.1 (after_write name cs seat prepared)) }
         ensures dealt { IfOk result (λ r. (name : List ℕ) (shards : ℕ) (cs : List Commit) (seat : ℕ)
-            → IsAfter P.place name self.now cs → IsDealt shards self.now cs
-            → IsDealt shards r.1 (after_write name cs seat prepared)) }
+            → IsAfter P.place name self.now cs → HasShardsAfter shards self.now cs
+            → HasShardsAfter shards r.1 (after_write name cs seat prepared)) }
     {
         let (reply, engine) = self.engine.commit_prepared(rt, alloc, prepared, workers);
         let reply = into_result(reply)?;

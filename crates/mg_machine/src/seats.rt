@@ -3,12 +3,12 @@ ghost use Rattle.std.specs.Prelude.{◌≡◌, ◌<◌, ℕ, List, All, IfOk, On
 ghost use Rattle.mg_engine.specs.Commands.{is_write};
 ghost use Rattle.mg_engine.specs.View.{asked, said};
 ghost use Rattle.mg_machine.specs.Machine.{Machine, Commit, answer, entered, happens, opened, publish, read, told, written};
-ghost use Rattle.mg_machine.specs.Follow.{Follow, by_md5};
+ghost use Rattle.mg_machine.specs.Seats.{SeatsStandFor, by_md5};
 ghost use Rattle.mg_machine.specs.Points.{IsAfter};
 
 use crate::point::Point;
 use mg_engine::{Command, Reply};
-use mg_scan::NoGate;
+use mg_scan::{NoGate, Workers};
 use mg_shard::Md5Placement;
 use mg_value::NoMemory;
 use std::alloc::Global;
@@ -24,7 +24,7 @@ pub(crate) struct Seats {
 impl Seats {
     /// Opens a database of this name that has no commit, with this number of seats. Cost: their number, and the name.
     pub(crate) fn open(alloc: Global, db: &str, seats: usize) -> Result<Seats, NoMemory>
-        ensures follow { IfOk result (λ s. Follow db.now s (opened seats)) }
+        ensures follow { IfOk result (λ s. SeatsStandFor db.now s (opened seats)) }
         ensures number { IfOk result (λ s. vec_len s.each ≡ seats) }
     {
         let latest = Point::first(alloc, db, Md5Placement, 1)?;
@@ -42,9 +42,9 @@ impl Seats {
         command: &Command,
     ) -> Result<Reply, NoMemory>
         requires { seat < vec_len self.old.each }
-        ensures follow { IfOk result (λ r. (name : List ℕ) (m : Machine) → Follow name self.old m
+        ensures follow { IfOk result (λ r. (name : List ℕ) (m : Machine) → SeatsStandFor name self.old m
             → (said r ≡ (happens name m (publish seat (asked command.now))).1)
-            × Follow name self.new (happens name m (publish seat (asked command.now))).0) }
+            × SeatsStandFor name self.new (happens name m (publish seat (asked command.now))).0) }
         ensures number { vec_len self.new.each ≡ vec_len self.old.each }
     {
         if command.is_write() {
@@ -65,9 +65,9 @@ impl Seats {
         command: &Command,
     ) -> Result<Reply, NoMemory>
         requires { seat < vec_len self.old.each }
-        ensures follow { IfOk result (λ r. (name : List ℕ) (m : Machine) → Follow name self.old m
+        ensures follow { IfOk result (λ r. (name : List ℕ) (m : Machine) → SeatsStandFor name self.old m
             → (said r ≡ (happens name m (answer seat (asked command.now))).1)
-            × Follow name self.new (happens name m (answer seat (asked command.now))).0) }
+            × SeatsStandFor name self.new (happens name m (answer seat (asked command.now))).0) }
         ensures number { vec_len self.new.each ≡ vec_len self.old.each }
     {
         if command.is_write() {
@@ -80,8 +80,8 @@ impl Seats {
     /// Lets a seat catch up with all commits.
     pub(crate) fn enter(&mut self, seat: usize) -> Result<(), NoMemory>
         requires { seat < vec_len self.old.each }
-        ensures follow { OnOk result ((name : List ℕ) (m : Machine) → Follow name self.old m
-            → Follow name self.new (entered m seat)) }
+        ensures follow { OnOk result ((name : List ℕ) (m : Machine) → SeatsStandFor name self.old m
+            → SeatsStandFor name self.new (entered m seat)) }
         ensures number { vec_len self.new.each ≡ vec_len self.old.each }
     {
         self.each[seat] = self.latest.again()?;
@@ -89,11 +89,11 @@ impl Seats {
     }
 
     /// Lets a seat learn what seat `by` has seen.
-    pub(crate) fn tell(&mut self, seat: usize, by: usize) -> Result<(), NoMemory>
+    pub(crate) fn learn(&mut self, seat: usize, by: usize) -> Result<(), NoMemory>
         requires seat { seat < vec_len self.old.each }
         requires by { by < vec_len self.old.each }
-        ensures follow { OnOk result ((name : List ℕ) (m : Machine) → Follow name self.old m
-            → Follow name self.new (happens name m (told seat by)).0) }
+        ensures follow { OnOk result ((name : List ℕ) (m : Machine) → SeatsStandFor name self.old m
+            → SeatsStandFor name self.new (happens name m (told seat by)).0) }
         ensures number { vec_len self.new.each ≡ vec_len self.old.each }
     {
         if self.each[seat].commits < self.each[by].commits {
@@ -112,11 +112,11 @@ impl Seats {
     ) -> Result<Reply, NoMemory>
         requires read { is_write (asked command.now) ≡ false }
         requires seat { seat < vec_len self.now.each }
-        ensures { IfOk result (λ r. (name : List ℕ) (m : Machine) → Follow name self.now m
+        ensures { IfOk result (λ r. (name : List ℕ) (m : Machine) → SeatsStandFor name self.now m
             → said r ≡ (read name m seat (asked command.now)).1) }
     {
         let seen = &self.each[seat];
-        let reply = seen.read(rt, alloc, command, 1, &NoGate)?;
+        let reply = seen.read(rt, alloc, command, Workers::exactly(1), &NoGate)?;
         Ok(reply)
     }
 
@@ -130,12 +130,12 @@ impl Seats {
     ) -> Result<Reply, NoMemory>
         requires write { is_write (asked command.now) ≡ true }
         requires seat { seat < vec_len self.old.each }
-        ensures follow { IfOk result (λ r. (name : List ℕ) (m : Machine) → Follow name self.old m
+        ensures follow { IfOk result (λ r. (name : List ℕ) (m : Machine) → SeatsStandFor name self.old m
             → (said r ≡ (written name m seat (asked command.now)).1)
-            × Follow name self.new (written name m seat (asked command.now)).0) }
+            × SeatsStandFor name self.new (written name m seat (asked command.now)).0) }
         ensures number { vec_len self.new.each ≡ vec_len self.old.each }
     {
-        let (reply, next) = self.latest.write(rt, alloc, command, 1)?;
+        let (reply, next) = self.latest.write(rt, alloc, command, Workers::exactly(1))?;
         self.latest = next;
         self.enter(seat)?;
         Ok(reply)

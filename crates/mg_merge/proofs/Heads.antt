@@ -9,17 +9,17 @@ use Rattle.std.proofs.lemmas.List.{append-nil, get_or-map, length-map, map-set}
 use Rattle.mg_collate.specs.Sorted.{sorted_with, sorted}
 use Rattle.mg_collate.proofs.Sorting.{NoneBelow, Rises, times, all_of_each, all_weaker, all_append, rises, in_order, sorted_least}
 use Rattle.mg_merge.specs.Merged.{contents_of, joined}
-use Rattle.mg_merge.specs.Rests.{lent_of, rests_of, begin_order, BeginsFirst}
+use Rattle.mg_merge.specs.Rests.{lent_of, rests_of, first_order, BeginsFirst}
 
 -- ---- which list begins first
 
-begin_antisymm : {X : Type 0} (order : X → X → Ordering) → IsTotalOrder order → (xs ys : List X) → begin_order order xs ys ≡ ordering_reverse (begin_order order ys xs)
+begin_antisymm : {X : Type 0} (order : X → X → Ordering) → IsTotalOrder order → (xs ys : List X) → first_order order xs ys ≡ ordering_reverse (first_order order ys xs)
 begin_antisymm order o [] [] = refl
 begin_antisymm order o [] (y ∷ ys) = refl
 begin_antisymm order o (x ∷ xs) [] = refl
 begin_antisymm order o (x ∷ xs) (y ∷ ys) = o.antisymm x y
 
-begin_trans : {X : Type 0} (order : X → X → Ordering) → IsTotalOrder order → (xs ys zs : List X) → begin_order order xs ys ≡ Less → begin_order order ys zs ≡ Less → begin_order order xs zs ≡ Less
+begin_trans : {X : Type 0} (order : X → X → Ordering) → IsTotalOrder order → (xs ys zs : List X) → first_order order xs ys ≡ Less → first_order order ys zs ≡ Less → first_order order xs zs ≡ Less
 begin_trans order o [] [] zs h k = absurd cc
 begin_trans order o [] (y ∷ ys) zs h k = absurd cc
 begin_trans order o (x ∷ xs) [] [] h k = refl
@@ -27,19 +27,19 @@ begin_trans order o (x ∷ xs) [] (z ∷ zs) h k = absurd cc
 begin_trans order o (x ∷ xs) (y ∷ ys) [] h k = refl
 begin_trans order o (x ∷ xs) (y ∷ ys) (z ∷ zs) h k = o.trans x y z h k
 
-begin_congr : {X : Type 0} (order : X → X → Ordering) → IsTotalOrder order → (xs ys zs : List X) → begin_order order xs ys ≡ Equal → begin_order order xs zs ≡ begin_order order ys zs
+begin_congr : {X : Type 0} (order : X → X → Ordering) → IsTotalOrder order → (xs ys zs : List X) → first_order order xs ys ≡ Equal → first_order order xs zs ≡ first_order order ys zs
 begin_congr order o [] [] zs h = refl
 begin_congr order o [] (y ∷ ys) zs h = absurd cc
 begin_congr order o (x ∷ xs) [] zs h = absurd cc
 begin_congr order o (x ∷ xs) (y ∷ ys) [] h = refl
 begin_congr order o (x ∷ xs) (y ∷ ys) (z ∷ zs) h = o.congr x y z h
 
-pub begin_total : {X : Type 0} (order : X → X → Ordering) → IsTotalOrder order → IsTotalOrder (begin_order order)
+pub begin_total : {X : Type 0} (order : X → X → Ordering) → IsTotalOrder order → IsTotalOrder (first_order order)
 begin_total order o = record { antisymm = begin_antisymm order o; trans = begin_trans order o; congr = begin_congr order o }
 
 -- no list begins before this one
 abbrev pub NoneBegins : {X : Type 0} → (X → X → Ordering) → List X → List X → Type 0
-NoneBegins order xs ys = is_gt (begin_order order xs ys) ≡ false
+NoneBegins order xs ys = is_gt (first_order order xs ys) ≡ false
 
 -- an x that is below y is below all that are not below y
 below_next : {X : Type 0} (order : X → X → Ordering) → IsTotalOrder order → (x y z : X) (a : Ordering) → order y z ≡ a → order x y ≡ Less → is_gt a ≡ false → order x z ≡ Less
@@ -94,7 +94,7 @@ none_in_all order o x rest (ys ∷ lists) h k =
     all_append (λ y. is_gt (order x y) ≡ false) ys (joined lists) (none_in order o x rest ys (h 0 (omega arith)) k.0) (none_in_all order o x rest lists (λ i l. h (suc i) (omega arith)) k.1)
 
 -- all elements of a list that rises are above x, where the list begins above x
-all_above : {X : Type 0} (order : X → X → Ordering) → IsTotalOrder order → (x : X) (rest ys : List X) → begin_order order (x ∷ rest) ys ≡ Less → Rises order ys → AllByRecursion (λ y. is_gt (order y x) ≡ true) ys
+all_above : {X : Type 0} (order : X → X → Ordering) → IsTotalOrder order → (x : X) (rest ys : List X) → first_order order (x ∷ rest) ys ≡ Less → Rises order ys → AllByRecursion (λ y. is_gt (order y x) ≡ true) ys
 all_above order o x rest [] h k = tt
 all_above order o x rest (y ∷ ys) h k = (
   ap is_gt (o.antisymm y x ∙ ap ordering_reverse h),
@@ -109,7 +109,7 @@ sorted_behind order x (y ∷ ys) zs more h e =
     ap (sorted_with order y) (sorted_behind order x ys zs more h.1 e) ∙ ap (λ b. if b then x ∷ sorted_with order y (sorted order (ys ++ more)) else y ∷ x ∷ sorted order (ys ++ more)) h.0
 
 taken_first : {X : Type 0} (order : X → X → Ordering) → IsTotalOrder order → (lists : List (List X)) (place : ℕ) (x : X) (rest : List X) → AllByRecursion (Rises order) lists → place < length lists
-    → get_or lists place [] ≡ x ∷ rest → ((k : ℕ) → k < length lists → NoneBegins order (x ∷ rest) (get_or lists k [])) → ((k : ℕ) → k < place → begin_order order (x ∷ rest) (get_or lists k []) ≡ Less)
+    → get_or lists place [] ≡ x ∷ rest → ((k : ℕ) → k < length lists → NoneBegins order (x ∷ rest) (get_or lists k [])) → ((k : ℕ) → k < place → first_order order (x ∷ rest) (get_or lists k []) ≡ Less)
     → sorted order (joined lists) ≡ x ∷ sorted order (joined (set lists place rest))
 taken_first order o [] place x rest rising l e least before = absurd (omega arith)
 taken_first order o (xs ∷ lists) zero x rest rising l e least before =
@@ -123,7 +123,7 @@ taken_first order o (ys ∷ lists) (suc place) x rest rising l e least before =
 pub first_taken : {X : Type 0} (order : X → X → Ordering) → IsTotalOrder order → (lists : List (List X)) (place : ℕ) (x : X) (rest : List X) → All (IsSorted order) lists → place < length lists → get_or lists place [] ≡ x ∷ rest
     → BeginsFirst order lists (length lists) place → sorted order (joined lists) ≡ x ∷ sorted order (joined (set lists place rest))
 first_taken order o lists place x rest ordered k e first =
-    taken_first order o lists place x rest (all_rise order o lists ordered) k e (λ i l. subst (λ ys. NoneBegins order ys (get_or lists i [])) e (first.least i l)) (λ i l. subst (λ ys. begin_order order ys (get_or lists i []) ≡ Less) e (first.before i l))
+    taken_first order o lists place x rest (all_rise order o lists ordered) k e (λ i l. subst (λ ys. NoneBegins order ys (get_or lists i [])) e (first.least i l)) (λ i l. subst (λ ys. first_order order ys (get_or lists i []) ≡ Less) e (first.before i l))
 
 -- lists of which none begins before an empty one are empty
 pub none_left : {X : Type 0} (order : X → X → Ordering) (lists : List (List X)) → ((k : ℕ) → k < length lists → NoneBegins order [] (get_or lists k [])) → joined lists ≡ []

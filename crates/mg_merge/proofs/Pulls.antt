@@ -8,8 +8,8 @@ use Rattle.mg_collate.specs.Sorted.{IsInOrder, sorted, sorted_with}
 use Rattle.mg_collate.proofs.Directed.{directed_total}
 use Rattle.mg_merge.specs.Merged.{joined, order_by}
 use Rattle.mg_merge.specs.Pulled.{AreFrom, IsUnderWay, IsGivenBy, remaining, all_remaining, firsts_of}
-use Rattle.mg_merge.specs.Rests.{BeginsFirst, begin_order}
-use Rattle.mg_merge.specs.Winners.{IsWinnerTree, IsWinnerTreeBut}
+use Rattle.mg_merge.specs.Rests.{BeginsFirst, first_order}
+use Rattle.mg_merge.specs.Tournament.{IsWinnerTree, IsWinnerTreeBut}
 use Rattle.mg_merge.proofs.Heads.{first_taken, none_left, order_kept}
 use Rattle.mg_merge.proofs.Rows.{by_total}
 use Rattle.mg_merge.proofs.Trees.{first_begins, one_changed}
@@ -59,21 +59,21 @@ was_remaining row (Some x) old new h k = h
 -- ---- which source begins first
 
 begins_alike : {X : Type 0} (row : X → RowValue) (direction : Direction) (head other : Option X) (rest others : List RowValue)
-    → begin_order (order_by row direction) (remaining head []) (remaining other []) ≡ begin_order (directed_order direction) (remaining (option_map row head) rest) (remaining (option_map row other) others)
+    → first_order (order_by row direction) (remaining head []) (remaining other []) ≡ first_order (directed_order direction) (remaining (option_map row head) rest) (remaining (option_map row other) others)
 begins_alike row direction None None rest others = refl
 begins_alike row direction None (Some y) rest others = refl
 begins_alike row direction (Some x) None rest others = refl
 begins_alike row direction (Some x) (Some y) rest others = refl
 
 begins_at : {X : Type 0} (row : X → RowValue) (direction : Direction) (heads : List (Option X)) (rests : List (List RowValue)) (j k : ℕ) → length heads ≡ length rests → j < length heads → k < length heads
-    → begin_order (directed_order direction) (get_or (all_remaining (map (option_map row) heads) rests) j []) (get_or (all_remaining (map (option_map row) heads) rests) k [])
-    ≡ begin_order (order_by row direction) (get_or (firsts_of heads) j []) (get_or (firsts_of heads) k [])
+    → first_order (directed_order direction) (get_or (all_remaining (map (option_map row) heads) rests) j []) (get_or (all_remaining (map (option_map row) heads) rests) k [])
+    ≡ first_order (order_by row direction) (get_or (firsts_of heads) j []) (get_or (firsts_of heads) k [])
 begins_at row direction heads rests j k h l m =
     let size = length-map heads (option_map row) in
     let at : (i : ℕ) → i < length heads → get_or (all_remaining (map (option_map row) heads) rests) i [] ≡ remaining (option_map row (get_or heads i None)) (get_or rests i []) = λ i n. all_remaining_at (map (option_map row) heads) rests i (size ∙ h) (omega (arith, size, n)) ∙ ap (λ o. remaining o (get_or rests i [])) (head_row_at row heads i) in
-    ap₂ (begin_order (directed_order direction)) (at j l) (at k m)
+    ap₂ (first_order (directed_order direction)) (at j l) (at k m)
     ∙ sym (begins_alike row direction (get_or heads j None) (get_or heads k None) (get_or rests j []) (get_or rests k []))
-    ∙ sym (ap₂ (begin_order (order_by row direction)) (firsts_at heads j) (firsts_at heads k))
+    ∙ sym (ap₂ (first_order (order_by row direction)) (firsts_at heads j) (firsts_at heads k))
 
 pub rows_begin : {X : Type 0} (row : X → RowValue) (direction : Direction) (heads : List (Option X)) (rests : List (List RowValue)) (p : ℕ) → length heads ≡ length rests → p < length heads
     → BeginsFirst (order_by row direction) (firsts_of heads) (length (firsts_of heads)) p
@@ -102,7 +102,7 @@ all_ended row direction heads rests p h l begins e =
     let first = rows_begin row direction heads rests p h l begins in
     let empty = front row heads rests p h l ∙ ap (λ o. remaining (option_map row o) (get_or rests p [])) e in
     let all = all_remaining (map (option_map row) heads) rests in
-    none_left (directed_order direction) all (λ k m. subst (λ ys. is_gt (begin_order (directed_order direction) ys (get_or all k [])) ≡ false) empty (first.least k m))
+    none_left (directed_order direction) all (λ k m. subst (λ ys. is_gt (first_order (directed_order direction) ys (get_or all k [])) ≡ false) empty (first.least k m))
 
 pub none_pulled : {X : Type 0} (row : X → RowValue) (heads : List (Option X)) (rests : List (List RowValue)) → length heads ≡ length rests → length (firsts_of heads) ≡ 0 → joined (all_remaining (map (option_map row) heads) rests) ≡ []
 none_pulled row [] [] h e = refl
@@ -139,16 +139,16 @@ pulled_order row direction heads rests p x pulled new h order l e r =
     subst (All (IsInOrder direction)) (sym (pulled_set row heads rests p pulled new h)) (order_kept (directed_order direction) (directed_total direction) all p (row x) (remaining (option_map row pulled) new) order (omega (arith, l, size, mapped)) here)
 
 -- the winner tree after a pull from one source
-pub pulled_changed : {X : Type 0} (row : X → RowValue) (direction : Direction) (heads : List (Option X)) (winners : List ℕ) (p : ℕ) (pulled : Option X) → IsWinnerTree (order_by row direction) (firsts_of heads) winners
-    → IsWinnerTreeBut (order_by row direction) (firsts_of (set heads p pulled)) p winners
-pulled_changed row direction heads winners p pulled tree =
-    subst (λ lists. IsWinnerTreeBut (order_by row direction) lists p winners) (sym (map-set (λ head. remaining head []) heads p pulled)) (one_changed (order_by row direction) (firsts_of heads) winners p (remaining pulled []) tree)
+pub pulled_changed : {X : Type 0} (row : X → RowValue) (direction : Direction) (heads : List (Option X)) (tournament : List ℕ) (p : ℕ) (pulled : Option X) → IsWinnerTree (order_by row direction) (firsts_of heads) tournament
+    → IsWinnerTreeBut (order_by row direction) (firsts_of (set heads p pulled)) p tournament
+pulled_changed row direction heads tournament p pulled tree =
+    subst (λ lists. IsWinnerTreeBut (order_by row direction) lists p tournament) (sym (map-set (λ head. remaining head []) heads p pulled)) (one_changed (order_by row direction) (firsts_of heads) tournament p (remaining pulled []) tree)
 
 -- the source that a winner tree has as its first
-pub first_source : {X : Type 0} (row : X → RowValue) (direction : Direction) (heads : List (Option X)) (winners : List ℕ) (p : ℕ) → IsWinnerTree (order_by row direction) (firsts_of heads) winners → 1 < length winners → p ≡ get_or winners 1 0
+pub first_source : {X : Type 0} (row : X → RowValue) (direction : Direction) (heads : List (Option X)) (tournament : List ℕ) (p : ℕ) → IsWinnerTree (order_by row direction) (firsts_of heads) tournament → 1 < length tournament → p ≡ get_or tournament 1 0
     → (p < length heads) × BeginsFirst (order_by row direction) (firsts_of heads) (length (firsts_of heads)) p
-first_source row direction heads winners p tree l e =
-    let first = first_begins (order_by row direction) (by_total row direction) (firsts_of heads) winners p tree l e in
+first_source row direction heads tournament p tree l e =
+    let first = first_begins (order_by row direction) (by_total row direction) (firsts_of heads) tournament p tree l e in
     let fronts = length-map heads (λ head. remaining head []) in
     let within = first.0 in
     (omega (arith, fronts, within), first.1)
@@ -172,12 +172,12 @@ source_first row rest direction heads sources p x pulled s new h order low begin
     pulled_first row direction heads (map rest sources) p x pulled (rest new) h order low begins e (source_at rest sources p s (remaining (option_map row pulled) (rest new)) l at was)
     ∙ ap (λ rs. row x ∷ sorted (directed_order direction) (joined (all_remaining (map (option_map row) (set heads p pulled)) rs))) (sym (map-set rest sources p new))
 
-pub source_ahead : {T S : Type 0} (row : T → RowValue) (rest : S → List RowValue) (direction : Direction) (heads : List (Option T)) (sources : List S) (winners : List ℕ) (p : ℕ) (x : T) (pulled : Option T) (s new : S)
+pub source_ahead : {T S : Type 0} (row : T → RowValue) (rest : S → List RowValue) (direction : Direction) (heads : List (Option T)) (sources : List S) (tournament : List ℕ) (p : ℕ) (x : T) (pulled : Option T) (s new : S)
     → length heads ≡ length (map rest sources) → All (IsInOrder direction) (all_remaining (map (option_map row) heads) (map rest sources)) → p < length heads
-    → get_or heads p None ≡ Some x → p < length sources → s ≡ get_or sources p s → rest s ≡ remaining (option_map row pulled) (rest new) → IsWinnerTree (order_by row direction) (firsts_of (set heads p pulled)) winners
-    → IsUnderWay row direction (set heads p pulled) (map rest (set sources p new)) winners
-source_ahead row rest direction heads sources winners p x pulled s new h order low e l at was tree =
-    subst (λ rs. IsUnderWay row direction (set heads p pulled) rs winners) (sym (map-set rest sources p new)) (record {
+    → get_or heads p None ≡ Some x → p < length sources → s ≡ get_or sources p s → rest s ≡ remaining (option_map row pulled) (rest new) → IsWinnerTree (order_by row direction) (firsts_of (set heads p pulled)) tournament
+    → IsUnderWay row direction (set heads p pulled) (map rest (set sources p new)) tournament
+source_ahead row rest direction heads sources tournament p x pulled s new h order low e l at was tree =
+    subst (λ rs. IsUnderWay row direction (set heads p pulled) rs tournament) (sym (map-set rest sources p new)) (record {
       size = length-set heads p pulled ∙ h ∙ sym (length-set (map rest sources) p (rest new));
       order = pulled_order row direction heads (map rest sources) p x pulled (rest new) h order low e (source_at rest sources p s (remaining (option_map row pulled) (rest new)) l at was);
       tree = tree;

@@ -6,8 +6,8 @@ use Rattle.std.proofs.lemmas.Bool.{cases_eq}
 use Rattle.std.proofs.lemmas.Cmp.{upto, tied_itself}
 use Rattle.std.proofs.lemmas.List.{get_or-set_other, get_or-set_same, length-set}
 use Rattle.std.proofs.lemmas.Nat.{shr_le, shr-shr}
-use Rattle.mg_merge.specs.Rests.{BeginsFirst, begin_order, rests_of, turn_order}
-use Rattle.mg_merge.specs.Winners.{AreWinners, IsAbove, IsFromBelow, IsWinnerTree, IsWinnerTreeBut, IsWon, winner_of}
+use Rattle.mg_merge.specs.Rests.{BeginsFirst, first_order, rests_of, turn_order}
+use Rattle.mg_merge.specs.Tournament.{AreWinners, IsAbove, IsFromBelow, IsWinnerTree, IsWinnerTreeBut, IsWon, first_of_two}
 use Rattle.mg_merge.proofs.Heads.{rests_of-set}
 use Rattle.mg_merge.proofs.Turns.{turn_total, turns_first}
 
@@ -40,7 +40,7 @@ if_either : (P : ℕ → Type 0) (b : Bool) (x y : ℕ) → P x → P y → P (i
 if_either P true x y p q = q
 if_either P false x y p q = p
 
-either_wins : (P : ℕ → Type 0) (turns : ℕ → ℕ → Ordering) (x y : ℕ) → P x → P y → P (winner_of turns x y)
+either_wins : (P : ℕ → Type 0) (turns : ℕ → ℕ → Ordering) (x y : ℕ) → P x → P y → P (first_of_two turns x y)
 either_wins P turns x y p q = if_either P (is_gt (turns x y)) x y p q
 
 not_reversed : (a b : Ordering) → b ≡ ordering_reverse a → is_gt a ≡ true → is_gt b ≡ false
@@ -53,19 +53,19 @@ if_first : (turns : ℕ → ℕ → Ordering) → IsTotalOrder turns → (x y : 
 if_first turns o x y true e = (not_reversed (turns x y) (turns y x) (o.antisymm y x) e, ap is_gt (tied_itself o y))
 if_first turns o x y false e = (ap is_gt (tied_itself o x), e)
 
-wins_first : (turns : ℕ → ℕ → Ordering) → IsTotalOrder turns → (x y : ℕ) → (is_gt (turns (winner_of turns x y) x) ≡ false) × (is_gt (turns (winner_of turns x y) y) ≡ false)
+wins_first : (turns : ℕ → ℕ → Ordering) → IsTotalOrder turns → (x y : ℕ) → (is_gt (turns (first_of_two turns x y) x) ≡ false) × (is_gt (turns (first_of_two turns x y) y) ≡ false)
 wins_first turns o x y = if_first turns o x y (is_gt (turns x y)) refl
 
 -- the winner at a place, as it was found in another list that is the same
-pub winner_read : (turns : ℕ → ℕ → Ordering) (i w : ℕ) (ws same : List ℕ) → same ≡ ws → w ≡ winner_of turns (get_or same (2 * i) 0) (get_or same (2 * i + 1) 0) → w ≡ winner_of turns (get_or ws (2 * i) 0) (get_or ws (2 * i + 1) 0)
-winner_read turns i w ws same e h = h ∙ ap (λ xs. winner_of turns (get_or xs (2 * i) 0) (get_or xs (2 * i + 1) 0)) e
+pub winner_read : (turns : ℕ → ℕ → Ordering) (i w : ℕ) (ws same : List ℕ) → same ≡ ws → w ≡ first_of_two turns (get_or same (2 * i) 0) (get_or same (2 * i + 1) 0) → w ≡ first_of_two turns (get_or ws (2 * i) 0) (get_or ws (2 * i + 1) 0)
+winner_read turns i w ws same e h = h ∙ ap (λ xs. first_of_two turns (get_or xs (2 * i) 0) (get_or xs (2 * i + 1) 0)) e
 
 -- ---- a place is decided
 
 decided_below : (turns : ℕ → ℕ → Ordering) (n i : ℕ) (ws : List ℕ) → i < length ws → IsFromBelow n ws (2 * i) → IsFromBelow n ws (2 * i + 1)
-    → IsFromBelow n (set ws i (winner_of turns (get_or ws (2 * i) 0) (get_or ws (2 * i + 1) 0))) i
+    → IsFromBelow n (set ws i (first_of_two turns (get_or ws (2 * i) 0) (get_or ws (2 * i + 1) 0))) i
 decided_below turns n i ws l left right =
-    let w = winner_of turns (get_or ws (2 * i) 0) (get_or ws (2 * i + 1) 0) in
+    let w = first_of_two turns (get_or ws (2 * i) 0) (get_or ws (2 * i + 1) 0) in
     let half : 2 * i / 2 ≡ i = omega arith in
     let half_next : (2 * i + 1) / 2 ≡ i = omega arith in
     let stands : (w < n) × IsAbove i (n + w) = either_wins (λ x. (x < n) × IsAbove i (n + x)) turns (get_or ws (2 * i) 0) (get_or ws (2 * i + 1) 0)
@@ -73,11 +73,11 @@ decided_below turns n i ws l left right =
     (right.0, subst (λ j. IsAbove j (n + get_or ws (2 * i + 1) 0)) half_next (above_half (2 * i + 1) (n + get_or ws (2 * i + 1) 0) right.1)) in
     subst (λ x. (x < n) × IsAbove i (n + x)) (sym (get_or-set_same ws i w 0 l)) stands
 
-decided_won : (turns : ℕ → ℕ → Ordering) → IsTotalOrder turns → (i : ℕ) (ws : List ℕ) → 1 ≤ i → i < length ws → IsWon turns (set ws i (winner_of turns (get_or ws (2 * i) 0) (get_or ws (2 * i + 1) 0))) i
+decided_won : (turns : ℕ → ℕ → Ordering) → IsTotalOrder turns → (i : ℕ) (ws : List ℕ) → 1 ≤ i → i < length ws → IsWon turns (set ws i (first_of_two turns (get_or ws (2 * i) 0) (get_or ws (2 * i + 1) 0))) i
 decided_won turns o i ws low l =
     let x = get_or ws (2 * i) 0 in
     let y = get_or ws (2 * i + 1) 0 in
-    let w = winner_of turns x y in
+    let w = first_of_two turns x y in
     let first = wins_first turns o x y in
     let at = get_or-set_same ws i w 0 l in
     let left = get_or-set_other ws i (2 * i) w 0 (omega arith) in
@@ -95,11 +95,11 @@ other_won turns i j w ws apart left right h =
 -- ---- a tree is made: its places are decided from the last one to the first
 
 -- the places from `place` on are decided
-pub record AreDecided (turns : ℕ → ℕ → Ordering) (n place : ℕ) (winners : List ℕ) : Type 0 where
-  pub size : length winners ≡ 2 * n
+pub record AreDecided (turns : ℕ → ℕ → Ordering) (n place : ℕ) (tournament : List ℕ) : Type 0 where
+  pub size : length tournament ≡ 2 * n
   pub within : place ≤ n
-  pub below : (j : ℕ) → 1 ≤ j → place ≤ j → j < 2 * n → IsFromBelow n winners j
-  pub won : (j : ℕ) → 1 ≤ j → place ≤ j → j < n → IsWon turns winners j
+  pub below : (j : ℕ) → 1 ≤ j → place ≤ j → j < 2 * n → IsFromBelow n tournament j
+  pub won : (j : ℕ) → 1 ≤ j → place ≤ j → j < n → IsWon turns tournament j
 
 pub none_decided : (turns : ℕ → ℕ → Ordering) (n : ℕ) (ws : List ℕ) → length ws ≡ 2 * n → ((k : ℕ) → k < n → get_or ws (n + k) 0 ≡ k) → AreDecided turns n n ws
 none_decided turns n ws size bottom = record {
@@ -113,9 +113,9 @@ none_decided turns n ws size bottom = record {
 }
 
 pub next_decided : (turns : ℕ → ℕ → Ordering) → IsTotalOrder turns → (n i : ℕ) (ws : List ℕ) → 1 ≤ i → AreDecided turns n (i + 1) ws
-    → AreDecided turns n i (set ws i (winner_of turns (get_or ws (2 * i) 0) (get_or ws (2 * i + 1) 0)))
+    → AreDecided turns n i (set ws i (first_of_two turns (get_or ws (2 * i) 0) (get_or ws (2 * i + 1) 0)))
 next_decided turns o n i ws low h =
-    let w = winner_of turns (get_or ws (2 * i) 0) (get_or ws (2 * i + 1) 0) in
+    let w = first_of_two turns (get_or ws (2 * i) 0) (get_or ws (2 * i + 1) 0) in
     let size = h.size in
     let within = h.within in
     record {
@@ -151,9 +151,9 @@ above_bottom turns n k ws h = record {
 }
 
 pub up_decided : (turns : ℕ → ℕ → Ordering) → IsTotalOrder turns → (n i : ℕ) (ws : List ℕ) → 1 ≤ i → i < n → AreWinners turns n i ws
-    → AreWinners turns n (i / 2) (set ws i (winner_of turns (get_or ws (2 * i) 0) (get_or ws (2 * i + 1) 0)))
+    → AreWinners turns n (i / 2) (set ws i (first_of_two turns (get_or ws (2 * i) 0) (get_or ws (2 * i + 1) 0)))
 up_decided turns o n i ws low high h =
-    let w = winner_of turns (get_or ws (2 * i) 0) (get_or ws (2 * i + 1) 0) in
+    let w = first_of_two turns (get_or ws (2 * i) 0) (get_or ws (2 * i + 1) 0) in
     let size = h.size in
     record {
       size = length-set ws i w ∙ size;
@@ -224,9 +224,9 @@ other_of_two n k j ws below apart e = apart (subst (λ w. IsAbove j (n + w)) e b
 
 same_turn : {X : Type 0} (order : X → X → Ordering) (lists : List (List X)) (p j k : ℕ) (rest : List X) → j ≢ p → k ≢ p → turn_order order (set lists p rest) j k ≡ turn_order order lists j k
 same_turn order lists p j k rest m n =
-    ap₂ (λ xs ys. ordering_then (begin_order order xs ys) (nat_cmp j k)) (get_or-set_other lists p j rest [] m) (get_or-set_other lists p k rest [] n)
+    ap₂ (λ xs ys. ordering_then (first_order order xs ys) (nat_cmp j k)) (get_or-set_other lists p j rest [] m) (get_or-set_other lists p k rest [] n)
 
--- a change of one list leaves the winners right that are not above it
+-- a change of one list leaves the tournament right that are not above it
 pub one_changed : {X : Type 0} (order : X → X → Ordering) (lists : List (List X)) (ws : List ℕ) (p : ℕ) (rest : List X) → IsWinnerTree order lists ws → IsWinnerTreeBut order (set lists p rest) p ws
 one_changed order lists ws p rest tree =
     let n = length lists in

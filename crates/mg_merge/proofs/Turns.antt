@@ -4,7 +4,7 @@ use Rattle.std.specs.Cmp.{IsTotalOrder, then_total}
 use Rattle.std.specs.Ordering.{nat_cmp, ordering_then}
 use Rattle.std.proofs.lemmas.Bool.Decides.{nat_tests}
 use Rattle.std.proofs.lemmas.Cmp.{on_total, nat_cmp_total}
-use Rattle.mg_merge.specs.Rests.{BeginsFirst, begin_order, turn_order}
+use Rattle.mg_merge.specs.Rests.{BeginsFirst, first_order, turn_order}
 use Rattle.mg_merge.proofs.Heads.{begin_total}
 
 nat_greater : (m n : ℕ) → n < m → nat_cmp m n ≡ Greater
@@ -28,7 +28,7 @@ before_later Greater b e h = absurd cc
 -- a list that is not after any in turn begins first
 pub turns_first : {X : Type 0} (order : X → X → Ordering) (lists : List (List X)) (size p : ℕ) → p < size → ((k : ℕ) → k < size → is_gt (turn_order order lists p k) ≡ false) → BeginsFirst order lists size p
 turns_first order lists size p l first =
-    let begins = begin_order order (get_or lists p []) in
+    let begins = first_order order (get_or lists p []) in
     record {
       least = λ k m. not_after (begins (get_or lists k [])) (nat_cmp p k) (first k m);
       before = λ k m. before_later (begins (get_or lists k [])) (nat_cmp p k) (nat_greater p k m) (first k (omega arith));

@@ -2,5 +2,5 @@ pub mod Merged
 pub mod Pulled
 pub mod Rests
 pub mod Sharding
-pub mod Winners
+pub mod Tournament
 pub mod Work

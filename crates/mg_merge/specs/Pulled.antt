@@ -5,7 +5,7 @@ use Rattle.mg_collate.specs.declared.direction.Direction.{Direction}
 use Rattle.mg_collate.specs.Row.{RowValue}
 use Rattle.mg_collate.specs.Sorted.{IsInOrder}
 use Rattle.mg_merge.specs.Merged.{order_by}
-use Rattle.mg_merge.specs.Winners.{IsWinnerTree}
+use Rattle.mg_merge.specs.Tournament.{IsWinnerTree}
 
 -- what remains of a source: its head and its rest; without a head nothing remains
 abbrev pub remaining : {X : Type 0} → Option X → List X → List X
@@ -20,23 +20,23 @@ firsts_of heads = map (λ head. remaining head []) heads
 abbrev pub lent_first : {X : Type 0} → Option (Bor X) → List X
 lent_first head = remaining (option_map (λ x. x.now) head) []
 
--- what remains of each source: its head and its rest; from the sources after the last head nothing was pulled yet
+-- what remains of each source: its head and its rest; the sources past the end of `heads` have not been pulled from yet
 abbrev pub all_remaining : {X : Type 0} → List (Option X) → List (List X) → List (List X)
 all_remaining [] rests = rests
 all_remaining (head ∷ heads) [] = []
 all_remaining (head ∷ heads) (rest ∷ rests) = remaining head rest ∷ all_remaining heads rests
 
--- an item is of the kind that one of the sources gives
+-- one of the sources may give x: what holds of each item that it gives holds of x
 abbrev pub IsGivenBy : {S T : Type 0} → (S → T → Type 0) → List S → T → Type 0
 IsGivenBy {S} gives sources x = (k : ℕ) × (k < length sources) × ((d : S) → gives (get_or sources k d) x)
 
--- the heads, and what the sources give now, are of a kind that one of the sources at the start gives
+-- each head, and each item that a source may still give, is one that a source may give at the start
 pub record AreFrom {S T : Type 0} (gives : S → T → Type 0) (start : List S) (heads : List (Option T)) (sources : List S) : Type 0 where
   pub fronts : (k : ℕ) → k < length heads → IfSome (get_or heads k None) (IsGivenBy gives start)
   pub later : (k : ℕ) → k < length sources → (d : S) (x : T) → gives (get_or sources k d) x → IsGivenBy gives start x
 
--- a merge is under way: the head of each source was pulled, what remains of each is in order, and a winner tree has the first source
-pub record IsUnderWay {T : Type 0} (row : T → RowValue) (direction : Direction) (heads : List (Option T)) (rests : List (List RowValue)) (winners : List ℕ) : Type 0 where
+-- a merge is under way: the head of each source was pulled, what remains of each is in order, and `tournament` is the winner tree of the heads
+pub record IsUnderWay {T : Type 0} (row : T → RowValue) (direction : Direction) (heads : List (Option T)) (rests : List (List RowValue)) (tournament : List ℕ) : Type 0 where
   pub size : length heads ≡ length rests
   pub order : All (IsInOrder direction) (all_remaining (map (option_map row) heads) rests)
-  pub tree : IsWinnerTree (order_by row direction) (firsts_of heads) winners
+  pub tree : IsWinnerTree (order_by row direction) (firsts_of heads) tournament

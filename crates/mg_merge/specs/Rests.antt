@@ -14,17 +14,17 @@ abbrev pub lent_of : {X : Type 0} → List (Bor X) → List X
 lent_of lent = map (λ x. x.now) lent
 
 -- compares lists by their first elements; the empty list is greatest
-abbrev pub begin_order : {X : Type 0} → (X → X → Ordering) → List X → List X → Ordering
-begin_order order [] [] = Equal
-begin_order order [] (y ∷ ys) = Greater
-begin_order order (x ∷ xs) [] = Less
-begin_order order (x ∷ xs) (y ∷ ys) = order x y
+abbrev pub first_order : {X : Type 0} → (X → X → Ordering) → List X → List X → Ordering
+first_order order [] [] = Equal
+first_order order [] (y ∷ ys) = Greater
+first_order order (x ∷ xs) [] = Less
+first_order order (x ∷ xs) (y ∷ ys) = order x y
 
--- compares two lists, given by number: by begin_order, then by number
+-- compares two lists, given by number: by their first items, then by number
 abbrev pub turn_order : {X : Type 0} → (X → X → Ordering) → List (List X) → ℕ → ℕ → Ordering
-turn_order order lists = then_cmp (on (λ k. get_or lists k []) (begin_order order)) nat_cmp
+turn_order order lists = then_cmp (on (λ k. get_or lists k []) (first_order order)) nat_cmp
 
--- list `first` is the least of the first `size` lists in begin_order, and the earliest of equals
+-- list `first` is the least of the first `size` lists in that order, and the earliest of equals
 pub record BeginsFirst {X : Type 0} (order : X → X → Ordering) (lists : List (List X)) (size first : ℕ) : Type 0 where
-  pub least : (k : ℕ) → k < size → is_gt (begin_order order (get_or lists first []) (get_or lists k [])) ≡ false
-  pub before : (k : ℕ) → k < first → begin_order order (get_or lists first []) (get_or lists k []) ≡ Less
+  pub least : (k : ℕ) → k < size → is_gt (first_order order (get_or lists first []) (get_or lists k [])) ≡ false
+  pub before : (k : ℕ) → k < first → first_order order (get_or lists first []) (get_or lists k []) ≡ Less

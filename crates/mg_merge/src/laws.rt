@@ -27,7 +27,8 @@ pub fn any_sharding()
 {}
 
 /// Lists that are in order may be cut to their first `count` rows before they are merged: they stay in
-/// order, and the merge gives the same rows. So a shard need not hand over more rows than a page has.
+/// order, and the merge gives the same rows. So a shard need not hand over more rows than the page skips
+/// and shows.
 pub fn cut_lists()
     ensures in_order { (direction : Direction) (count : ℕ) (lists : List (List RowValue))
         → All (IsInOrder direction) lists
@@ -37,7 +38,7 @@ pub fn cut_lists()
         → merged direction count (map (take count) lists) ≡ merged direction count lists }
 {}
 
-/// The rows of the items that `merge_all` returns are the merge of the rows of its lists.
+/// The rows of the items that `merge_items` returns are the merge of the rows of its lists.
 pub fn rows_of_a_merge<T: Ranked>()
     ensures { (direction : Direction) (count : ℕ) (lists : List (List T))
         → map T.row_of (merged_by T.row_of direction count lists)

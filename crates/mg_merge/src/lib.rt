@@ -2,7 +2,7 @@
 //! shards.
 #![tactic(auto)]
 
-mod begins;
+mod firsts;
 pub mod laws;
 mod merging;
 mod order;
@@ -10,11 +10,11 @@ mod pulled;
 mod ranked;
 mod rests;
 mod source;
-mod winners;
+mod tournament;
 mod work;
 
-pub use merging::{merge, merge_all};
-pub use order::{all_are_in_order, are_in_order};
+pub use merging::{merge, merge_items};
+pub use order::{are_in_order, items_are_in_order};
 pub use pulled::merge_pulled;
 pub use ranked::Ranked;
 pub use source::RowSource;

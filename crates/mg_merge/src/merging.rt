@@ -6,7 +6,7 @@ ghost use Rattle.mg_merge.specs.Rests.{lent_of};
 
 use crate::ranked::Ranked;
 use crate::rests::{take_first, whole_lists};
-use crate::winners::Winners;
+use crate::tournament::Tournament;
 use crate::work::Work;
 use mg_collate::{Direction, Row};
 use mg_value::NoMemory;
@@ -39,15 +39,15 @@ pub fn merge(
 }
 
 /// Merges the lists, and returns their first `take` items in the direction's order of their rows
-/// (fewer only if the lists have fewer, and each as often as in the lists), and the lengths of the
+/// (fewer only if the lists have fewer, and none lost or repeated), and the lengths of the
 /// lists and of the result. Of items with equal rows, those of an earlier list come first. Each list
-/// must be in that order, which `all_are_in_order` tests; it may be empty.
+/// must be in that order, which `items_are_in_order` tests; it may be empty.
 ///
 /// Errors: `NoMemory` if an allocation fails.
 /// Cost: one comparison less than there are lists, and for each item of the result at most the logarithm of
 /// the number of lists to base 2, rounded up. No row is copied. Memory: an item and a reference for each item
 /// of the result, even if `take` is larger, and a slice and three numbers for each list.
-pub fn merge_all<T: Ranked + Copy>(
+pub fn merge_items<T: Ranked + Copy>(
     alloc: Global,
     lists: &[Vec<T>],
     direction: Direction,
@@ -80,10 +80,10 @@ fn first_lent<'a, T: Ranked>(
         return first_of_one(alloc, lists[0].as_slice(), take);
     }
     let mut rests = whole_lists(alloc, lists)?;
-    let mut winners = Winners::new(alloc, &rests, direction)?;
+    let mut tournament = Tournament::new(alloc, &rests, direction)?;
     let mut lent = Vec::new(alloc);
     while lent.len() < take {
-        match take_first(&mut rests, &mut winners, direction) {
+        match take_first(&mut rests, &mut tournament, direction) {
             Some(item) => lent.push(item)?,
             None => return Ok(lent),
         }

@@ -12,13 +12,13 @@ use std::cmp::Ordering;
 pub fn are_in_order(lists: &[Vec<Row>], direction: Direction) -> bool
     ensures { IsTrue result ↔ All (IsInOrder direction) (lists_view lists.now) }
 {
-    all_are_in_order(lists, direction)
+    items_are_in_order(lists, direction)
 }
 
-/// Whether each list is in the direction's order, as `merge_all` requires.
+/// Whether each list is in the direction's order, as `merge_items` requires.
 ///
 /// Cost: a comparison for each item. Takes no memory.
-pub fn all_are_in_order<T: Ranked>(lists: &[Vec<T>], direction: Direction) -> bool
+pub fn items_are_in_order<T: Ranked>(lists: &[Vec<T>], direction: Direction) -> bool
     ensures { IsTrue result ↔ All (IsInOrderBy T.row_of direction) (contents_of lists.now) }
 {
     for list in lists {

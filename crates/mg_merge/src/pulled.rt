@@ -7,7 +7,7 @@ ghost use Rattle.mg_merge.specs.Pulled.{AreFrom, IsUnderWay, IsGivenBy, all_rema
 
 use crate::ranked::Ranked;
 use crate::source::RowSource;
-use crate::winners::Winners;
+use crate::tournament::Tournament;
 use mg_collate::Direction;
 use mg_value::NoMemory;
 use std::alloc::Global;
@@ -16,8 +16,8 @@ use std::alloc::Global;
 const FIRST_ROOM: usize = 64;
 
 /// Merges the sources. Returns their first `take` items in the direction's order of their rows (fewer only if
-/// the sources have fewer; none lost or repeated), and how many items were pulled: at most `take`, and one
-/// more for each source. Each source must be in that order; it may be empty.
+/// the sources have fewer; none lost or repeated), and how many items were pulled: at most `take` plus the
+/// number of sources. Each source must be in that order; it may be empty.
 ///
 /// Errors: `NoMemory` if an allocation fails.
 /// Cost: what the sources need for the items that are pulled; one comparison less than there are sources, and
@@ -37,8 +37,8 @@ pub fn merge_pulled<T: Ranked + Copy, S: RowSource<T>>(
         ≤ made.1 + length (joined (map S.rest sources.new))) }
 {
     let mut heads = first_heads(alloc, sources)?;
-    let mut winners = Winners::new(alloc, &heads, direction)?;
-    let items = merge_heads(alloc, &mut heads, sources, &mut winners, direction, take)?;
+    let mut tournament = Tournament::new(alloc, &heads, direction)?;
+    let items = merge_heads(alloc, &mut heads, sources, &mut tournament, direction, take)?;
     let pulled = (items.len() + count_heads(&heads)) as u64;
     Ok((items, pulled))
 }
@@ -66,12 +66,12 @@ fn merge_heads<T: Ranked + Copy, S: RowSource<T>>(
     alloc: Global,
     heads: &mut Vec<Option<T>>,
     sources: &mut [S],
-    winners: &mut Winners,
+    tournament: &mut Tournament,
     direction: Direction,
     take: usize,
 ) -> Result<Vec<T>, NoMemory>
     requires { IsUnderWay T.row_of direction heads.old.items (map S.rest sources.old)
-        winners.old.places.items }
+        tournament.old.places.items }
     ensures within { IfOk result (λ items. length items.items ≤ take) }
     ensures size { OnOk result (length heads.new.items ≡ length heads.old.items) }
     ensures sources { OnOk result (length sources.new ≡ length sources.old) }
@@ -87,7 +87,7 @@ fn merge_heads<T: Ranked + Copy, S: RowSource<T>>(
 {
     let mut items = Vec::with_capacity(alloc, take.min(FIRST_ROOM))?;
     while items.len() < take {
-        match pull_first(heads, sources, winners, direction) {
+        match pull_first(heads, sources, tournament, direction) {
             Some(item) => items.push(item)?,
             None => return Ok(items),
         }
@@ -101,13 +101,13 @@ fn merge_heads<T: Ranked + Copy, S: RowSource<T>>(
 fn pull_first<T: Ranked + Copy, S: RowSource<T>>(
     heads: &mut Vec<Option<T>>,
     sources: &mut [S],
-    winners: &mut Winners,
+    tournament: &mut Tournament,
     direction: Direction,
 ) -> Option<T>
     requires { IsUnderWay T.row_of direction heads.old.items (map S.rest sources.old)
-        winners.old.places.items }
+        tournament.old.places.items }
     ensures under_way { IsUnderWay T.row_of direction heads.new.items (map S.rest sources.new)
-        winners.new.places.items }
+        tournament.new.places.items }
     ensures first { IfSome result (λ item. sorted (directed_order direction)
         (joined (all_remaining (map (option_map T.row_of) heads.old.items) (map S.rest sources.old)))
         ≡ T.row_of item ∷ sorted (directed_order direction)
@@ -122,10 +122,10 @@ fn pull_first<T: Ranked + Copy, S: RowSource<T>>(
     ensures stays { IfNone result
         ((heads.new.items ≡ heads.old.items) × (sources.new ≡ sources.old)) }
 {
-    let source = winners.first()?;
+    let source = tournament.first()?;
     let item = heads[source]?;
     heads[source] = sources[source].next();
-    winners.update(heads, source, direction);
+    tournament.update(heads, source, direction);
     Some(item)
 }
 

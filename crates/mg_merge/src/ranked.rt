@@ -4,7 +4,7 @@ ghost use Rattle.mg_collate.specs.Row.{RowValue, row_view, row_value_order};
 use mg_collate::Row;
 use std::cmp::Ordering;
 
-/// An item with a row of an index, by which it is merged: a row itself, or a hit of a search with its row.
+/// An item with a row of an index, by which it is merged: a row itself, or a lead or hit of a search.
 pub trait Ranked {
     // its row
     ghost row_of: { Self → RowValue };
@@ -19,15 +19,5 @@ impl Ranked for Row {
 
     fn order(&self, other: &Row) -> Ordering {
         self.cmp(other)
-    }
-}
-
-impl<'a> Ranked for &'a Row {
-    ghost row_of = { λ lent. row_view lent.now };
-
-    fn order(&self, other: &&'a Row) -> Ordering {
-        let row: &Row = *self;
-        let than: &Row = *other;
-        row.cmp(than)
     }
 }

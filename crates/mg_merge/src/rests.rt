@@ -3,10 +3,10 @@ ghost use Rattle.std.specs.Prelude.{◌≡◌, ◌∷◌, [], All, IfOk, IfSome,
 ghost use Rattle.mg_collate.specs.Sorted.{sorted};
 ghost use Rattle.mg_merge.specs.Merged.{IsInOrderBy, joined, contents_of, order_by};
 ghost use Rattle.mg_merge.specs.Rests.{rests_of};
-ghost use Rattle.mg_merge.specs.Winners.{IsWinnerTree};
+ghost use Rattle.mg_merge.specs.Tournament.{IsWinnerTree};
 
 use crate::ranked::Ranked;
-use crate::winners::Winners;
+use crate::tournament::Tournament;
 use mg_collate::Direction;
 use mg_value::NoMemory;
 use std::alloc::Global;
@@ -28,23 +28,23 @@ pub(crate) fn whole_lists<'a, T>(
 // Takes the first item off the rest that begins first. `None` if nothing is left.
 pub(crate) fn take_first<'a, T: Ranked>(
     rests: &mut Vec<&'a [T]>,
-    winners: &mut Winners,
+    tournament: &mut Tournament,
     direction: Direction,
 ) -> Option<&'a T>
     requires order { All (IsInOrderBy T.row_of direction) (rests_of rests.old.items) }
-    requires winners { IsWinnerTree (order_by T.row_of direction) (rests_of rests.old.items)
-        winners.old.places.items }
+    requires tournament { IsWinnerTree (order_by T.row_of direction) (rests_of rests.old.items)
+        tournament.old.places.items }
     ensures order { All (IsInOrderBy T.row_of direction) (rests_of rests.new.items) }
-    ensures winners { IsWinnerTree (order_by T.row_of direction) (rests_of rests.new.items)
-        winners.new.places.items }
+    ensures tournament { IsWinnerTree (order_by T.row_of direction) (rests_of rests.new.items)
+        tournament.new.places.items }
     ensures first { IfSome result
         (λ item. sorted (order_by T.row_of direction) (joined (rests_of rests.old.items))
         ≡ item.now ∷ sorted (order_by T.row_of direction) (joined (rests_of rests.new.items))) }
     ensures end { IfNone result (joined (rests_of rests.old.items) ≡ []) }
 {
-    let list = winners.first()?;
+    let list = tournament.first()?;
     let (item, rest) = rests[list].split_first()?;
     rests[list] = rest;
-    winners.update(rests, list, direction);
+    tournament.update(rests, list, direction);
     Some(item)
 }

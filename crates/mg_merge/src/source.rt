@@ -3,7 +3,8 @@ ghost use Rattle.mg_collate.specs.Row.{RowValue};
 
 use crate::ranked::Ranked;
 
-/// A source of items in a direction's order of their rows. It looks for an item only when it is asked for the next one.
+/// A source of items, which looks for an item only when it is asked for the next one. `merge_pulled` requires that the
+/// rows of the items are in order.
 pub trait RowSource<T: Ranked> {
     // the rows that are still to come
     ghost rest: { Self → List RowValue };

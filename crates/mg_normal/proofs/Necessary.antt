@@ -4,7 +4,7 @@ use Rattle.std.proofs.lemmas.Bool.{and_parts}
 use Rattle.std.proofs.lemmas.List.Elements.{All-nil, All-cons, All-append}
 use Rattle.std.specs.List.{All}
 use Rattle.mg_value.specs.Value.{Value}
-use Rattle.mg_path.specs.Part.{part_of, part_at}
+use Rattle.mg_path.specs.Part.{part_of, part_of_step}
 use Rattle.mg_selector.specs.Meaning.{holds_in, every_arm, flip}
 use Rattle.mg_selector.specs.Selector.{Selector, members, every, some, none, opposite, at, asks, Arms, no_arms, arm}
 use Rattle.mg_selector.specs.declared.sense.Sense.{Sense}
@@ -15,7 +15,7 @@ use Rattle.mg_normal.specs.Atoms.{Atom, atom_holds, atoms_in, arms_atoms}
 pub part_of-append : (steps more : List (List ℕ)) (x : Option Value) → option_and_then (part_of (steps ++ more)) x ≡ option_and_then (part_of more) (option_and_then (part_of steps) x)
 part_of-append steps more None = refl
 part_of-append [] more (Some v) = refl
-part_of-append (step ∷ steps) more (Some v) = part_of-append steps more (part_at step v)
+part_of-append (step ∷ steps) more (Some v) = part_of-append steps more (part_of_step step v)
 
 -- if some arm of a single arm holds, that arm holds
 only_one : (b : Bool) → (b || false) ≡ true → b ≡ true

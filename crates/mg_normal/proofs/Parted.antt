@@ -8,7 +8,7 @@ use Rattle.mg_selector.specs.declared.sense.Sense.TheVariants.{Plain}
 use Rattle.mg_normal.specs.Atoms.{Atom, atom_holds, atoms_in}
 use Rattle.mg_normal.specs.Condition.{Condition as ConditionValue, Conditions, all_of, any_of, within, asked, no_conditions, condition, condition_holds, every_condition}
 use Rattle.mg_normal.specs.Normal.{all_hold, rest_holds}
-use Rattle.mg_normal.specs.Stands.{Says, condition_atoms, conditions_atoms, rest_of, rests_of, all_left, with_left}
+use Rattle.mg_normal.specs.Says.{Says, condition_atoms, conditions_atoms, rest_of, rests_of, all_left, with_left}
 use Rattle.mg_normal.specs.View.{condition_of, conditions_view}
 use Rattle.mg_normal.specs.declared.condition.Condition.{Condition}
 use Rattle.mg_normal.proofs.Necessary.{part_of-append}

@@ -9,7 +9,7 @@ use Rattle.mg_selector.specs.declared.sense.Sense.{Sense}
 use Rattle.mg_selector.specs.declared.sense.Sense.TheVariants.{Plain, Negated}
 use Rattle.mg_normal.specs.Atoms.{atoms_in, arms_atoms}
 use Rattle.mg_normal.specs.Condition.{Condition as ConditionValue, Conditions, no_conditions, condition, every_condition, some_condition, is_no_conditions, all_of, any_of}
-use Rattle.mg_normal.specs.Stands.{Says, AllSay, no_atoms, conditions_atoms}
+use Rattle.mg_normal.specs.Says.{Says, AllSay, no_atoms, conditions_atoms}
 use Rattle.mg_normal.specs.View.{condition_of, conditions_view}
 use Rattle.mg_normal.specs.declared.condition.Condition as made
 use Rattle.mg_normal.specs.declared.condition.Condition.{Condition, the_lemmas}

@@ -1,4 +1,5 @@
--- The atoms of a selector: operators that have to hold for it to hold, each on the part at a whole path. Index ranges come from them.
+-- The atoms of a selector: operators that have to hold for it to hold, each on the part at a path from the top of the document. Key
+-- ranges come from atoms alone.
 -- An object of several members has no atoms in the negated sense, and `$or` of one arm has none in the plain sense; this is the
 -- project's own choice. Operators inside `$elemMatch` and `$allMatch` are asked of elements, so `$elemMatch` and `$allMatch` are atoms.
 use Rattle.std.specs.Prelude.{ℕ, Bool, List, [], ◌∷◌, ◌++◌, Option, option_and_then}

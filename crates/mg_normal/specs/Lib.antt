@@ -3,5 +3,5 @@ pub mod Code
 pub mod Condition
 pub mod Laws
 pub mod Normal
-pub mod Stands
+pub mod Says
 pub mod View

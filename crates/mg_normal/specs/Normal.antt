@@ -15,7 +15,7 @@ pub record NormalForm : Type 0 where
   pub atoms : List Atom
   pub rest : Option Condition
 
--- a normal form is stored as the pair of them
+-- how the logic stores a normal form
 abbrev pub normal_code : Coded NormalForm
 normal_code = code_by (List Atom × Option Condition) (coded× (coded_list atom_code) (coded_option condition_code)) (λ n. (n.atoms, n.rest)) (λ p. record { atoms = p.0; rest = p.1 }) (λ _. refl)
 
@@ -32,7 +32,7 @@ rest_holds (Some f) x = condition_holds f x
 abbrev pub normal_holds : NormalForm → Option Value → Bool
 normal_holds n x = all_hold x n.atoms && rest_holds n.rest x
 
--- the normal form is one of the selector: it holds of the same documents, and its atoms are the selector's
+-- this is a normal form of the selector: it holds of the same documents, and its atoms are the selector's
 pub record IsNormalOf (s : Selector) (n : NormalForm) : Type 0 where
   pub meaning : (x : Option Value) → normal_holds n x ≡ holds_in s Plain x
   pub atoms : n.atoms ≡ atoms_of s

@@ -3,12 +3,12 @@ ghost use Rattle.mg_normal.specs.Atoms.{atom_holds};
 ghost use Rattle.mg_normal.specs.Normal.{all_hold};
 ghost use Rattle.mg_normal.specs.View.{atom_view, atoms_view, sense_of};
 
-use mg_path::part_at;
+use mg_path::part_of;
 use mg_selector::{Op, Sense};
 use mg_value::LentValue;
 
-/// A condition that a document has to meet for a selector to hold: an operator, in a sense, on the part at a
-/// whole path.
+/// An operator that a selector requires in every case, with its sense and the path of its part from the top of
+/// the document.
 #[derive(Debug, Drop)]
 pub struct Atom {
     /// The steps from the top of the document; empty for the document itself.
@@ -35,7 +35,7 @@ fn holds<L: LentValue>(atom: &Atom, document: L) -> bool
     ensures { result ≡ atom_holds (Some (L.value document)) (atom_view atom.now) }
 {
     atom.op
-        .holds_of(sense_of(atom.negated), part_at(&atom.steps, document))
+        .holds_of(sense_of(atom.negated), part_of(&atom.steps, document))
 }
 
 fn sense_of(negated: bool) -> Sense

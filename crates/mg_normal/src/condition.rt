@@ -6,7 +6,7 @@ use mg_selector::{Op, Sense};
 pub(crate) enum Condition {
     /// All of these.
     All(Vec<Condition>),
-    /// One of these at least; an empty list holds.
+    /// At least one of these; an empty list holds.
     Any(Vec<Condition>),
     /// The condition on the part at the path.
     At(Path, Box<Condition>),

@@ -15,7 +15,7 @@ use std::alloc::Global;
 use std::marker::Model;
 
 /// A selector in its normal form: its negations are pushed inwards until each negates an operator. The
-/// atoms, which are the conditions that every match has to meet, are kept apart from the rest.
+/// atoms, which are the operators that have to hold for the selector to hold, are kept apart from the rest.
 ///
 /// A negated operator is not the complement: on a missing part neither holds, except for `$exists`.
 /// An empty list of arms holds in both senses.
@@ -73,7 +73,7 @@ impl Normal {
         all_hold(&self.atoms, value.lend()) && rest_holds(self.rest.as_ref(), value)
     }
 
-    /// The conditions that every match has to meet, in reading order: the operators that are reached
+    /// The operators that have to hold for the selector to hold, in reading order: those that are reached
     /// through paths, `$not`, and lists of which all arms have to hold. Those lists are an object, `$and`
     /// and `$nor` in the plain sense, and `$or` in the negated sense. An object of one member counts as
     /// that member in both senses. Operators inside `$elemMatch` and `$allMatch` are left out, since

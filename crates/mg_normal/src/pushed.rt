@@ -3,7 +3,7 @@ ghost use Rattle.mg_selector.specs.Meaning.{holds_in, every_arm, some_arm, is_no
 ghost use Rattle.mg_selector.specs.Selector.{members, every, some};
 ghost use Rattle.mg_selector.specs.View.{selector_of, arms_view};
 ghost use Rattle.mg_normal.specs.Atoms.{atoms_in, arms_atoms};
-ghost use Rattle.mg_normal.specs.Stands.{Says, AllSay, no_atoms};
+ghost use Rattle.mg_normal.specs.Says.{Says, AllSay, no_atoms};
 ghost use Rattle.mg_normal.specs.View.{condition_of, conditions_view};
 
 use crate::condition::Condition;

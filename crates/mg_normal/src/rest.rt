@@ -1,6 +1,6 @@
 ghost use Rattle.std.specs.Prelude.{◌≡◌, ◌++◌, IfOk, OnOk, map, option_map, string_bytes};
 ghost use Rattle.mg_normal.specs.Condition.{within};
-ghost use Rattle.mg_normal.specs.Stands.{condition_atoms, conditions_atoms, rest_of, rests_of};
+ghost use Rattle.mg_normal.specs.Says.{condition_atoms, conditions_atoms, rest_of, rests_of};
 ghost use Rattle.mg_normal.specs.View.{condition_of, conditions_view, atoms_view};
 
 use crate::atom::{Atom, is_negated};

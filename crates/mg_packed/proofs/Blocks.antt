@@ -3,10 +3,10 @@ use Rattle.std.proofs.Common.{◌≡◌, ℕ, suc, ◌+◌, ◌*◌, ◌-◌, �
 use Rattle.std.proofs.lemmas.List.{drop_at, drop-drop}
 use Rattle.std.specs.List.{concat}
 use Rattle.mg_value.specs.Value.{Value, null, flag, whole, text, list, object, put, with_member}
-use Rattle.mg_packed.specs.Gap.{begin_of, with_entry, entries_in, IsObjectBlock, names_before, names_up_to}
+use Rattle.mg_packed.specs.Gap.{offset_in, with_entry, entries_in, IsObjectBlock, names_before, names_up_to}
 use Rattle.mg_value.specs.Stored.{IsStored}
 use Rattle.mg_packed.specs.Packed.{word, offsets, packed, table, named, member_entries}
-use Rattle.mg_packed.specs.Read.{Holds, IsBlockOf, tag_of, word_of, offset_of, members_in}
+use Rattle.mg_packed.specs.Read.{Holds, IsBlockOf, tag_of, word_of, start_of, members_in}
 use Rattle.mg_packed.proofs.Gaps.{first_offsets, first_entries, last_entries, begin_behind, length-with_entry, concat-with_entry, assembled}
 use Rattle.mg_packed.proofs.Laws.{members_is}
 use Rattle.mg_packed.proofs.Parts.{object_table}
@@ -44,8 +44,8 @@ block_len b h = omega (arith, ap length h.1, length-table (entries_in b))
 pub block_short : (b : List ℕ) → IsObjectBlock b → length b < 2 ^ 32
 block_short b h = omega (arith, ap length h.1, h.0.short)
 
-pub entry_begins : (b : List ℕ) (i : ℕ) → IsObjectBlock b → i < length (entries_in b) → word_of (drop (5 + 4 * i) b) ≡ begin_of (entries_in b) i
-unfolding offset_of
+pub entry_begins : (b : List ℕ) (i : ℕ) → IsObjectBlock b → i < length (entries_in b) → word_of (drop (5 + 4 * i) b) ≡ offset_in (entries_in b) i
+unfolding start_of
 entry_begins b i h less =
     let t = object_table b (members_in b) h.0 in
     omega (arith, offset_is b (entries_in b) i t less, count b (entries_in b) t)
@@ -64,13 +64,13 @@ offsets_cut b i h less =
     let e : 5 + 4 * i - 5 ≡ 4 * i = omega arith in
     ap (λ n. take n (drop 5 b)) e ∙ ap (take (4 * i)) (behind_count b h) ∙ first_offsets 0 (entries_in b) i (concat (entries_in b)) less
 
-pub entries_cut : (b : List ℕ) (n i m : ℕ) → IsObjectBlock b → n ≡ length (entries_in b) → m ≡ begin_of (entries_in b) i
+pub entries_cut : (b : List ℕ) (n i m : ℕ) → IsObjectBlock b → n ≡ length (entries_in b) → m ≡ offset_in (entries_in b) i
     → take (5 + 4 * n + m - (5 + 4 * n)) (drop (5 + 4 * n) b) ≡ concat (take i (entries_in b))
 entries_cut b n i m h counted begins =
-    let e : 5 + 4 * n + m - (5 + 4 * n) ≡ begin_of (entries_in b) i = omega (arith, begins) in
-    ap (λ k. take k (drop (5 + 4 * n) b)) e ∙ ap (take (begin_of (entries_in b) i)) (behind_table b n h counted) ∙ first_entries (entries_in b) i
+    let e : 5 + 4 * n + m - (5 + 4 * n) ≡ offset_in (entries_in b) i = omega (arith, begins) in
+    ap (λ k. take k (drop (5 + 4 * n) b)) e ∙ ap (take (offset_in (entries_in b) i)) (behind_table b n h counted) ∙ first_entries (entries_in b) i
 
-pub entries_left : (b : List ℕ) (n i m : ℕ) → IsObjectBlock b → n ≡ length (entries_in b) → m ≡ begin_of (entries_in b) i
+pub entries_left : (b : List ℕ) (n i m : ℕ) → IsObjectBlock b → n ≡ length (entries_in b) → m ≡ offset_in (entries_in b) i
     → take (length b - (5 + 4 * n + m)) (drop (5 + 4 * n + m) b) ≡ concat (drop i (entries_in b))
 entries_left b n i m h counted begins =
     tail b (5 + 4 * n + m)
@@ -88,9 +88,9 @@ pub record IsMade (b new k : List ℕ) (v : Value) (i j n len : ℕ) : Type 0 wh
   pub ordered : i ≤ j
   pub within : j ≤ length (entries_in b)
   pub counted : n + j ≡ length (entries_in b) + i + 1
-  pub long : len + (4 * j + begin_of (entries_in b) j) ≡ length b + (4 * i + begin_of (entries_in b) i) + (4 + length (named k (packed v)))
+  pub long : len + (4 * j + offset_in (entries_in b) j) ≡ length b + (4 * i + offset_in (entries_in b) i) + (4 + length (named k (packed v)))
   pub small : len < 2 ^ 32
-  pub made : new ≡ ((6 ∷ word n) ++ (offsets 0 (take i (entries_in b)) ++ (word (begin_of (entries_in b) i) ++ offsets (begin_of (entries_in b) i + length (named k (packed v))) (drop j (entries_in b)))))
+  pub made : new ≡ ((6 ∷ word n) ++ (offsets 0 (take i (entries_in b)) ++ (word (offset_in (entries_in b) i) ++ offsets (offset_in (entries_in b) i + length (named k (packed v))) (drop j (entries_in b)))))
       ++ (concat (take i (entries_in b)) ++ (named k (packed v) ++ concat (drop j (entries_in b))))
 
 made_table : (b new k : List ℕ) (v : Value) (i j n len : ℕ) → IsMade b new k v i j n len → member_entries (put k v (members_in b)) ≡ with_entry i j (named k (packed v)) (entries_in b)

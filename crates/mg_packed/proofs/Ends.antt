@@ -5,8 +5,8 @@ use Rattle.std.proofs.Math.Seq.{drop-length}
 use Rattle.std.specs.List.{concat}
 use Rattle.mg_value.specs.Value.{Value, null, flag, whole, text, list, object, Items, Members, item_list, member_list}
 use Rattle.mg_packed.specs.Packed.{packed, word, long, offsets, table, named, item_entries, member_entries}
-use Rattle.mg_packed.specs.Read.{Holds, HoldsObject, IsBlockOf, word_of, size_of, size_width, tag_of, entry_of, after_name, count_of, offset_of, nth_item, nth_name, nth_value, value_in}
-use Rattle.mg_packed.proofs.Entries.{IsTable, count, offset, offset_is, entry_within, length-word, length-offsets, length-long, length-table, length-named, after_name-named}
+use Rattle.mg_packed.specs.Read.{Holds, HoldsObject, IsBlockOf, word_of, size_of, size_width, tag_of, entry_of, after_text, count_of, start_of, nth_item, nth_name, nth_value, value_in}
+use Rattle.mg_packed.proofs.Entries.{IsTable, count, offset, offset_is, entry_within, length-word, length-offsets, length-long, length-table, length-named, after_text-named}
 use Rattle.mg_packed.proofs.Gaps.{entries_next, joined_again}
 use Rattle.mg_packed.proofs.Laws.{value_is, members_of}
 use Rattle.mg_packed.proofs.Parts.{length-item_entries, length-member_entries, item_entry, member_entry}
@@ -36,7 +36,7 @@ last_entry : (b : List ℕ) (entries : List (List ℕ)) (i : ℕ) (t : IsTable b
 unfolding entry_of
 last_entry b entries i t e =
     let less : i < length entries = omega (arith, e) in
-    let at : offset_of b i ≡ (5 + 4 * length entries) + offset entries i = offset_is b entries i t less in
+    let at : start_of b i ≡ (5 + 4 * length entries) + offset entries i = offset_is b entries i t less in
     let split : concat entries ++ t.rest ≡ concat (take i entries) ++ (concat (drop i entries) ++ t.rest) = ap (λ x. x ++ t.rest) (joined_again entries i) ∙ append_assoc (concat (take i entries)) (concat (drop i entries)) t.rest in
     ap (λ n. drop n b) at
     ∙ sym (drop-drop (offset entries i) (5 + 4 * length entries) b)
@@ -63,7 +63,7 @@ last_item b vs i h e =
     let less : i < length (item_list vs) = omega (arith, e) in
     last_entry b (item_entries vs) i (array_table b vs h) (omega (arith, e, length-item_entries vs)) ∙ ap (λ x. x ++ h.rest) (item_entry vs i less)
 
-pub last_value : (b : List ℕ) (ms : Members) (i : ℕ) (h : Holds b (object ms)) → suc i ≡ length (member_list ms) → after_name (entry_of b i) ≡ packed (nth_value ms i) ++ h.rest
+pub last_value : (b : List ℕ) (ms : Members) (i : ℕ) (h : Holds b (object ms)) → suc i ≡ length (member_list ms) → after_text (entry_of b i) ≡ packed (nth_value ms i) ++ h.rest
 last_value b ms i h e =
     let less : i < length (member_list ms) = omega (arith, e) in
     let k = nth_name ms i in
@@ -72,7 +72,7 @@ last_value b ms i h e =
     let size : length (get_or (member_entries ms) i []) ≡ length (named k p) = ap length (member_entry ms i less) in
     let within : i < length (member_entries ms) = omega (arith, less, length-member_entries ms) in
     let small : length k < 2 ^ 32 = omega (arith, h.short, size, length-named k p, length-table (member_entries ms), entry_within (member_entries ms) i within) in
-    ap after_name is ∙ after_name-named k p h.rest small
+    ap after_text is ∙ after_text-named k p h.rest small
 
 -- ---- the end
 
@@ -104,14 +104,14 @@ whole_end b (text s) h e = absurd (omega (arith, ap tag_of h.begins, e))
 whole_end b (list vs) h e = absurd (omega (arith, ap tag_of h.begins, e))
 whole_end b (object ms) h e = absurd (omega (arith, ap tag_of h.begins, e))
 
-pub text_end : (b : List ℕ) (v : Value) (h : Holds b v) → tag_of b ≡ 4 → after_name (drop 1 b) ≡ h.rest
+pub text_end : (b : List ℕ) (v : Value) (h : Holds b v) → tag_of b ≡ 4 → after_text (drop 1 b) ≡ h.rest
 text_end b (null) h e = absurd (omega (arith, ap tag_of h.begins, e))
 text_end b (flag true) h e = absurd (omega (arith, ap tag_of h.begins, e))
 text_end b (flag false) h e = absurd (omega (arith, ap tag_of h.begins, e))
 text_end b (whole z) h e = absurd (omega (arith, ap tag_of h.begins, e))
 text_end b (text s) h e =
     let small : length s < 2 ^ 32 = omega (arith, h.short, length-named s []) in
-    ap (λ x. after_name (drop 1 x)) h.begins ∙ after_name-named s [] h.rest small
+    ap (λ x. after_text (drop 1 x)) h.begins ∙ after_text-named s [] h.rest small
 text_end b (list vs) h e = absurd (omega (arith, ap tag_of h.begins, e))
 text_end b (object ms) h e = absurd (omega (arith, ap tag_of h.begins, e))
 
@@ -127,9 +127,9 @@ cut_block b r v h ends =
 -- ---- each step of the recursion goes to fewer bytes
 
 pub entry_shorter : (b : List ℕ) (i : ℕ) → 5 ≤ length b → length (entry_of b i) < length b
-unfolding entry_of offset_of
+unfolding entry_of start_of
 entry_shorter b i h = omega (arith, h, length-drop (5 + 4 * count_of b + word_of (drop (5 + 4 * i) b)) b)
 
-pub after_name_shorter : (b : List ℕ) → length (after_name b) ≤ length b
-unfolding after_name
+pub after_name_shorter : (b : List ℕ) → length (after_text b) ≤ length b
+unfolding after_text
 after_name_shorter b = omega (arith, length-drop (size_width b + size_of b) b)

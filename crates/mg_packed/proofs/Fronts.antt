@@ -10,7 +10,7 @@ use Rattle.mg_value.specs.Value.{Value, object, Members, no_members, member, mem
 use Rattle.mg_value.specs.Stored.{IsStored, MembersAreStored}
 use Rattle.mg_packed.specs.Front.{begins_with, without_names_beginning}
 use Rattle.mg_packed.specs.Packed.{packed, word, offsets, named, member_entries, table}
-use Rattle.mg_packed.specs.Gap.{begin_of, entries_in, IsObjectBlock}
+use Rattle.mg_packed.specs.Gap.{offset_in, entries_in, IsObjectBlock}
 use Rattle.mg_packed.specs.Ranks.{rank_of, ranked_below, without_entries}
 use Rattle.mg_packed.specs.Read.{Holds, IsBlockOf, members_in, nth_name, value_in}
 use Rattle.mg_packed.proofs.Entries.{length-table}
@@ -164,14 +164,14 @@ front_block b new front ms i j o same first next le within is =
     (record { stored = stored_without front ms stored; short = short; rest = []; begins = made ∙ sym (append-nil (packed (object (without_names_beginning front ms)))) }, made)
 
 pub without_made : (none tag counted placed new : List ℕ) (entries : List (List ℕ)) (i j n : ℕ) → none ≡ [] → tag ≡ none ++ 6 ∷ [] → counted ≡ tag ++ word n → n ≡ length (without_entries i j entries)
-    → placed ≡ counted ++ (offsets 0 (take i entries) ++ offsets (begin_of entries i) (drop j entries)) → new ≡ placed ++ (concat (take i entries) ++ concat (drop j entries))
+    → placed ≡ counted ++ (offsets 0 (take i entries) ++ offsets (offset_in entries i) (drop j entries)) → new ≡ placed ++ (concat (take i entries) ++ concat (drop j entries))
     → new ≡ 6 ∷ table (without_entries i j entries)
 unfolding table
 without_made none tag counted placed new entries i j n e1 e2 e3 e4 e5 e6 =
     let kept = without_entries i j entries in
     let begun : counted ≡ 6 ∷ word (length kept) = e3 ∙ ap (λ x. x ++ word n) (e2 ∙ ap (λ x. x ++ 6 ∷ []) e1) ∙ ap (λ m. 6 ∷ word m) e4 in
-    let from_none : begin_of entries i ≡ 0 + begin_of entries i = omega arith in
-    let cells : offsets 0 (take i entries) ++ offsets (begin_of entries i) (drop j entries) ≡ offsets 0 kept =
+    let from_none : offset_in entries i ≡ 0 + offset_in entries i = omega arith in
+    let cells : offsets 0 (take i entries) ++ offsets (offset_in entries i) (drop j entries) ≡ offsets 0 kept =
     ap (λ m. offsets 0 (take i entries) ++ offsets m (drop j entries)) from_none ∙ sym (offsets_joined 0 (take i entries) (drop j entries)) in
     let stands : concat (take i entries) ++ concat (drop j entries) ≡ concat kept = sym (concat_joined (take i entries) (drop j entries)) in
     e6 ∙ ap₂ (λ p q. p ++ q) (e5 ∙ ap₂ (λ p q. p ++ q) begun cells) stands ∙ append_assoc (6 ∷ word (length kept)) (offsets 0 kept) (concat kept)

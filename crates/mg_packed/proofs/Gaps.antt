@@ -4,25 +4,25 @@ use Rattle.std.proofs.lemmas.List.{take_at, drop_at}
 use Rattle.std.proofs.Math.Seq.{take-length, drop-length}
 use Rattle.std.specs.List.{concat}
 use Rattle.mg_packed.specs.Packed.{word, offsets, table}
-use Rattle.mg_packed.specs.Gap.{begin_of, with_entry}
+use Rattle.mg_packed.specs.Gap.{offset_in, with_entry}
 use Rattle.mg_packed.proofs.Entries.{length-offsets}
 
-pub begin_end : (entries : List (List ℕ)) (i : ℕ) → i ≡ length entries → begin_of entries i ≡ length (concat entries)
-begin_end entries i e = ap (begin_of entries) e ∙ ap (λ x. length (concat x)) (take-length entries)
+pub begin_end : (entries : List (List ℕ)) (i : ℕ) → i ≡ length entries → offset_in entries i ≡ length (concat entries)
+begin_end entries i e = ap (offset_in entries) e ∙ ap (λ x. length (concat x)) (take-length entries)
 
-pub begin_next : (entries : List (List ℕ)) (i : ℕ) → i < length entries → begin_of entries (suc i) ≡ begin_of entries i + length (get_or entries i [])
+pub begin_next : (entries : List (List ℕ)) (i : ℕ) → i < length entries → offset_in entries (suc i) ≡ offset_in entries i + length (get_or entries i [])
 begin_next [] i h = absurd (omega arith)
 begin_next (r ∷ entries) zero h = omega (arith, length-append r [])
 begin_next (r ∷ entries) (suc i) h = omega (arith, begin_next entries i (omega arith), length-append r (concat (take i entries)), length-append r (concat (take (suc i) entries)))
 
 -- the entries before the gap and those behind it
-pub begin_behind : (entries : List (List ℕ)) (i : ℕ) → begin_of entries i + length (concat (drop i entries)) ≡ length (concat entries)
+pub begin_behind : (entries : List (List ℕ)) (i : ℕ) → offset_in entries i + length (concat (drop i entries)) ≡ length (concat entries)
 begin_behind [] zero = refl
 begin_behind [] (suc i) = refl
 begin_behind (r ∷ entries) zero = omega arith
 begin_behind (r ∷ entries) (suc i) = omega (arith, begin_behind entries i, length-append r (concat (take i entries)), length-append r (concat entries))
 
-pub begins_ascend : (entries : List (List ℕ)) (i j : ℕ) → i ≤ j → begin_of entries i ≤ begin_of entries j
+pub begins_ascend : (entries : List (List ℕ)) (i j : ℕ) → i ≤ j → offset_in entries i ≤ offset_in entries j
 begins_ascend [] i j h = omega (arith, begin_behind [] i)
 begins_ascend (r ∷ entries) zero j h = omega arith
 begins_ascend (r ∷ entries) (suc i) zero h = absurd (omega arith)
@@ -58,21 +58,21 @@ first_offsets at entries i tail h =
 pub joined_again : (entries : List (List ℕ)) (i : ℕ) → concat entries ≡ concat (take i entries) ++ concat (drop i entries)
 joined_again entries i = ap concat (sym (take-append-drop i entries)) ∙ concat_joined (take i entries) (drop i entries)
 
-pub first_entries : (entries : List (List ℕ)) (i : ℕ) → take (begin_of entries i) (concat entries) ≡ concat (take i entries)
-first_entries entries i = ap (take (begin_of entries i)) (joined_again entries i) ∙ take_at (concat (take i entries)) (concat (drop i entries)) (begin_of entries i) refl
+pub first_entries : (entries : List (List ℕ)) (i : ℕ) → take (offset_in entries i) (concat entries) ≡ concat (take i entries)
+first_entries entries i = ap (take (offset_in entries i)) (joined_again entries i) ∙ take_at (concat (take i entries)) (concat (drop i entries)) (offset_in entries i) refl
 
-pub last_entries : (entries : List (List ℕ)) (i : ℕ) → drop (begin_of entries i) (concat entries) ≡ concat (drop i entries)
-last_entries entries i = ap (drop (begin_of entries i)) (joined_again entries i) ∙ drop_at (concat (take i entries)) (concat (drop i entries)) (begin_of entries i) refl
+pub last_entries : (entries : List (List ℕ)) (i : ℕ) → drop (offset_in entries i) (concat entries) ≡ concat (drop i entries)
+last_entries entries i = ap (drop (offset_in entries i)) (joined_again entries i) ∙ drop_at (concat (take i entries)) (concat (drop i entries)) (offset_in entries i) refl
 
 -- ---- the table with the entry in the gap
 
 -- one more offset is moved
-pub offset_moved : (o all : List ℕ) (entries : List (List ℕ)) (i g n : ℕ) → i < length entries → g ≤ begin_of entries i
-    → o ++ offsets (begin_of entries i - g + n) (drop i entries) ≡ all → (o ++ word (begin_of entries i - g + n)) ++ offsets (begin_of entries (suc i) - g + n) (drop (suc i) entries) ≡ all
+pub offset_moved : (o all : List ℕ) (entries : List (List ℕ)) (i g n : ℕ) → i < length entries → g ≤ offset_in entries i
+    → o ++ offsets (offset_in entries i - g + n) (drop i entries) ≡ all → (o ++ word (offset_in entries i - g + n)) ++ offsets (offset_in entries (suc i) - g + n) (drop (suc i) entries) ≡ all
 offset_moved o all entries i g n h above same =
-    let m = begin_of entries i - g + n in
-    let e : begin_of entries (suc i) - g + n ≡ m + length (get_or entries i []) = omega (arith, begin_next entries i h) in
-    append_assoc o (word m) (offsets (begin_of entries (suc i) - g + n) (drop (suc i) entries))
+    let m = offset_in entries i - g + n in
+    let e : offset_in entries (suc i) - g + n ≡ m + length (get_or entries i []) = omega (arith, begin_next entries i h) in
+    append_assoc o (word m) (offsets (offset_in entries (suc i) - g + n) (drop (suc i) entries))
     ∙ ap (λ k. o ++ (word m ++ offsets k (drop (suc i) entries))) e
     ∙ ap (λ l. o ++ offsets m l) (sym (entries_next entries i h))
     ∙ same
@@ -91,17 +91,17 @@ length-with_entry (r ∷ entries) entry zero (suc j) h k = omega (arith, length-
 length-with_entry (r ∷ entries) entry (suc i) zero h k = absurd (omega arith)
 length-with_entry (r ∷ entries) entry (suc i) (suc j) h k = omega (arith, length-with_entry entries entry i j (omega arith) (omega arith))
 
-pub concat-with_entry : (entries : List (List ℕ)) (entry : List ℕ) (i j : ℕ) → length (concat (with_entry i j entry entries)) ≡ begin_of entries i + (length entry + length (concat (drop j entries)))
+pub concat-with_entry : (entries : List (List ℕ)) (entry : List ℕ) (i j : ℕ) → length (concat (with_entry i j entry entries)) ≡ offset_in entries i + (length entry + length (concat (drop j entries)))
 concat-with_entry entries entry i j =
     ap length (concat_joined (take i entries) (entry ∷ drop j entries)) ∙ omega (arith, length-append (concat (take i entries)) (concat (entry ∷ drop j entries)), length-append entry (concat (drop j entries)))
 
 pub assembled : (b : List ℕ) (entries : List (List ℕ)) (entry : List ℕ) (i j n : ℕ) → n ≡ length (with_entry i j entry entries)
-    → b ≡ ((6 ∷ word n) ++ (offsets 0 (take i entries) ++ (word (begin_of entries i) ++ offsets (begin_of entries i + length entry) (drop j entries)))) ++ (concat (take i entries) ++ (entry ++ concat (drop j entries)))
+    → b ≡ ((6 ∷ word n) ++ (offsets 0 (take i entries) ++ (word (offset_in entries i) ++ offsets (offset_in entries i + length entry) (drop j entries)))) ++ (concat (take i entries) ++ (entry ++ concat (drop j entries)))
     → b ≡ 6 ∷ table (with_entry i j entry entries)
 unfolding table
 assembled b entries entry i j n counted is =
-    let from_none : begin_of entries i ≡ 0 + begin_of entries i = omega arith in
-    let placed : offsets 0 (take i entries) ++ (word (begin_of entries i) ++ offsets (begin_of entries i + length entry) (drop j entries)) ≡ offsets 0 (with_entry i j entry entries) =
+    let from_none : offset_in entries i ≡ 0 + offset_in entries i = omega arith in
+    let placed : offsets 0 (take i entries) ++ (word (offset_in entries i) ++ offsets (offset_in entries i + length entry) (drop j entries)) ≡ offsets 0 (with_entry i j entry entries) =
     ap (λ m. offsets 0 (take i entries) ++ offsets m (entry ∷ drop j entries)) from_none ∙ sym (offsets_joined 0 (take i entries) (entry ∷ drop j entries)) in
     let stands : concat (take i entries) ++ (entry ++ concat (drop j entries)) ≡ concat (with_entry i j entry entries) = sym (concat_joined (take i entries) (entry ∷ drop j entries)) in
     is

@@ -11,7 +11,7 @@ use Rattle.json.specs.declared.value.Value.{Value as Tree}
 use Rattle.serde_json.specs.Data as parsed
 use Rattle.serde_json.specs.Data.{Data}
 use Rattle.serde_json.specs.Read.{of_json}
-use Rattle.mg_value.specs.Borrowed.{IsWhole, AreWholeItems}
+use Rattle.mg_value.specs.Borrowed.{IsTreeOf, AreItemTreesOf}
 use Rattle.mg_value.specs.Held.{AllAfter}
 use Rattle.mg_value.specs.Stored.{IsStored, AreStored, MembersAreStored}
 use Rattle.mg_value.specs.Text.{whole_members}
@@ -75,13 +75,13 @@ pub entries-members_with : (ms : Members) (k : List ℕ) (v : Value) → member_
 entries-members_with no_members k v = refl
 entries-members_with (member l w ms) k v = ap (λ es. named l (packed w) ∷ es) (entries-members_with ms k v)
 
-pub items_match-push : (ts : List (Tree Global)) (t : Tree Global) (vs : Items) (v : Value) → ItemsMatch ts vs → IsWhole (value_view t) v → IsStored v → ItemsMatch (ts ++ t ∷ []) (items_with vs v)
+pub items_match-push : (ts : List (Tree Global)) (t : Tree Global) (vs : Items) (v : Value) → ItemsMatch ts vs → IsTreeOf (value_view t) v → IsStored v → ItemsMatch (ts ++ t ∷ []) (items_with vs v)
 items_match-push [] t no_items v h whole stored = (whole, stored, tt)
 items_match-push [] t (item w vs) v h whole stored = absurd h
 items_match-push (u ∷ ts) t no_items v h whole stored = absurd h
 items_match-push (u ∷ ts) t (item w vs) v h whole stored = (h.0, h.1, items_match-push ts t vs v h.2 whole stored)
 
-pub members_match-push : (es : List Named) (e : Named) (ms : Members) (v : Value) → MembersMatch es ms → IsUtf8 e.0.now → IsWhole (value_view e.1.now) v → IsStored v → MembersMatch (es ++ e ∷ []) (members_with ms e.0.now v)
+pub members_match-push : (es : List Named) (e : Named) (ms : Members) (v : Value) → MembersMatch es ms → IsUtf8 e.0.now → IsTreeOf (value_view e.1.now) v → IsStored v → MembersMatch (es ++ e ∷ []) (members_with ms e.0.now v)
 members_match-push [] e no_members v h utf8 whole stored = (refl, utf8, whole, stored, tt)
 members_match-push [] e (member l w ms) v h utf8 whole stored = absurd h
 members_match-push (u ∷ es) e no_members v h utf8 whole stored = absurd h
@@ -101,7 +101,7 @@ length-members_match (e ∷ es) (member l w ms) h = ap suc (length-members_match
 
 -- ---- parts that match make the whole
 
-pub items_whole : (ts : List (Tree Global)) (vs : Items) → ItemsMatch ts vs → AreWholeItems (tree_items ts) vs
+pub items_whole : (ts : List (Tree Global)) (vs : Items) → ItemsMatch ts vs → AreItemTreesOf (tree_items ts) vs
 items_whole [] no_items h = (parsed.no_items, refl, refl)
 items_whole [] (item w vs) h = absurd h
 items_whole (t ∷ ts) no_items h = absurd h

@@ -18,8 +18,8 @@ names_up_to k no_members = 0
 names_up_to k (member l v ms) = match_ordering (slice_cmp nat_cmp k l) 0 1 (suc (names_up_to k ms))
 
 -- where the i-th entry begins, counted from the end of the table; if i is the count of entries, where the entries end
-abbrev pub begin_of : List (List ℕ) → ℕ → ℕ
-begin_of entries i = length (concat (take i entries))
+abbrev pub offset_in : List (List ℕ) → ℕ → ℕ
+offset_in entries i = length (concat (take i entries))
 
 -- the entries with this one instead of those from the n-th up to the m-th, which is kept
 abbrev pub with_entry : ℕ → ℕ → List ℕ → List (List ℕ) → List (List ℕ)

@@ -2,7 +2,7 @@
 use Rattle.std.specs.Prelude.{ℕ, suc, List, [], ◌∷◌, ◌++◌, take, drop, nat_lt, if◌then◌else◌}
 use Rattle.mg_value.specs.Value.{Members, no_members, member}
 
--- 0 for the empty name, else one more than the first byte: names ascend by it
+-- 0 for the empty name, else one more than the first byte: a later name never has a lower rank
 abbrev pub rank_of : List ℕ → ℕ
 rank_of [] = 0
 rank_of (c ∷ s) = suc c

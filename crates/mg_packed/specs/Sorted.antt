@@ -14,7 +14,7 @@ use Rattle.serde_json.specs.Data as parsed
 use Rattle.serde_json.specs.Read.{of_json, of_members}
 use Rattle.std.specs.List.{concat}
 use Rattle.mg_packed.specs.Packed.{offsets, packed, named, item_entries}
-use Rattle.mg_value.specs.Borrowed.{IsWhole}
+use Rattle.mg_value.specs.Borrowed.{IsTreeOf}
 use Rattle.mg_value.specs.Stored.{IsStored}
 use Rattle.mg_value.specs.Value.{Value, Items, no_items, item, Members, no_members, member}
 
@@ -44,22 +44,22 @@ abbrev pub ItemsMatch : List (Tree Global) → Items → Type 0
 ItemsMatch [] no_items = ⊤
 ItemsMatch [] (item v vs) = ⊥
 ItemsMatch (t ∷ ts) no_items = ⊥
-ItemsMatch (t ∷ ts) (item v vs) = IsWhole (value_view t) v × IsStored v × ItemsMatch ts vs
+ItemsMatch (t ∷ ts) (item v vs) = IsTreeOf (value_view t) v × IsStored v × ItemsMatch ts vs
 
 -- each name and tree stand for the member
 abbrev pub MembersMatch : List Named → Members → Type 0
 MembersMatch [] no_members = ⊤
 MembersMatch [] (member k v ms) = ⊥
 MembersMatch (e ∷ es) no_members = ⊥
-MembersMatch (e ∷ es) (member k v ms) = (e.0.now ≡ k) × IsUtf8 k × IsWhole (value_view e.1.now) v × IsStored v × MembersMatch es ms
+MembersMatch (e ∷ es) (member k v ms) = (e.0.now ≡ k) × IsUtf8 k × IsTreeOf (value_view e.1.now) v × IsStored v × MembersMatch es ms
 
 -- the bytes are the old ones and those of a value that the tree stands for
 abbrev pub IsPushed : json.Json → List ℕ → List ℕ → Type 0
-IsPushed j old new = (v : Value) × IsWhole j v × IsStored v × (new ≡ old ++ packed v)
+IsPushed j old new = (v : Value) × IsTreeOf j v × IsStored v × (new ≡ old ++ packed v)
 
 -- the bytes are the old ones, and those of a member with this name, and with a value that the tree stands for
 abbrev pub IsMemberPushed : List ℕ → json.Json → List ℕ → List ℕ → Type 0
-IsMemberPushed k j old new = IsUtf8 k × ((v : Value) × IsWhole j v × IsStored v × (new ≡ old ++ named k (packed v)))
+IsMemberPushed k j old new = IsUtf8 k × ((v : Value) × IsTreeOf j v × IsStored v × (new ≡ old ++ named k (packed v)))
 
 -- the bytes are the old ones, and the offsets and entries of the items
 abbrev pub AreItemsPushed : List (Tree Global) → List ℕ → List ℕ → Type 0

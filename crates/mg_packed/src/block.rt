@@ -1,11 +1,12 @@
-// Finds where the bytes of a value end, if other bytes follow them.
+// Finds where the bytes of a value end, since other bytes may follow them.
 ghost use Rattle.std.specs.Prelude.{◌≡◌, ◌++◌, length};
 ghost use Rattle.mg_packed.specs.Packed.{packed};
 ghost use Rattle.mg_packed.specs.Read.{value_in, HoldsArray, HoldsObject, IsPart, IsBlockOf};
 
 use crate::read;
 
-// The bytes of the value at the front, without those that follow. Cost: the depth of the value's last parts.
+// The bytes of the value at the front, without those that follow. Cost: one step for each level: to its last item or member, to the last
+// one in that, and so on.
 pub(crate) fn block(bytes: &[u8]) -> &[u8]
     requires { IsPart bytes.now }
     ensures { IsBlockOf result.now (value_in bytes.now) }
@@ -22,7 +23,7 @@ fn after_value(bytes: &[u8]) -> &[u8]
 {
     match bytes[0] {
         3 => &bytes[9..],
-        4 => read::after_name(&bytes[1..]),
+        4 => read::after_text(&bytes[1..]),
         5 => after_items(bytes),
         6 => after_members(bytes),
         _ => &bytes[1..],
@@ -53,6 +54,6 @@ fn after_members(bytes: &[u8]) -> &[u8]
     if count == 0 {
         &bytes[5..]
     } else {
-        after_value(read::after_name(read::entry(bytes, count, count - 1)))
+        after_value(read::after_text(read::entry(bytes, count, count - 1)))
     }
 }

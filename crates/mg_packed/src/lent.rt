@@ -7,7 +7,7 @@ use mg_value::{Json, LentValue, NoMemory};
 use std::alloc::Global;
 
 impl<'a> LentValue for Part<'a> {
-    ghost use Rattle.mg_packed.specs.Weight.{members_past};
+    ghost use Rattle.mg_packed.specs.Walk.{members_past};
 
     type Text = &'a str;
 

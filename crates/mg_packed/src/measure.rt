@@ -7,7 +7,7 @@ ghost use Rattle.mg_packed.specs.Packed.{packed};
 ghost use Rattle.mg_value.specs.Stored.{IsStored, AreStored, MembersAreStored};
 ghost use Rattle.mg_packed.specs.Sizes.{items_size, members_size, size_len};
 
-use crate::read::LONG;
+use crate::read::WIDE_LENGTH;
 use mg_value::{Json, NoMemory};
 use std::collections::BTreeMap;
 
@@ -35,11 +35,11 @@ fn add(a: u32, b: u32) -> Result<u32, NoMemory>
 fn size_len(len: usize) -> u32
     ensures { result ≡ size_len len }
 {
-    if len < LONG as usize { 1 } else { 5 }
+    if len < WIDE_LENGTH as usize { 1 } else { 5 }
 }
 
-// The size of a text, of its length, and of `more` bytes.
-pub(crate) fn named_len(name: &str, more: u32) -> Result<u32, NoMemory>
+// How many bytes a text and its length take, plus `more`.
+pub(crate) fn counted_len(name: &str, more: u32) -> Result<u32, NoMemory>
     ensures { IfOk result (λ n. n ≡ size_len (length name.now) + length name.now + more) }
 {
     add(add(size_len(name.len()), as_word(name.len())?)?, more)
@@ -48,7 +48,7 @@ pub(crate) fn named_len(name: &str, more: u32) -> Result<u32, NoMemory>
 pub(crate) fn text_len(text: &str) -> Result<u32, NoMemory>
     ensures { IfOk result (λ n. n ≡ length (packed (string text.now))) }
 {
-    let len = named_len(text, 1)?;
+    let len = counted_len(text, 1)?;
     Ok(len)
 }
 
@@ -123,7 +123,7 @@ fn measure_members(members: &BTreeMap<String, Json>) -> Result<u32, NoMemory>
 {
     let mut len = 5;
     for (name, member) in members.iter() {
-        len = add(len, add(4, named_len(name, measure(member)?)?)?)?;
+        len = add(len, add(4, counted_len(name, measure(member)?)?)?)?;
     }
     Ok(len)
 }

@@ -3,7 +3,7 @@ ghost use Rattle.std.specs.Prelude.{◌≡◌, ◌<◌, length, Err, IfOk, IfSom
 ghost use Rattle.json.specs.Value.{value_view};
 ghost use Rattle.serde_json.specs.Data.{Data};
 ghost use Rattle.mg_value.specs.Text.{Reads, IsText, whole_of};
-ghost use Rattle.mg_value.specs.Borrowed.{IsWhole};
+ghost use Rattle.mg_value.specs.Borrowed.{IsTreeOf};
 ghost use Rattle.mg_value.specs.Value.{Value};
 ghost use Rattle.mg_value.specs.View.{view};
 ghost use Rattle.mg_packed.specs.Read.{IsBlockOf};
@@ -68,7 +68,7 @@ fn read_with(alloc: Global, text: &str, scratch: &mut Scratch) -> Option<Packed>
 // The bytes of the value that the tree stands for. The block begins with room for twice the length of the text, so spare room may be
 // left.
 fn tree_block(alloc: Global, text_len: usize, tree: &Tree<'_>) -> Result<Vec<u8>, GaveUp>
-    ensures { IfOk result (λ b. (v : Value) × IsWhole (value_view tree.now) v × IsBlockOf b.items v) }
+    ensures { IfOk result (λ b. (v : Value) × IsTreeOf (value_view tree.now) v × IsBlockOf b.items v) }
 {
     let mut out = Vec::with_capacity(alloc, text_len.saturating_mul(2))?;
     push_tree(alloc, &mut out, tree, MAX_DEPTH)?;

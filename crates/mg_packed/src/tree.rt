@@ -9,7 +9,7 @@ ghost use Rattle.mg_value.specs.Value.{Items, Members, null, flag as boolean, wh
 ghost use Rattle.mg_packed.specs.Packed.{size, offsets, packed, named, item_entries, member_entries};
 ghost use Rattle.mg_packed.specs.Sorted.{IsPushed, AreItemsPushed, AreSortedMembers, IsMemberPushed, IsSorting, ItemsMatch, MembersMatch, Ascend};
 
-use crate::build::{push_head, push_name, push_tag, push_text, push_whole, set_offset};
+use crate::build::{push_counted, push_head, push_tag, push_text, push_whole, set_offset};
 use crate::measure::as_word;
 use json::Value as Tree;
 use mg_value::{NoMemory, whole_number};
@@ -38,8 +38,8 @@ impl<T: Drop> From<AllocFailed<T>> for GaveUp {
     }
 }
 
-// Adds the bytes of the value that the tree stands for. It gives up if the tree nests deeper than `depth`, by which proofs know that
-// the walk ends; no tree of `read_tree` nests deeper than `MAX_DEPTH`. A level of nesting takes one frame of the stack, that of
+// Adds the bytes of the value that the tree stands for. It gives up if the tree nests deeper than `depth`, which only serves the proof
+// that the walk ends: no tree of `read_tree` nests deeper than `MAX_DEPTH`. A level of nesting takes one frame of the stack, that of
 // `push_items` or `push_sorted`, since the functions between them are inlined. The frame is no larger than the one that reading took
 // for the level, so this walk needs no deeper stack than reading did.
 #[cycle(push_tree)]
@@ -239,6 +239,6 @@ fn push_key(out: &mut Vec<u8>, name: &str) -> Result<(), GaveUp>
     ensures pushed { OnOk result
         (out.new.items ≡ out.old.items ++ (size (length name.now) ++ name.now)) }
 {
-    push_name(out, name)?;
+    push_counted(out, name)?;
     Ok(())
 }

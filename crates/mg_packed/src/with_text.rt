@@ -5,11 +5,11 @@ ghost use Rattle.std.specs.List.{concat};
 ghost use Rattle.mg_value.specs.Value.{text as string, object, put};
 ghost use Rattle.mg_packed.specs.Packed.{word, offsets, packed, named};
 ghost use Rattle.mg_packed.specs.Read.{members_in, IsBlockOf};
-ghost use Rattle.mg_packed.specs.Gap.{begin_of, entries_in, IsObjectBlock};
+ghost use Rattle.mg_packed.specs.Gap.{offset_in, entries_in, IsObjectBlock};
 
-use crate::build::{push_name, push_tag, push_text, push_word};
+use crate::build::{push_counted, push_tag, push_text, push_word};
 use crate::gap::Gap;
-use crate::measure::{as_word, named_len, text_len};
+use crate::measure::{as_word, counted_len, text_len};
 use crate::object::Object;
 use crate::read;
 use mg_value::NoMemory;
@@ -32,7 +32,7 @@ pub(crate) fn object_with_text(
     let members = Object::at(bytes);
     let count = members.len();
     let gap = members.gap(name);
-    let entry_len = named_len(name, text_len(text)?)?;
+    let entry_len = counted_len(name, text_len(text)?)?;
     let len = len_with(bytes, count, gap, entry_len)?;
     let mut out = Vec::with_capacity(alloc, len as usize)?;
     push_tag(&mut out, OBJECT)?;
@@ -52,11 +52,11 @@ pub(crate) fn copy_bytes(alloc: Global, bytes: &[u8]) -> Result<Vec<u8>, NoMemor
 }
 
 // Where the entry at `index` begins, counted from the end of the table; if `index` is the count of entries, where the entries end.
-pub(crate) fn entry_begin(bytes: &[u8], count: usize, index: usize) -> usize
+pub(crate) fn entry_offset(bytes: &[u8], count: usize, index: usize) -> usize
     requires block { IsObjectBlock bytes.now }
     requires counted { count ≡ length (entries_in bytes.now) }
     requires within { index ≤ length (entries_in bytes.now) }
-    ensures { result ≡ begin_of (entries_in bytes.now) index }
+    ensures { result ≡ offset_in (entries_in bytes.now) index }
 {
     if index < count {
         read::word(bytes, 5 + 4 * index)
@@ -71,11 +71,11 @@ fn len_with(bytes: &[u8], count: usize, gap: Gap, entry_len: u32) -> Result<u32,
     requires counted { count ≡ length (entries_in bytes.now) }
     requires ordered { gap.before ≤ gap.after }
     requires within { gap.after ≤ length (entries_in bytes.now) }
-    ensures { IfOk result (λ n. n + (4 * gap.after + begin_of (entries_in bytes.now) gap.after)
-        ≡ length bytes.now + (4 * gap.before + begin_of (entries_in bytes.now) gap.before)
+    ensures { IfOk result (λ n. n + (4 * gap.after + offset_in (entries_in bytes.now) gap.after)
+        ≡ length bytes.now + (4 * gap.before + offset_in (entries_in bytes.now) gap.before)
         + (4 + entry_len)) }
 {
-    let gone = entry_begin(bytes, count, gap.after) - entry_begin(bytes, count, gap.before);
+    let gone = entry_offset(bytes, count, gap.after) - entry_offset(bytes, count, gap.before);
     let kept = bytes.len() - gone - 4 * (gap.after - gap.before);
     let len = as_word(kept + 4 + entry_len as usize)?;
     Ok(len)
@@ -95,11 +95,11 @@ fn push_offsets(
     requires within { gap.after ≤ length (entries_in bytes.now) }
     ensures { OnOk result
         (out.new.items ≡ out.old.items ++ (offsets 0 (take gap.before (entries_in bytes.now))
-        ++ (word (begin_of (entries_in bytes.now) gap.before)
-        ++ offsets (begin_of (entries_in bytes.now) gap.before + entry_len)
+        ++ (word (offset_in (entries_in bytes.now) gap.before)
+        ++ offsets (offset_in (entries_in bytes.now) gap.before + entry_len)
         (drop gap.after (entries_in bytes.now))))) }
 {
-    let begin = entry_begin(bytes, count, gap.before);
+    let begin = entry_offset(bytes, count, gap.before);
     out.extend_from_slice(&bytes[5..5 + 4 * gap.before])?;
     push_word(out, as_word(begin)?)?;
     push_moved(
@@ -126,9 +126,9 @@ pub(crate) fn push_moved(
     ensures { OnOk result
         (out.new.items ≡ out.old.items ++ offsets begin (drop after (entries_in bytes.now))) }
 {
-    let began = entry_begin(bytes, count, after);
+    let began = entry_offset(bytes, count, after);
     for index in after..count {
-        let moved = entry_begin(bytes, count, index) - began + begin as usize;
+        let moved = entry_offset(bytes, count, index) - began + begin as usize;
         push_word(out, as_word(moved)?)?;
     }
     Ok(())
@@ -151,10 +151,10 @@ fn push_entries(
         ++ (named name.now (packed (string text.now)) ++ concat (drop gap.after (entries_in bytes.now))))) }
 {
     let table_end = 5 + 4 * count;
-    let before = table_end + entry_begin(bytes, count, gap.before);
-    let after = table_end + entry_begin(bytes, count, gap.after);
+    let before = table_end + entry_offset(bytes, count, gap.before);
+    let after = table_end + entry_offset(bytes, count, gap.after);
     out.extend_from_slice(&bytes[table_end..before])?;
-    push_name(out, name)?;
+    push_counted(out, name)?;
     push_text(out, text)?;
     out.extend_from_slice(&bytes[after..])?;
     Ok(())

@@ -2,13 +2,13 @@
 ghost use Rattle.std.specs.Prelude.{◌≡◌, ◌+◌, ◌*◌, ◌≤◌, ◌++◌, ◌∷◌, length, take, drop, IfOk, OnOk};
 ghost use Rattle.std.specs.List.{concat};
 ghost use Rattle.mg_packed.specs.Packed.{offsets, table};
-ghost use Rattle.mg_packed.specs.Gap.{begin_of, entries_in, IsObjectBlock};
+ghost use Rattle.mg_packed.specs.Gap.{offset_in, entries_in, IsObjectBlock};
 ghost use Rattle.mg_packed.specs.Ranks.{without_entries};
 
 use crate::build::{push_tag, push_word};
 use crate::gap::Gap;
 use crate::measure::as_word;
-use crate::with_text::{OBJECT, entry_begin, push_moved};
+use crate::with_text::{OBJECT, entry_offset, push_moved};
 use mg_value::NoMemory;
 use std::alloc::Global;
 
@@ -40,10 +40,10 @@ fn len_without(bytes: &[u8], count: usize, gap: Gap) -> usize
     requires counted { count ≡ length (entries_in bytes.now) }
     requires ordered { gap.before ≤ gap.after }
     requires within { gap.after ≤ length (entries_in bytes.now) }
-    ensures { result + (4 * gap.after + begin_of (entries_in bytes.now) gap.after)
-        ≡ length bytes.now + (4 * gap.before + begin_of (entries_in bytes.now) gap.before) }
+    ensures { result + (4 * gap.after + offset_in (entries_in bytes.now) gap.after)
+        ≡ length bytes.now + (4 * gap.before + offset_in (entries_in bytes.now) gap.before) }
 {
-    let gone = entry_begin(bytes, count, gap.after) - entry_begin(bytes, count, gap.before);
+    let gone = entry_offset(bytes, count, gap.after) - entry_offset(bytes, count, gap.before);
     bytes.len() - gone - 4 * (gap.after - gap.before)
 }
 
@@ -60,9 +60,9 @@ fn push_kept_offsets(
     requires within { gap.after ≤ length (entries_in bytes.now) }
     ensures { OnOk result
         (out.new.items ≡ out.old.items ++ (offsets 0 (take gap.before (entries_in bytes.now))
-        ++ offsets (begin_of (entries_in bytes.now) gap.before) (drop gap.after (entries_in bytes.now)))) }
+        ++ offsets (offset_in (entries_in bytes.now) gap.before) (drop gap.after (entries_in bytes.now)))) }
 {
-    let begin = entry_begin(bytes, count, gap.before);
+    let begin = entry_offset(bytes, count, gap.before);
     out.extend_from_slice(&bytes[5..5 + 4 * gap.before])?;
     push_moved(out, bytes, count, gap.after, as_word(begin)?)?;
     Ok(())
@@ -83,8 +83,8 @@ fn push_kept_entries(
         ++ concat (drop gap.after (entries_in bytes.now)))) }
 {
     let table_end = 5 + 4 * count;
-    let before = table_end + entry_begin(bytes, count, gap.before);
-    let after = table_end + entry_begin(bytes, count, gap.after);
+    let before = table_end + entry_offset(bytes, count, gap.before);
+    let after = table_end + entry_offset(bytes, count, gap.after);
     out.extend_from_slice(&bytes[table_end..before])?;
     out.extend_from_slice(&bytes[after..])?;
     Ok(())

@@ -3,7 +3,7 @@
 use Rattle.std.specs.Prelude.{◌≡◌, false, List, [], ◌∷◌, ◌++◌, Option, Some, None, refl}
 use Rattle.std.specs.Cmp.{IsTotalOrder}
 use Rattle.std.specs.List.{filter, AllByRecursion}
-use Rattle.std.specs.Ordering.{is_eq, is_lt, is_gt, is_le, is_ge}
+use Rattle.std.specs.Ordering.{is_eq, is_lt, is_gt, is_ge}
 use Rattle.std.specs.declared.cmp.Ordering.{Ordering}
 use Rattle.std.specs.declared.cmp.Ordering.TheVariants.{Less, Equal, Greater}
 use Rattle.std.proofs.Common.{◌∙◌, ap}
@@ -20,10 +20,6 @@ below against xs = filter (λ x. is_gt (against x)) xs
 -- the elements above a key
 abbrev pub above : {T : Type 0} → (T → Ordering) → List T → List T
 above against xs = filter (λ x. is_lt (against x)) xs
-
--- the elements that are not below a key
-abbrev pub from : {T : Type 0} → (T → Ordering) → List T → List T
-from against xs = filter (λ x. is_le (against x)) xs
 
 -- the elements that are not above a key
 abbrev pub upto : {T : Type 0} → (T → Ordering) → List T → List T
@@ -50,12 +46,6 @@ removed against xs = below against xs ++ above against xs
 abbrev pub IsProbe : {T : Type 0} → (T → T → Ordering) → (T → Ordering) → Type 0
 IsProbe {T} order against = (x y : T) → order x y ≡ Less → is_gt (against x) ≡ false → against y ≡ Less
 
--- a key with its ties above it
-abbrev pub under : Ordering → Ordering
-under Less = Less
-under Equal = Less
-under Greater = Greater
-
 -- a key with its ties below it
 abbrev pub over : Ordering → Ordering
 over Less = Less
@@ -77,19 +67,11 @@ probe_from_total {T} {order} o a = λ x y l n. probe_cases o a x y (order a x) r
 pub probe_through : {T K : Type 0} {order : K → K → Ordering} → IsTotalOrder order → (part : T → K) (k : K) → IsProbe (λ x y. order (part x) (part y)) (λ x. order k (part x))
 probe_through o part k = λ x y l n. probe_from_total o k (part x) (part y) l n
 
-not_above_under : (r : Ordering) → is_gt (under r) ≡ false → is_gt r ≡ false
-not_above_under Less n = n
-not_above_under Equal n = n
-not_above_under Greater n = n
-
 not_above_over : (r : Ordering) → is_gt (over r) ≡ false → is_gt r ≡ false
 not_above_over Less n = n
 not_above_over Equal n = cc
 not_above_over Greater n = n
 
--- a key with its ties on one side is a key
-pub probe_under : {T : Type 0} (order : T → T → Ordering) (against : T → Ordering) → IsProbe order against → IsProbe order (λ x. under (against x))
-probe_under order against p = λ x y l n. ap under (p x y l (not_above_under (against x) n))
-
+-- a key with its ties below it is a key
 pub probe_over : {T : Type 0} (order : T → T → Ordering) (against : T → Ordering) → IsProbe order against → IsProbe order (λ x. over (against x))
 probe_over order against p = λ x y l n. ap over (p x y l (not_above_over (against x) n))

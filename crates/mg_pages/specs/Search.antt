@@ -21,7 +21,7 @@ pub record IsTie {T : Type 0} (against : T → Ordering) (xs : List T) (i : ℕ)
   pub before : AllBelow against (take i xs)
   pub after : AllAbove against (drop (i + 1) xs)
 
--- the key ties with no element, and belongs before the element at i
+-- the key ties with no element, and belongs before the element at i, or at the end if i is the length
 pub record IsGap {T : Type 0} (against : T → Ordering) (xs : List T) (i : ℕ) : Type 0 where
   pub within : i ≤ length xs
   pub before : AllBelow against (take i xs)

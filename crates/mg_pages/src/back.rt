@@ -67,7 +67,7 @@ impl<'a, T: Keyed> Back<'a, T> {
         self.run = run_before_skip(self.pages, run, count);
     }
 
-    /// The last element of the run that is being read, which is the rest of one page, and its place among the elements that are left;
+    /// The element of the current run that is read last (a run is the rest of one page), and its place among the elements that are left;
     /// `None` if nothing is left. Cost: constant.
     pub fn run_end(&self) -> Option<(usize, &'a T)>
         ensures { MatchOption result (self.now ≡ []) (λ end. slice_get self.now end.0 ≡ Some end.1.now) }

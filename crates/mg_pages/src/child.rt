@@ -6,7 +6,7 @@ ghost use Rattle.mg_pages.specs.Order.{Ascends, found, inserted, removed};
 ghost use Rattle.mg_pages.specs.Parts.{IsLast, node_value, child_value, child_seen, child_whole, children};
 
 use crate::element::room_for;
-use crate::hint::number_of;
+use crate::hint::hint_of;
 use crate::keyed::{Keyed, Probe};
 use crate::subtree::Subtree;
 use std::alloc::{AllocError, Global};
@@ -43,7 +43,7 @@ pub fn child_of<T: Keyed, P: Subtree<T>>(alloc: Global, part: P) -> Result<Child
     ensures seen { IfOk result (λ c. child_seen P.seen (child_value c) ≡ P.seen part) }
 {
     let own = node_of::<T, P>(part)?;
-    let hint = number_of(&own.last);
+    let hint = hint_of(&own.last);
     let node = Arc::new(alloc, own)?;
     Ok(Child { node, hint })
 }
@@ -96,7 +96,7 @@ fn last_with<T: Keyed>(last: &T, element: &T) -> Result<T, AllocError>
     Ok(kept)
 }
 
-// The last element of a part that ends with `last`, after the element that ties with a key is removed.
+// The last element of a part that ends with `last`, after the element that ties with a key is removed; `last` if none is left.
 fn last_without<T: Keyed, P: Subtree<T>, Q: Probe<T>>(
     part: &P,
     last: &T,
@@ -254,7 +254,7 @@ pub fn put_into<T: Keyed, P: Subtree<T>>(
         ≡ child_seen P.seen (child_value child.old)) }
 {
     let had = put_shared::<T, P>(alloc, &mut child.node, element)?;
-    child.hint = number_of(&child.node.last);
+    child.hint = hint_of(&child.node.last);
     Ok(had)
 }
 
@@ -279,6 +279,6 @@ pub fn take_out_of<T: Keyed, P: Subtree<T>, Q: Probe<T>>(
     ensures err_whole { OnErr result (child_whole P.is_whole P.seen (child_value child.new)) }
 {
     let emptied = take_out_shared::<T, P, Q>(alloc, &mut child.node, key)?;
-    child.hint = number_of(&child.node.last);
+    child.hint = hint_of(&child.node.last);
     Ok(emptied)
 }

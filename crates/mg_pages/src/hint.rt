@@ -5,7 +5,7 @@ use crate::keyed::Keyed;
 use std::alloc::{AllocError, Global};
 
 /// The hint of an element.
-pub fn number_of<T: Keyed>(element: &T) -> u64 {
+pub fn hint_of<T: Keyed>(element: &T) -> u64 {
     <T as Keyed>::hint(element)
 }
 
@@ -112,25 +112,25 @@ fn hints_of(alloc: Global, given: &[u64]) -> Result<Hints, AllocError> {
 }
 
 /// How many hints a search passes over at a time, before it looks at each.
-pub const STRIDE: usize = 8;
+pub const STEP: usize = 8;
 
 // The place of the first hint that is not below `number`. For the few hints of a page, steps of a fixed length take fewer instructions
 // than halving.
 fn begin_of(numbers: &[u64], number: u64) -> usize {
-    let mut first = stride_of(numbers, number);
+    let mut first = coarse_begin(numbers, number);
     while first < numbers.len() && numbers[first] < number {
         first += 1;
     }
     first
 }
 
-// A place at most `STRIDE` before that of `begin_of`.
-fn stride_of(numbers: &[u64], number: u64) -> usize
+// A place at most `STEP` before that of `begin_of`.
+fn coarse_begin(numbers: &[u64], number: u64) -> usize
     ensures { result ≤ length numbers.now }
 {
     let mut first = 0;
-    while first < numbers.len().saturating_sub(STRIDE) && numbers[first + STRIDE - 1] < number {
-        first += STRIDE;
+    while first < numbers.len().saturating_sub(STEP) && numbers[first + STEP - 1] < number {
+        first += STEP;
     }
     first
 }

@@ -7,7 +7,7 @@ ghost use Rattle.mg_pages.specs.Runs.{IsRun, IsEndRun, IsPageAt};
 ghost use Rattle.mg_pages.specs.Parts.{children, child_seen, child_value, child_whole, level_whole, AreWhole};
 
 use crate::child::{Child, Node, child_of, copy_children, owners_of_nodes, put_into, take_out_of};
-use crate::hint::{STRIDE, next_guess};
+use crate::hint::{STEP, next_guess};
 use crate::keyed::{Keyed, Probe};
 use crate::subtree::{LIMIT, Subtree};
 use std::alloc::{AllocError, Global};
@@ -29,20 +29,20 @@ impl<T: Drop, P: Drop> Drop for Level<T, P> {
 // Guesses the index of the part where a key with this hint belongs: that of the first part whose hint is not below it. Steps of a fixed
 // length take fewer instructions than halving for at most 64 parts; only the top level, which has no such limit, can have more.
 fn guess_among<T: Keyed, P: Subtree<T>>(parts: &[Child<T, P>], number: u64) -> usize {
-    let mut first = stride_among::<T, P>(parts, number);
+    let mut first = coarse_guess::<T, P>(parts, number);
     while first < parts.len() && parts[first].hint < number {
         first += 1;
     }
     first
 }
 
-// An index at most `STRIDE` before that of `guess_among`.
-fn stride_among<T: Keyed, P: Subtree<T>>(parts: &[Child<T, P>], number: u64) -> usize
+// An index at most `STEP` before that of `guess_among`.
+fn coarse_guess<T: Keyed, P: Subtree<T>>(parts: &[Child<T, P>], number: u64) -> usize
     ensures { result ≤ length parts.now }
 {
     let mut first = 0;
-    while first < parts.len().saturating_sub(STRIDE) && parts[first + STRIDE - 1].hint < number {
-        first += STRIDE;
+    while first < parts.len().saturating_sub(STEP) && parts[first + STEP - 1].hint < number {
+        first += STEP;
     }
     first
 }

@@ -13,10 +13,10 @@ mod keyed;
 pub mod laws;
 mod level;
 mod new_page;
+mod over;
 mod page;
 mod pages;
 mod runs;
-mod sides;
 mod subtree;
 
 pub use back::Back;
@@ -25,5 +25,5 @@ pub use hint::text_hint;
 pub use identified::Identified;
 pub use iter::Iter;
 pub use keyed::{Keyed, Probe};
-pub use new_page::{ELEMENTS, NewPage};
+pub use new_page::{NewPage, PAGE_FILL};
 pub use pages::Pages;

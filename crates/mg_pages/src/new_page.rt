@@ -15,8 +15,8 @@ use mg_value::NoMemory;
 use std::alloc::{AllocError, Global};
 use std::marker::Model;
 
-/// How many elements a new page has, so that the next insertions find room in it.
-pub const ELEMENTS: usize = FILL;
+/// How many elements a new page should have, so that the next insertions find room in it.
+pub const PAGE_FILL: usize = FILL;
 
 /// A page that is part of no collection yet. Contracts see the list of its elements.
 #[derive(Drop)]
@@ -35,7 +35,7 @@ impl<T: Keyed> Model for NewPage<T> {
 }
 
 impl<T: Keyed> NewPage<T> {
-    /// A page of duplicates of these elements. With many more than `ELEMENTS` of them its collection is slower.
+    /// A page of duplicates of these elements. With many more than `PAGE_FILL` of them its collection is slower.
     ///
     /// Errors: `NoMemory` if an allocation fails. Cost: a step for each element.
     pub fn of(alloc: Global, elements: &[T]) -> Result<NewPage<T>, NoMemory>

@@ -4,7 +4,7 @@ ghost use Rattle.mg_pages.specs.Order.{Ascends, found, inserted, removed};
 ghost use Rattle.mg_pages.specs.Search.{IsTie, IsGap, IsInnerGap};
 
 use crate::element::{Element, copy_elements, owners_of};
-use crate::hint::{Hints, next_guess, number_of};
+use crate::hint::{Hints, hint_of, next_guess};
 use crate::keyed::{Keyed, Probe};
 use crate::subtree::{LIMIT, Subtree};
 use std::alloc::{AllocError, Global};
@@ -66,7 +66,7 @@ pub fn page_of<T: Keyed>(alloc: Global, elements: &[T]) -> Result<Page<T>, Alloc
 {
     let mut hints = Hints::with_room(alloc, elements.len())?;
     for element in elements {
-        hints.push(number_of(element))?;
+        hints.push(hint_of(element))?;
     }
     let elements = copy_elements(alloc, elements)?;
     Ok(Page { elements, hints })
@@ -139,12 +139,7 @@ impl<T: Keyed> Subtree<T> for Page<T> {
 
     fn halves(&self, alloc: Global, element: &T) -> Result<Option<(Page<T>, Page<T>)>, AllocError> {
         if self.elements.len() < LIMIT
-            || find::<T, T>(
-                &self.elements,
-                element,
-                self.hints.guess(number_of(element)),
-            )
-            .is_ok()
+            || find::<T, T>(&self.elements, element, self.hints.guess(hint_of(element))).is_ok()
         {
             return Ok(None);
         }
@@ -171,7 +166,7 @@ impl<T: Keyed> Subtree<T> for Page<T> {
             ≡ inserted T.order element self.old.elements.items) }
         ensures err { OnErr result (self.new.elements.items ≡ self.old.elements.items) }
     {
-        let hint = number_of(&element);
+        let hint = hint_of(&element);
         let guess = self.hints.guess(hint);
         match find::<T, T>(&self.elements, &element, guess) {
             Ok(i) => {
@@ -179,6 +174,8 @@ impl<T: Keyed> Subtree<T> for Page<T> {
                 Ok(true)
             }
             Err(i) => {
+                // first, so that the insertion cannot fail once the hint is there
+                self.elements.reserve(1)?;
                 self.hints.add_at(i, hint)?;
                 self.elements.insert(i, element)?;
                 Ok(false)

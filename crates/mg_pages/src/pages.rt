@@ -1,18 +1,18 @@
 //! Ordered collections in shared pages.
 ghost use Rattle.std.specs.Prelude.{◌≡◌, ◌↔◌, ◌-◌, [], ◌∷◌, None, Ok, Some, false, drop, length, take, IfOk, IfSome, IsSome, IsTrue, OnOk, OnErr, is_some, option_map, reverse};
-ghost use Rattle.mg_pages.specs.Order.{Ascends, above, below, found, from, inserted, removed, upto};
+ghost use Rattle.mg_pages.specs.Order.{Ascends, above, below, found, inserted, removed, upto};
 ghost use Rattle.mg_pages.specs.Runs.{IsRun, IsEndRun};
 ghost use Rattle.mg_pages.specs.Parts.{level_seen, level_whole, high_seen, high_whole, root_seen, IsSound};
 
 use crate::back::Back;
 use crate::build::{group, make_pages};
 use crate::child::{child_of, copy_children};
-use crate::hint::{Hints, number_of};
+use crate::hint::{Hints, hint_of};
 use crate::iter::Iter;
 use crate::keyed::{Keyed, Probe};
 use crate::level::{Level, page_among, take_out_of_parts};
+use crate::over::Over;
 use crate::page::{Page, gap_within};
-use crate::sides::{Over, Under};
 use crate::subtree::Subtree;
 use mg_value::NoMemory;
 use std::alloc::{AllocError, Global};
@@ -39,7 +39,7 @@ fn root_of<T: Keyed>(alloc: Global, element: T) -> Result<Root<T>, AllocError>
     ensures seen { IfOk result (λ r. root_seen r ≡ element ∷ []) }
 {
     let mut hints = Hints::with_room(alloc, 1)?;
-    hints.push(number_of(&element))?;
+    hints.push(hint_of(&element))?;
     let elements = vec_of(alloc, element)?;
     let low = level_of::<T, Page<T>>(alloc, Page { elements, hints })?;
     let high = level_of::<T, Level<T, Page<T>>>(alloc, low)?;
@@ -208,6 +208,7 @@ impl<T: Keyed> Pages<T> {
     pub fn ascends(&self)
         ensures { Ascends T.order self.now }
     {
+        // only for the invariant of the collection
         let _ = &self.root;
     }
 
@@ -267,7 +268,7 @@ impl<T: Keyed> Pages<T> {
     }
 
     // What `run_after` returns. Looks first where the hints lead, and compares fewer elements if they lead to the right page.
-    fn entry_after<Q: Probe<T>>(&self, key: &Q) -> &[T]
+    fn hinted_run_after<Q: Probe<T>>(&self, key: &Q) -> &[T]
         ensures run { IsRun result.now (above (Q.against key.now) self.now) }
         ensures ascends { Ascends T.order self.now }
     {
@@ -323,15 +324,8 @@ impl<T: Keyed> Pages<T> {
     pub fn after<Q: Probe<T>>(&self, key: &Q) -> Iter<'_, T>
         ensures { result ≡ above (Q.against key.now) self.now }
     {
-        let run = self.entry_after(key);
+        let run = self.hinted_run_after(key);
         Iter::at(self, run)
-    }
-
-    /// The elements that are not below the key, in ascending order. Cost: that of `after`.
-    pub fn from<Q: Probe<T>>(&self, key: &Q) -> Iter<'_, T>
-        ensures { result ≡ from (Q.against key.now) self.now }
-    {
-        self.after(&Under { key })
     }
 
     // The last elements, from the start of their page.
@@ -356,8 +350,8 @@ impl<T: Keyed> Pages<T> {
         self.root.run_before(key)
     }
 
-    // What `run_before` returns, with the hints as in `entry_after`.
-    fn entry_before<Q: Probe<T>>(&self, key: &Q) -> &[T]
+    // What `run_before` returns, with the hints as in `hinted_run_after`.
+    fn hinted_run_before<Q: Probe<T>>(&self, key: &Q) -> &[T]
         ensures run { IsEndRun result.now (below (Q.against key.now) self.now) }
         ensures ascends { Ascends T.order self.now }
     {
@@ -403,7 +397,7 @@ impl<T: Keyed> Pages<T> {
     pub fn before<Q: Probe<T>>(&self, key: &Q) -> Back<'_, T>
         ensures { result ≡ reverse (below (Q.against key.now) self.now) }
     {
-        let run = self.entry_before(key);
+        let run = self.hinted_run_before(key);
         Back::at(self, run)
     }
 

@@ -58,7 +58,7 @@ fn add_highs<'a, T: Keyed>(
 }
 
 impl<T: Keyed> Pages<T> {
-    /// The elements of each page, page by page, in their order. No element is looked into.
+    /// The elements in order, as one slice for each page. Reads no element.
     ///
     /// Errors: `NoMemory` if an allocation fails. Cost: a step for each page.
     pub fn runs(&self, alloc: Global) -> Result<Vec<&[T]>, NoMemory>

@@ -19,7 +19,7 @@ pub trait Subtree<T: Keyed>: Drop + Sized {
     // the elements
     ghost seen: { Self → List T };
 
-    // no page or level in it is empty
+    // no page or level in it is empty, and its levels keep the right counts and last elements
     ghost is_whole: { Self → Type 0 };
 
     /// How many elements there are. Cost: constant.
@@ -44,7 +44,7 @@ pub trait Subtree<T: Keyed>: Drop + Sized {
         requires sorted { Ascends T.order (seen self.now) }
         ensures { option_map (λ t. t.now) result ≡ found (Q.against key.now) (seen self.now) };
 
-    /// The page to which the hints lead from the hint of a key, and a guess of the key's place in it. No element is compared.
+    /// The page where the hints put a key with the hint `number`, and a guess of the key's place in it. Compares no element.
     fn guessed_page(&self, number: u64) -> (&[T], usize)
         requires { is_whole self.now }
         ensures { IsPiece result.0.now (seen self.now) };
@@ -84,7 +84,8 @@ pub trait Subtree<T: Keyed>: Drop + Sized {
         requires { is_whole self.now }
         ensures { IfOk result (IsCopy is_whole seen self.now) };
 
-    /// Copies of the part's two halves, if the part has no room for the element; otherwise `None`.
+    /// Copies of the part's two halves, if the part has no room for the element; otherwise `None`. A level of `LIMIT` parts is halved for
+    /// any element, even one that replaces another.
     fn halves(&self, alloc: Global, element: &T) -> Result<Option<(Self, Self)>, AllocError>
         requires whole { is_whole self.now }
         requires sorted { Ascends T.order (seen self.now) }

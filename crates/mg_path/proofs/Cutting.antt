@@ -4,7 +4,7 @@ use Rattle.std.proofs.lemmas.Grind.{common_steps}
 use Rattle.std.specs.List.{AllByRecursion, list_any}
 use Rattle.std.proofs.lemmas.Bool.{eqb-true, ne_eqb}
 use Rattle.std.proofs.Math.Utf8.{encode}
-use Rattle.mg_path.specs.Part.{pieces_of, before_first_step, is_empty, steps_of}
+use Rattle.mg_path.specs.Part.{pieces_of, before_first_piece, is_empty, steps_of}
 
 abbrev pub ends_in_backslash : List ℕ → Bool
 ends_in_backslash step = eqb (get_or step (length step - 1) 0) 92
@@ -22,16 +22,16 @@ abbrev onto : List ℕ → List (List ℕ) → List (List ℕ)
 onto step [] = step ∷ []
 onto step (piece ∷ pieces) = (step ++ piece) ∷ pieces
 
-onto-before_first_step : (step : List ℕ) (c : ℕ) (pieces : List (List ℕ)) → onto (step ++ c ∷ []) pieces ≡ onto step (before_first_step c pieces)
-onto-before_first_step step c [] = refl
-onto-before_first_step step c (piece ∷ pieces) = ap (λ s. s ∷ pieces) (append_assoc step (c ∷ []) piece)
+onto-before_first_piece : (step : List ℕ) (c : ℕ) (pieces : List (List ℕ)) → onto (step ++ c ∷ []) pieces ≡ onto step (before_first_piece c pieces)
+onto-before_first_piece step c [] = refl
+onto-before_first_piece step c (piece ∷ pieces) = ap (λ s. s ∷ pieces) (append_assoc step (c ∷ []) piece)
 
-onto-nil-before : (c : ℕ) (pieces : List (List ℕ)) → onto [] (before_first_step c pieces) ≡ before_first_step c pieces
+onto-nil-before : (c : ℕ) (pieces : List (List ℕ)) → onto [] (before_first_piece c pieces) ≡ before_first_piece c pieces
 onto-nil-before c [] = refl
 onto-nil-before c (piece ∷ pieces) = refl
 
 onto-nil-cond : (a b : Bool) (c d : ℕ) (before after : List (List ℕ))
-    → onto [] (cond a ([] ∷ before) (cond b (before_first_step d after) (before_first_step c before))) ≡ cond a ([] ∷ before) (cond b (before_first_step d after) (before_first_step c before))
+    → onto [] (cond a ([] ∷ before) (cond b (before_first_piece d after) (before_first_piece c before))) ≡ cond a ([] ∷ before) (cond b (before_first_piece d after) (before_first_piece c before))
 onto-nil-cond true b c d before after = refl
 onto-nil-cond false true c d before after = onto-nil-before d after
 onto-nil-cond false false c d before after = onto-nil-before c before
@@ -50,11 +50,11 @@ pieces_of-dot : (cs : List ℕ) → pieces_of (46 ∷ cs) ≡ [] ∷ pieces_of c
 pieces_of-dot [] = refl
 pieces_of-dot (d ∷ cs) = refl
 
-pieces_of-plain : (c : ℕ) (cs : List ℕ) → eqb c 46 ≡ false → eqb c 92 ≡ false → pieces_of (c ∷ cs) ≡ before_first_step c (pieces_of cs)
+pieces_of-plain : (c : ℕ) (cs : List ℕ) → eqb c 46 ≡ false → eqb c 92 ≡ false → pieces_of (c ∷ cs) ≡ before_first_piece c (pieces_of cs)
 pieces_of-plain c [] h k = rw h refl
 pieces_of-plain c (d ∷ cs) h k = rw (h, k) refl
 
-pieces_of-backslash : (c : ℕ) (cs : List ℕ) → eqb c 46 ≡ false → pieces_of (92 ∷ c ∷ cs) ≡ before_first_step 92 (pieces_of (c ∷ cs))
+pieces_of-backslash : (c : ℕ) (cs : List ℕ) → eqb c 46 ≡ false → pieces_of (92 ∷ c ∷ cs) ≡ before_first_piece 92 (pieces_of (c ∷ cs))
 pieces_of-backslash c cs h = rw h refl
 
 same_go : (a b : ℕ) (t : Bool) → eqb a b ≡ t → (a ≡ b) ⊎ (eqb a b ≡ false)
@@ -82,7 +82,7 @@ mutual
     | inr no_dot ↦ elim (same_or c 92) as (λ _. continued step (c ∷ cs) ≡ onto step (pieces_of (c ∷ cs))) [
       | inl backslash ↦ subst (λ x. continued step (x ∷ cs) ≡ onto step (pieces_of (x ∷ cs))) (sym backslash) (continued_backslash cs step)
       | inr no_backslash ↦ rw (pieces_of-plain c cs no_dot no_backslash, no_dot)
-          (continued_plain cs (step ++ c ∷ []) (ends-snoc step c no_backslash) ∙ onto-before_first_step step c (pieces_of cs))
+          (continued_plain cs (step ++ c ∷ []) (ends-snoc step c no_backslash) ∙ onto-before_first_piece step c (pieces_of cs))
     ]
   ]
 
@@ -90,13 +90,13 @@ mutual
   continued_backslash [] step = refl
   continued_backslash (c ∷ cs) step = elim (same_or c 46) as (λ _. continued (step ++ 92 ∷ []) (c ∷ cs) ≡ onto step (pieces_of (92 ∷ c ∷ cs))) [
     | inl dot ↦ let escaped : ends_in_backslash (step ++ 92 ∷ []) ≡ true = rw (last-snoc step 92) refl in
-        rw (dot, escaped, front-snoc step 92) (continued_plain cs (step ++ 46 ∷ []) (ends-snoc step 46 refl) ∙ onto-before_first_step step 46 (pieces_of cs))
+        rw (dot, escaped, front-snoc step 92) (continued_plain cs (step ++ 46 ∷ []) (ends-snoc step 46 refl) ∙ onto-before_first_piece step 46 (pieces_of cs))
     | inr no_dot ↦ elim (same_or c 92) as (λ _. continued (step ++ 92 ∷ []) (c ∷ cs) ≡ onto step (pieces_of (92 ∷ c ∷ cs))) [
       | inl backslash ↦ subst (λ x. continued (step ++ 92 ∷ []) (x ∷ cs) ≡ onto step (pieces_of (92 ∷ x ∷ cs))) (sym backslash)
-          (continued_backslash cs (step ++ 92 ∷ []) ∙ onto-before_first_step step 92 (pieces_of (92 ∷ cs)))
+          (continued_backslash cs (step ++ 92 ∷ []) ∙ onto-before_first_piece step 92 (pieces_of (92 ∷ cs)))
       | inr no_backslash ↦ rw (pieces_of-backslash c cs no_dot, pieces_of-plain c cs no_dot no_backslash, no_dot)
-          (continued_plain cs ((step ++ 92 ∷ []) ++ c ∷ []) (ends-snoc (step ++ 92 ∷ []) c no_backslash) ∙ onto-before_first_step (step ++ 92 ∷ []) c (pieces_of cs)
-          ∙ onto-before_first_step step 92 (before_first_step c (pieces_of cs)))
+          (continued_plain cs ((step ++ 92 ∷ []) ++ c ∷ []) (ends-snoc (step ++ 92 ∷ []) c no_backslash) ∙ onto-before_first_piece (step ++ 92 ∷ []) c (pieces_of cs)
+          ∙ onto-before_first_piece step 92 (before_first_piece c (pieces_of cs)))
     ]
   ]
 

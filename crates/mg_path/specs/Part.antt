@@ -21,9 +21,9 @@ is_empty [] = true
 is_empty (c ∷ cs) = false
 
 -- the pieces, with the character c put before the first piece
-abbrev pub before_first_step : ℕ → List (List ℕ) → List (List ℕ)
-before_first_step c [] = (c ∷ []) ∷ []
-before_first_step c (step ∷ steps) = (c ∷ step) ∷ steps
+abbrev pub before_first_piece : ℕ → List (List ℕ) → List (List ℕ)
+before_first_piece c [] = (c ∷ []) ∷ []
+before_first_piece c (step ∷ steps) = (c ∷ step) ∷ steps
 
 -- the pieces of a text between its dots, including the empty ones; a backslash and a dot right after it are a dot
 -- within a piece
@@ -32,8 +32,8 @@ pieces_of [] = [] ∷ []
 pieces_of (c ∷ []) = if is_dot c then [] ∷ [] ∷ [] else (c ∷ []) ∷ []
 pieces_of (c ∷ d ∷ cs) =
     if is_dot c then [] ∷ pieces_of (d ∷ cs)
-    else if is_backslash c && is_dot d then before_first_step d (pieces_of cs)
-    else before_first_step c (pieces_of (d ∷ cs))
+    else if is_backslash c && is_dot d then before_first_piece d (pieces_of cs)
+    else before_first_piece c (pieces_of (d ∷ cs))
 
 -- the steps of a text: its pieces; None where any piece is empty
 abbrev pub steps_of : List ℕ → Option (List (List ℕ))
@@ -49,15 +49,15 @@ abbrev pub item_place : List ℕ → Option ℕ
 item_place step = if is_place step then Some (digits_value 10 step) else None
 
 -- the part one step into a value: the member of that name, or the item at that place
-abbrev pub part_at : List ℕ → Value → Option Value
-part_at step (object ms) = get_member step ms
-part_at step (list vs) = option_and_then (λ n. slice_get (item_list vs) n) (item_place step)
-part_at step _ = None
+abbrev pub part_of_step : List ℕ → Value → Option Value
+part_of_step step (object ms) = get_member step ms
+part_of_step step (list vs) = option_and_then (λ n. slice_get (item_list vs) n) (item_place step)
+part_of_step step _ = None
 
 -- the part of a value that the steps lead to
 abbrev pub part_of : List (List ℕ) → Value → Option Value
 part_of [] v = Some v
-part_of (step ∷ steps) v = option_and_then (part_of steps) (part_at step v)
+part_of (step ∷ steps) v = option_and_then (part_of steps) (part_of_step step v)
 
 -- the value with the part placed under the steps, as names of nested objects, in place of what is there; nothing
 -- changes where a value on the way is not an object

@@ -5,7 +5,8 @@ use thiserror::Error;
 /// Why a text is not a path.
 #[derive(Clone, Copy, PartialEq, Eq, Debug, Drop, Error)]
 pub enum PathError {
-    /// A step is empty: the text is empty, begins or ends with a dot, or has two dots in a row.
+    /// A step is empty: the text is empty, begins or ends with a dot, or has two dots in a row. The dot of
+    /// `\.` does not count.
     #[error("a step of the path is empty")]
     Empty,
     /// An allocation failed.

@@ -8,6 +8,6 @@ mod pieces;
 mod projection;
 
 pub use error::PathError;
-pub use part::{part_at, part_of};
+pub use part::part_of;
 pub use path::{Path, is_path};
 pub use projection::project;

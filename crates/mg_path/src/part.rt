@@ -2,24 +2,16 @@ ghost use Rattle.std.specs.Prelude.{◌≡◌, ◌≤◌, ◌^◌, ℕ, Some, ma
 ghost use Rattle.std.specs.Option.{option_and_then};
 ghost use Rattle.mg_value.specs.Value.{item_list};
 ghost use Rattle.mg_value.specs.View.{view};
-ghost use Rattle.mg_path.specs.Part.{part_of, part_at as part_of_step, item_place as place_named};
+ghost use Rattle.mg_path.specs.Part.{part_of, part_of_step, item_place};
 
-use mg_value::{Json, Kind, LentValue};
+use mg_value::{Kind, LentValue};
 
-/// Finds the part of the value that the steps lead to: in an object a step names a member, in an array
-/// the place of an item, from 0. `None` where the part is missing. The part is borrowed; no memory is taken.
+/// Finds the part of a lent value that the steps lead to: in an object a step names a member, in an array
+/// the place of an item, from 0 and without leading zeros. `None` where the part is missing. No memory is taken.
 ///
 /// Cost: for each step a look-up in an object or an array.
 #[inline]
-pub fn part_of<'a>(steps: &[String], value: &'a Json) -> Option<&'a Json>
-    ensures { option_map (λ part. view part.now) result
-        ≡ part_of (map string_bytes steps.now) (view value.now) }
-{
-    part_at(steps, value)
-}
-
-/// Finds the part of a lent value, as `part_of` does. No memory is taken. Cost: that of `part_of`.
-pub fn part_at<L: LentValue>(steps: &[String], value: L) -> Option<L>
+pub fn part_of<L: LentValue>(steps: &[String], value: L) -> Option<L>
     ensures { option_map L.value result ≡ part_of (map string_bytes steps.now) (L.value value) }
 {
     let mut part = value;
@@ -42,7 +34,7 @@ fn step_in<L: LentValue>(step: &str, value: L) -> Option<L>
 
 fn item_at<L: LentValue>(step: &str, items: L::List) -> Option<L>
     ensures { option_map L.value result
-        ≡ option_and_then (λ n. slice_get (item_list (L.items items)) n) (place_named step.now) }
+        ≡ option_and_then (λ n. slice_get (item_list (L.items items)) n) (item_place step.now) }
 {
     let count = L::len(&items);
     let place = place_of(step)?;
@@ -56,8 +48,8 @@ fn item_at<L: LentValue>(step: &str, items: L::List) -> Option<L>
 // The place that the step names; `None` also for a number that no `usize` holds, since no array is that long.
 fn place_of(step: &str) -> Option<usize>
     ensures { MatchOption result
-        ((n : ℕ) → place_named step.now ≡ Some n → 2 ^ 64 ≤ n)
-        (λ n. place_named step.now ≡ Some n) }
+        ((n : ℕ) → item_place step.now ≡ Some n → 2 ^ 64 ≤ n)
+        (λ n. item_place step.now ≡ Some n) }
 {
     match step.as_bytes().first()? {
         b'0' if step.len() == 1 => Some(0),

@@ -4,7 +4,7 @@ ghost use Rattle.mg_value.specs.View.{view as json_view};
 ghost use Rattle.mg_path.specs.Part.{steps_of, part_of};
 
 use crate::error::PathError;
-use crate::part::{part_at, part_of};
+use crate::part::part_of;
 use crate::pieces::{has_empty_piece, pieces};
 use mg_value::{Json, LentValue, NoMemory, copy_texts};
 use std::alloc::Global;
@@ -75,8 +75,9 @@ impl Path {
         self.steps
     }
 
-    /// Finds the part of the value at this path. A step is the name of a member, or in an array the number of
-    /// an item, from 0. `None` if the part is missing. The part is borrowed; no memory is taken.
+    /// Finds the part of the value at this path. A step is the name of a member, or in an array the place of
+    /// an item, from 0 and without leading zeros. `None` if the part is missing. The part is borrowed; no
+    /// memory is taken.
     ///
     /// Cost: for each step a look-up in an object or an array.
     pub fn get<'a>(&self, value: &'a Json) -> Option<&'a Json>
@@ -91,7 +92,7 @@ impl Path {
         ensures { option_map L.value result
             ≡ option_and_then (part_of self.now) (option_map L.value part) }
     {
-        part_at(&self.steps, part?)
+        part_of(&self.steps, part?)
     }
 
     /// A copy of the path. Errors: `NoMemory` if an allocation fails. Cost: the size of the path.

@@ -3,7 +3,7 @@ ghost use Rattle.mg_value.specs.Value.{object};
 ghost use Rattle.mg_value.specs.View.{view, members_view};
 ghost use Rattle.mg_path.specs.Part.{placed, projection_of};
 
-use crate::part::part_at;
+use crate::part::part_of;
 use crate::path::Path;
 use mg_value::{Json, LentValue, NoMemory};
 use std::alloc::Global;
@@ -15,14 +15,14 @@ use std::mem;
 /// skipped where its part is missing, or where an earlier path put something other than an object on its way.
 ///
 /// Errors: `NoMemory` if an allocation fails.
-/// Cost: for each path its steps, and the size of its part, also where a later one replaces it.
+/// Cost: for each path its steps, and the size of its part, even if the part is not put in or is replaced later.
 /// Source: `fields` of CouchDB's `_find`.
 pub fn project<L: LentValue>(alloc: Global, value: L, paths: &[Path]) -> Result<Json, NoMemory>
     ensures { IfOk result (λ projected. view projected ≡ projection_of paths.now (L.value value)) }
 {
     let mut projected = Json::empty_object(alloc);
     for path in paths {
-        if let Some(part) = part_at(path.steps(), value.lend()) {
+        if let Some(part) = part_of(path.steps(), value.lend()) {
             let part = part.to_json(alloc)?;
             projected = place(alloc, projected, path.steps(), part)?;
         }

@@ -21,7 +21,7 @@ use Rattle.mg_shard.specs.Documents.{docs_of}
 use Rattle.mg_shard.specs.Histories.{Histories}
 use Rattle.mg_shard.specs.Rows.{row_of}
 use Rattle.mg_shard.specs.Shard.{ShardView}
-use Rattle.mg_query.specs.Page.{Candidate, candidates_of, is_asked, page_rows, row_by}
+use Rattle.mg_query.specs.Page.{Candidate, candidates_of, is_asked, page_candidates, row_by}
 use Rattle.mg_query.specs.Query.{Query}
 use Rattle.mg_query.specs.Served.{HaveIdsAndRevs}
 use Rattle.mg_query.proofs.Candidates.{document, documents_of, found_by}
@@ -48,7 +48,7 @@ all_found_by complete q columns holds same usable (c ∷ cs) h = (found_by compl
 pub rows_of_answer : RangesAreComplete → (q : Query) (columns : List Steps) (holds : Option Value → Bool) → ((x : Option Value) → holds x ≡ holds_in q.selector Plain x) → is_usable (atoms_of q.selector) q.sort columns ≡ true
     → (place : Placing) (shards : List ShardView) (hs : Histories) → ShardsStandFor place shards hs → HaveIdsAndRevs (candidates_of hs)
     → drop q.skip (merged q.direction (q.skip + q.limit) (map (λ ds. take (q.skip + q.limit) (listed_rows (λ d. holds (Some d.1)) (row_of columns) (is_wanted_by q columns) q.direction ds)) (map (λ s. docs_of s.documents) shards)))
-    ≡ map (row_by columns) (page_rows columns q (candidates_of hs))
+    ≡ map (row_by columns) (page_candidates columns q (candidates_of hs))
 rows_of_answer complete q columns holds same usable place shards hs stands whole =
     let rows = rows_asked (λ d. holds (Some d.1)) (row_of columns) (is_wanted_by q columns) in
     rows_of_page (row_by columns) document (is_asked q) (follows q) rows (λ d. holds (Some d.1)) (row_of columns) (is_wanted_by q columns) refl q.direction q.skip q.limit (candidates_of hs)

@@ -21,7 +21,7 @@ use Rattle.mg_collate.proofs.Directed.{directed_total, directed_ties}
 use Rattle.mg_collate.proofs.Sorting.{NoneBelow, Rises, rises_sorted}
 use Rattle.mg_doc.specs.Served.{served_of}
 use Rattle.mg_revtree.specs.History.{Paths}
-use Rattle.mg_bookmark.specs.Bookmark.{RowPosition, spelled}
+use Rattle.mg_bookmark.specs.Bookmark.{RowPlace, spelled}
 use Rattle.mg_bookmark.specs.Reading.{bookmark_read}
 use Rattle.mg_value.specs.Value.{Value, item_list}
 use Rattle.mg_value.specs.View.{items_of}
@@ -32,7 +32,7 @@ use Rattle.mg_index.specs.Reading.{is_same}
 use Rattle.mg_merge.specs.Merged.{joined}
 use Rattle.mg_shard.proofs.Shown.{bytes_cmp}
 use Rattle.mg_query.specs.Laws.{CanBeReadBack, Follow, PagesReadBackJoin, answer_with, asked_after, from_first, place_at}
-use Rattle.mg_query.specs.Page.{Candidate, Page, answer_of, candidate_of, candidates_of, source_columns, ddoc_of, accepts_bookmark, if_served, is_asked, is_ddoc, last, name_of, order_by, page_of, page_rows, row_by, served_by, shown_of, value_at}
+use Rattle.mg_query.specs.Page.{Candidate, Page, answer_of, candidate_of, candidates_of, source_columns, ddoc_of, accepts_bookmark, if_served, is_asked, is_same_ddoc, last, name_of, order_by, page_of, page_candidates, row_by, served_by, shown_of, value_at}
 use Rattle.mg_query.specs.Query.{Query}
 use Rattle.mg_query.proofs.Candidates.{shown_first}
 use Rattle.mg_query.proofs.Serving.{choice_served, serves}
@@ -180,7 +180,7 @@ first_taken (suc n) x xs h = let m : n ≡ suc n - 1 = omega arith in ap (λ k. 
 
 -- ---- the index accepts a bookmark at the place of a document
 
-ddoc_itself : (d : Option (List ℕ)) → is_ddoc d d ≡ true
+ddoc_itself : (d : Option (List ℕ)) → is_same_ddoc d d ≡ true
 ddoc_itself None = refl
 ddoc_itself (Some d) = (bytes_eq-Decides d d).1 refl
 
@@ -206,22 +206,22 @@ module _ (ds : List IndexDefinition) (s : Source) (q : Query) (cs : List Candida
   abbrev whole : List Candidate
   whole = sorted (order_by (source_columns s) q.direction) (filter (is_asked q) cs)
 
-  abbrev after : Option RowPosition → Candidate → Bool
+  abbrev after : Option RowPlace → Candidate → Bool
   after place c = option_map_or (λ p. is_gt (directed_order q.direction (row_by (source_columns s) c) (p.key, p.id))) place true
 
   -- the page of these, asked for after a place, by a text
-  abbrev page_with : Option RowPosition → List ℕ → List Candidate → Page
+  abbrev page_with : Option RowPlace → List ℕ → List Candidate → Page
   page_with place t rows = page_of s (asked_after q place t) rows
 
   -- what is left after a place answers the query by the text that is read as this place
-  answered : (t : List ℕ) (place : Option RowPosition) (left rows : List Candidate) → bookmark_read t ≡ Some place → accepts_bookmark s (asked_after q place t) ≡ true → filter (after place) whole ≡ left → rows ≡ take q.limit left
+  answered : (t : List ℕ) (place : Option RowPlace) (left rows : List Candidate) → bookmark_read t ≡ Some place → accepts_bookmark s (asked_after q place t) ≡ true → filter (after place) whole ≡ left → rows ≡ take q.limit left
       → answer_with ds q cs t ≡ Some (Ok (page_with place t rows))
   answered t place left rows read fit here e =
       let asked = asked_after q place t in
-      let cut : page_rows (source_columns s) asked cs ≡ rows = ap (λ n. take q.limit (drop n (filter (after place) whole))) none_skipped ∙ ap (take q.limit) here ∙ sym e in
+      let cut : page_candidates (source_columns s) asked cs ≡ rows = ap (λ n. take q.limit (drop n (filter (after place) whole))) none_skipped ∙ ap (take q.limit) here ∙ sym e in
       let served : served_by ds asked ≡ Ok s = serves ds asked s true chosen fit in
-      ap (option_map (λ (p : Option RowPosition). answer_of ds (asked_after q p t) cs)) read
-      ∙ ap Some (ap (if_served (λ (r : Source). page_of r asked (page_rows (source_columns r) asked cs))) served ∙ ap (λ (xs : List Candidate). Ok (page_with place t xs)) cut)
+      ap (option_map (λ (p : Option RowPlace). answer_of ds (asked_after q p t) cs)) read
+      ∙ ap Some (ap (if_served (λ (r : Source). page_of r asked (page_candidates (source_columns r) asked cs))) served ∙ ap (λ (xs : List Candidate). Ok (page_with place t xs)) cut)
 
   -- pages from a text on, which show these documents
   record Joined (t : List ℕ) (left : List Candidate) : Type 0 where
@@ -235,7 +235,7 @@ module _ (ds : List IndexDefinition) (s : Source) (q : Query) (cs : List Candida
 
   -- there are such pages
   join : IsStrictlySortedBy (order (source_columns s) q) whole → AllByRecursion (CanBeReadBack s q) whole
-      → (n : ℕ) (done left : List Candidate) (place : Option RowPosition) (t : List ℕ) → length left ≤ n → whole ≡ done ++ left → filter (after place) whole ≡ left → bookmark_read t ≡ Some place
+      → (n : ℕ) (done left : List Candidate) (place : Option RowPlace) (t : List ℕ) → length left ≤ n → whole ≡ done ++ left → filter (after place) whole ≡ left → bookmark_read t ≡ Some place
       → accepts_bookmark s (asked_after q place t) ≡ true → Joined t left
   join climbing back n done [] place t small parts here read fit =
       record { pages = page_with place t [] ∷ []; follow = (answered t place [] [] read fit here (sym (take-nil q.limit)), refl); all = refl }

@@ -9,7 +9,7 @@ use Rattle.mg_value.specs.Value.{item_list}
 use Rattle.mg_collate.specs.declared.direction.Direction.{Direction}
 use Rattle.mg_collate.specs.Row.{RowValue, directed_order}
 use Rattle.mg_collate.specs.Sorted.{IsInOrder, sorted_with, sorted, sorted_rows}
-use Rattle.mg_bookmark.specs.Bookmark.{RowPosition}
+use Rattle.mg_bookmark.specs.Bookmark.{RowPlace}
 use Rattle.mg_index.specs.Choice.{is_usable}
 use Rattle.mg_index.specs.Definition.{Steps}
 use Rattle.mg_merge.specs.Merged.{IsInOrderBy, contents_of, joined, merged, merged_by, order_by}
@@ -24,9 +24,9 @@ use Rattle.mg_range.specs.Laws.{RangesAreComplete}
 use Rattle.mg_range.specs.RangeSide.{has_key}
 use Rattle.mg_range.specs.Range.{range_of}
 use Rattle.mg_scan.specs.Decided.{IsDecidedIn}
-use Rattle.mg_scan.specs.Found.{scan_input, target_columns}
+use Rattle.mg_scan.specs.Found.{input_of_parts, target_columns}
 use Rattle.mg_scan.specs.Hit.{hit_row, hit_rows}
-use Rattle.mg_scan.specs.Scan.{scanned}
+use Rattle.mg_scan.specs.Scan.{first_matches}
 use Rattle.mg_scan.specs.Search.{after_of, search_input, found_by}
 use Rattle.mg_scan.specs.declared.hit.Hit.{Hit}
 use Rattle.mg_scan.specs.declared.search.Search.{Search}
@@ -36,16 +36,16 @@ use Rattle.mg_shard.specs.Histories.{Histories}
 use Rattle.mg_shard.specs.Rows.{row_of}
 use Rattle.mg_shard.specs.Shard.{ShardView}
 use Rattle.mg_query.specs.Plan.{AreFirst, AreOfPage, IsPlanOf, IsSearchOf, rows_asked_of}
-use Rattle.mg_query.specs.Page.{candidates_of, source_columns, page_rows, row_by}
+use Rattle.mg_query.specs.Page.{candidates_of, source_columns, page_candidates, row_by}
 use Rattle.mg_query.specs.Paged.{IsWorkWithin}
 use Rattle.mg_query.specs.Lent.{row_at, shard_rows}
 use Rattle.mg_query.specs.Query.{Query}
-use Rattle.mg_query.specs.Served.{HaveIdsAndRevs, IsListed, source_seen}
+use Rattle.mg_query.specs.Served.{HaveIdsAndRevs, IsInCatalog, source_seen}
 use Rattle.mg_query.specs.declared.found.Plan.{Plan}
 use Rattle.mg_query.proofs.Answered.{is_wanted_by, rows_of_answer}
 use Rattle.mg_query.proofs.Gathered.{listed_rows, listed_sorted, lists_in_order, rows_asked}
 
-follows_same : (o : Option RowPosition) (direction : Direction) (r : RowValue)
+follows_same : (o : Option RowPlace) (direction : Direction) (r : RowValue)
     → option_map_or (λ p. is_gt (directed_order direction r p)) (option_map row_at o) true ≡ option_map_or (λ p. is_gt (directed_order direction r (p.key, p.id))) o true
 follows_same None direction r = refl
 follows_same (Some p) direction r = refl
@@ -83,35 +83,35 @@ found_at : (q : Query) (a : Plan) (search : Search) → IsPlanOf q a → IsSearc
 found_at q a search asks is s e =
     let columns = source_columns (source_seen a.source) in
     let documents = docs_of s.documents in
-    ap (λ o. option_map_or (λ cs. scanned (search_input search cs) documents) o []) e
-    ∙ ap₂ (λ normal range. scanned (scan_input normal range (after_of search) search.take search.direction columns) documents) is.normal (is.range ∙ asks.range)
-    ∙ ap₂ (λ after count. scanned (scan_input a.normal (range_of a.normal.atoms columns) after count search.direction columns) documents) (is.after ∙ asks.after) is.take
-    ∙ ap (λ direction. scanned (scan_input a.normal (range_of a.normal.atoms columns) (option_map row_at q.bookmark) (q.skip + q.limit) direction columns) documents) is.direction
+    ap (λ o. option_map_or (λ cs. first_matches (search_input search cs) documents) o []) e
+    ∙ ap₂ (λ normal range. first_matches (input_of_parts normal range (after_of search) search.take search.direction columns) documents) is.normal (is.range ∙ asks.range)
+    ∙ ap₂ (λ after count. first_matches (input_of_parts a.normal (range_of a.normal.atoms columns) after count search.direction columns) documents) (is.after ∙ asks.after) is.take
+    ∙ ap (λ direction. first_matches (input_of_parts a.normal (range_of a.normal.atoms columns) (option_map row_at q.bookmark) (q.skip + q.limit) direction columns) documents) is.direction
 
-found_each : (q : Query) (a : Plan) (search : Search) → IsPlanOf q a → IsSearchOf q a search → (shards : List ShardView) → AllByRecursion (λ s. IsListed s.definitions (source_seen a.source)) shards
+found_each : (q : Query) (a : Plan) (search : Search) → IsPlanOf q a → IsSearchOf q a search → (shards : List ShardView) → AllByRecursion (λ s. IsInCatalog s.definitions (source_seen a.source)) shards
     → map (found_by search) shards ≡ map (rows_asked_of q a) shards
 found_each q a search asks is [] h = refl
 found_each q a search asks is (s ∷ shards) h = ap₂ (λ x xs. x ∷ xs) (found_at q a search asks is s (is.target s.definitions h.0)) (found_each q a search asks is shards h.1)
 
 -- what it finds in shards in which the index is listed
-pub found_rows : (q : Query) (a : Plan) (search : Search) → IsPlanOf q a → IsSearchOf q a search → (shards : List ShardView) → All (λ s. IsListed s.definitions (source_seen a.source)) shards
+pub found_rows : (q : Query) (a : Plan) (search : Search) → IsPlanOf q a → IsSearchOf q a search → (shards : List ShardView) → All (λ s. IsInCatalog s.definitions (source_seen a.source)) shards
     → map (found_by search) shards ≡ map (rows_asked_of q a) shards
-found_rows q a search asks is shards listed = found_each q a search asks is shards (recursion_from_All (λ s. IsListed s.definitions (source_seen a.source)) shards listed)
+found_rows q a search asks is shards listed = found_each q a search asks is shards (recursion_from_All (λ s. IsInCatalog s.definitions (source_seen a.source)) shards listed)
 
 -- and the first of all that
-pub found_first : (q : Query) (a : Plan) (search : Search) → IsPlanOf q a → IsSearchOf q a search → (shards : List ShardView) → All (λ s. IsListed s.definitions (source_seen a.source)) shards
+pub found_first : (q : Query) (a : Plan) (search : Search) → IsPlanOf q a → IsSearchOf q a search → (shards : List ShardView) → All (λ s. IsInCatalog s.definitions (source_seen a.source)) shards
     → merged search.direction search.take (map (found_by search) shards) ≡ merged q.direction (q.skip + q.limit) (map (rows_asked_of q a) shards)
 found_first q a search asks is shards listed =
     ap₂ (λ direction count. merged direction count (map (found_by search) shards)) is.direction is.take
     ∙ ap (merged q.direction (q.skip + q.limit)) (found_rows q a search asks is shards listed)
 
 -- where the range decides, it does so in each shard
-pub decided_in : (q : Query) (a : Plan) (search : Search) → IsPlanOf q a → IsSearchOf q a search → a.is_decided ≡ true → (shards : List ShardView) → All (λ s. IsListed s.definitions (source_seen a.source)) shards
+pub decided_in : (q : Query) (a : Plan) (search : Search) → IsPlanOf q a → IsSearchOf q a search → a.is_decided ≡ true → (shards : List ShardView) → All (λ s. IsInCatalog s.definitions (source_seen a.source)) shards
     → All (IsDecidedIn search.target search.normal.now search.range.now) shards
 decided_in q a search asks is decides shards listed =
     let columns = source_columns (source_seen a.source) in
     let decided = asks.decided decides in
-    All-weaker (λ s. IsListed s.definitions (source_seen a.source)) (IsDecidedIn search.target search.normal.now search.range.now)
+    All-weaker (λ s. IsInCatalog s.definitions (source_seen a.source)) (IsDecidedIn search.target search.normal.now search.range.now)
     (λ s there. record {
       columns = columns;
       there = is.target s.definitions there;
@@ -158,14 +158,14 @@ module _ (q : Query) (columns : List Steps) (normal : NormalForm) (is : IsNormal
 
   -- the merged rows after the first are those of the page, over all documents that the histories serve
   pub rows_merged : RangesAreComplete → is_usable (atoms_of q.selector) q.sort columns ≡ true → (place : Placing) (shards : List ShardView) (hs : Histories) → ShardsStandFor place shards hs → HaveIdsAndRevs (candidates_of hs)
-      → drop q.skip (merged q.direction most (map (shard_rows normal columns q) shards)) ≡ map (row_by columns) (page_rows columns q (candidates_of hs))
+      → drop q.skip (merged q.direction most (map (shard_rows normal columns q) shards)) ≡ map (row_by columns) (page_candidates columns q (candidates_of hs))
   rows_merged complete usable place shards hs stands whole =
       ap (λ lists. drop q.skip (merged q.direction most lists)) (all_listed shards) ∙ rows_of_answer complete q columns (normal_holds normal) is.meaning usable place shards hs stands whole
 
   -- the rows of the hits after the first are those of the page
   pub rows_handed : RangesAreComplete → is_usable (atoms_of q.selector) q.sort columns ≡ true → (place : Placing) (shards : List ShardView) (hs : Histories) → ShardsStandFor place shards hs → HaveIdsAndRevs (candidates_of hs)
       → (hits : List Hit) → hit_rows hits ≡ merged q.direction most (map (shard_rows normal columns q) shards)
-      → map hit_row (drop q.skip hits) ≡ map (row_by columns) (page_rows columns q (candidates_of hs))
+      → map hit_row (drop q.skip hits) ≡ map (row_by columns) (page_candidates columns q (candidates_of hs))
   rows_handed complete usable place shards hs stands whole hits e =
       sym (drop-map hit_row q.skip hits) ∙ ap (drop q.skip) e ∙ rows_merged complete usable place shards hs stands whole
 

@@ -17,7 +17,7 @@ use Rattle.mg_shard.specs.Dealt.{Placing, ShardsStandFor, histories_on}
 use Rattle.mg_shard.specs.Documents.{KeptDocuments, StandFor, kept_of}
 use Rattle.mg_shard.specs.Histories.{Histories}
 use Rattle.mg_shard.specs.Shard.{ShardView}
-use Rattle.mg_query.specs.Page.{Candidate, candidates_of, is_after, is_asked, last, order_by as candidate_order, page_rows, row_by}
+use Rattle.mg_query.specs.Page.{Candidate, candidates_of, is_after, is_asked, last, order_by as candidate_order, page_candidates, row_by}
 use Rattle.mg_query.specs.Lent.{LendEach, Lends}
 use Rattle.mg_query.specs.Query.{Query}
 use Rattle.mg_query.proofs.Chained.{all_kept, all_sorted}
@@ -90,7 +90,7 @@ lend_all columns hs (h ∷ hits) (c ∷ cs) e p k =
     let rest : map hit_row hits ≡ map (row_by columns) cs = cc in
     (lends columns hs h c first p.0 k.0, lend_all columns hs hits cs rest p.1 k.1)
 
-known_rows : (columns : List Steps) (q : Query) (hs : Histories) → AllByRecursion (IsKnown hs) (page_rows columns q (candidates_of hs))
+known_rows : (columns : List Steps) (q : Query) (hs : Histories) → AllByRecursion (IsKnown hs) (page_candidates columns q (candidates_of hs))
 known_rows columns q hs =
     let asked = filter (is_asked q) (candidates_of hs) in
     let order = candidate_order columns q.direction in
@@ -101,9 +101,9 @@ known_rows columns q hs =
 
 -- hits with the rows of a page lend its candidates
 pub lend_first : (columns : List Steps) (q : Query) (place : Placing) (hs : Histories) (shards : List ShardView) (skip : ℕ) (hits : List Hit) → ShardsStandFor place shards hs → AreHitsIn shards hits
-    → map hit_row (drop skip hits) ≡ map (row_by columns) (page_rows columns q (candidates_of hs)) → LendEach columns (drop skip hits) (page_rows columns q (candidates_of hs))
+    → map hit_row (drop skip hits) ≡ map (row_by columns) (page_candidates columns q (candidates_of hs)) → LendEach columns (drop skip hits) (page_candidates columns q (candidates_of hs))
 lend_first columns q place hs shards skip hits stands h e =
-    lend_all columns hs (drop skip hits) (page_rows columns q (candidates_of hs)) e
+    lend_all columns hs (drop skip hits) (page_candidates columns q (candidates_of hs)) e
     (all_dropped (IsOf hs) skip hits (all_weaker (IsHitIn shards) (IsOf hs) (of_in place hs shards stands) hits h)) (known_rows columns q hs)
 
 -- ---- hits and candidates one by one

@@ -7,7 +7,7 @@ use Rattle.mg_value.specs.Value.{Value, member_of}
 use Rattle.mg_collate.specs.declared.direction.Direction.{Direction}
 use Rattle.mg_selector.specs.Reading.{reading}
 use Rattle.mg_selector.specs.Selector.{Selector}
-use Rattle.mg_bookmark.specs.Bookmark.{RowPosition}
+use Rattle.mg_bookmark.specs.Bookmark.{RowPlace}
 use Rattle.mg_bookmark.specs.Reading.{bookmark_read}
 use Rattle.mg_index.specs.Choice.{Hint}
 use Rattle.mg_index.specs.Definition.{Steps}
@@ -79,7 +79,7 @@ shaped_marked v w t m h e =
 
 -- ---- the query
 
-abbrev query_made : Option Value → Shaped → Selector → Option RowPosition → Direction → Query
+abbrev query_made : Option Value → Shaped → Selector → Option RowPlace → Direction → Query
 query_made fields m selector bookmark direction = record {
   selector = selector;
   fields = m.fields;
@@ -91,14 +91,14 @@ query_made fields m selector bookmark direction = record {
   bookmark = bookmark;
   conflicts = m.conflicts;
   given_selector = m.selector;
-  given_fields = rendered_fields_of fields;
+  rendered_fields = rendered_fields_of fields;
   given_bookmark = m.bookmark;
 }
 
-abbrev read_in : Option Value → Shaped → Result Selector QueryError → Option (Option RowPosition) → Option Direction → Result Query QueryError
+abbrev read_in : Option Value → Shaped → Result Selector QueryError → Option (Option RowPlace) → Option Direction → Result Query QueryError
 read_in fields m s b d = s >>= (λ selector. or_fault BadBookmark b >>= (λ bookmark. or_fault MixedSort d >>= (λ direction. Ok (query_made fields m selector bookmark direction))))
 
-read_marked : (fields : Option Value) (m : Shaped) (t : List ℕ) (q : Query) (s : Result Selector QueryError) (b o : Option (Option RowPosition)) (d : Option Direction)
+read_marked : (fields : Option Value) (m : Shaped) (t : List ℕ) (q : Query) (s : Result Selector QueryError) (b o : Option (Option RowPlace)) (d : Option Direction)
     → read_in fields m s b d ≡ Ok q → read_in fields (with_mark m t) s o d ≡ or_fault BadBookmark (option_map (λ place. asked_after q place t) o)
 read_marked fields m t q (Err s) b o d e = absurd cc
 read_marked fields m t q (Ok s) None o d e = absurd cc

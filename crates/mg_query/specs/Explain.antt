@@ -5,7 +5,7 @@ use Rattle.mg_normal.specs.Atoms.{atoms_of}
 use Rattle.mg_index.specs.Choice.{Source, all_docs, defined}
 use Rattle.mg_index.specs.Definition.{IndexDefinition, listed_of, listed_all_docs}
 use Rattle.mg_range.specs.Range.{range_of}
-use Rattle.mg_range.specs.Listed.{range_value}
+use Rattle.mg_range.specs.Explained.{range_value}
 use Rattle.mg_query.specs.Query.{Query}
 use Rattle.mg_query.specs.Page.{Unanswered, source_columns, served_by, if_served}
 
@@ -17,7 +17,7 @@ listed_source (defined d) = listed_of d
 -- `{"dbname":..,"fields":..,"index":..,"limit":..,"range":..,"selector":..,"skip":..}`, with an index and a range as they are shown
 abbrev pub explanation_with : List ℕ → Query → Value → Value → Value
 explanation_with db q index range =
-    object (member (codes "dbname") (text db) (member (codes "fields") q.given_fields (member (codes "index") index
+    object (member (codes "dbname") (text db) (member (codes "fields") q.rendered_fields (member (codes "index") index
     (member (codes "limit") (whole (pos q.limit)) (member (codes "range") range
     (member (codes "selector") q.given_selector (member (codes "skip") (whole (pos q.skip)) no_members)))))))
 

@@ -64,7 +64,7 @@ parsed g =
 abbrev pub query_given : Option Value → Given → Result Query QueryError
 query_given fields g = or_fault wrong_shape (parsed g) >>= query_with fields
 
--- ---- the fault that is found without memory
+-- ---- the fault that is found without taking memory
 
 -- whether a value of `fields` gives a path
 abbrev pub gives_path : Value → Bool
@@ -78,7 +78,7 @@ gives_sort v = is_some (sort_path v) && is_some (field_direction v)
 abbrev pub fault_given : Given → Option QueryError
 fault_given g = result_err (or_fault wrong_shape (parsed g) >>= (λ m. selector_or_fault (reading m.selector)))
 
--- ---- of the code's members
+-- ---- what the code's members stand for
 
 -- the hint that the code's `GivenHint` stands for
 abbrev pub hint_seen : code_hint.GivenHint → Hint

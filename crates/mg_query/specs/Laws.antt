@@ -2,7 +2,7 @@
 use Rattle.std.specs.Prelude.{◌≡◌, ◌≢◌, ◌≤◌, ℕ, List, [], ◌∷◌, codes, map, Option, Some, None, option_map, Result, Ok}
 use Rattle.std.specs.List.{AllByRecursion}
 use Rattle.mg_value.specs.Value.{Value, member_of, text}
-use Rattle.mg_bookmark.specs.Bookmark.{CanBeSpelled, RowPosition}
+use Rattle.mg_bookmark.specs.Bookmark.{CanBeSpelled, RowPlace}
 use Rattle.mg_bookmark.specs.Reading.{bookmark_read}
 use Rattle.mg_index.specs.Choice.{Source}
 use Rattle.mg_index.specs.Definition.{IndexDefinition}
@@ -16,7 +16,7 @@ use Rattle.mg_query.specs.declared.error.QueryError.TheVariants.{BadBookmark}
 -- ---- a query and its bookmark
 
 -- the query with this place and this text as its bookmark; `None`: its page begins with the first document
-abbrev pub asked_after : Query → Option RowPosition → List ℕ → Query
+abbrev pub asked_after : Query → Option RowPlace → List ℕ → Query
 asked_after q place t = record q { bookmark = place; given_bookmark = t }
 
 -- the body v has this text as its bookmark; its other members are those of `other`
@@ -49,7 +49,7 @@ abbrev pub from_first : Query → Query
 from_first q = asked_after q None (codes "nil")
 
 -- the place of a document in the index
-abbrev pub place_at : Source → Query → Candidate → RowPosition
+abbrev pub place_at : Source → Query → Candidate → RowPlace
 place_at s q c = record { ddoc = ddoc_of s; name = name_of s; direction = q.direction; key = (row_by (source_columns s) c).0; id = c.id }
 
 -- JSON text can carry the document's place

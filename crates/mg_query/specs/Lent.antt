@@ -2,14 +2,14 @@
 use Rattle.std.specs.Prelude.{◌≡◌, ◌+◌, ◌==◌, Bool, not, ◌&&◌, List, length, option_map}
 use Rattle.std.specs.List.{AllZip}
 use Rattle.mg_collate.specs.Row.{RowValue}
-use Rattle.mg_bookmark.specs.Bookmark.{RowPosition}
+use Rattle.mg_bookmark.specs.Bookmark.{RowPlace}
 use Rattle.mg_index.specs.Definition.{Steps}
 use Rattle.mg_normal.specs.Normal.{NormalForm}
 use Rattle.mg_range.specs.Range.{range_of}
 use Rattle.mg_revtree.specs.Tree.{StandsFor}
-use Rattle.mg_scan.specs.Found.{scan_input}
+use Rattle.mg_scan.specs.Found.{input_of_parts}
 use Rattle.mg_scan.specs.Hit.{hit_document, hit_form, hit_row}
-use Rattle.mg_scan.specs.Scan.{scanned}
+use Rattle.mg_scan.specs.Scan.{first_matches}
 use Rattle.mg_scan.specs.declared.hit.Hit.{Hit}
 use Rattle.mg_shard.specs.Documents.{docs_of, kept_of}
 use Rattle.mg_shard.specs.Shard.{ShardView}
@@ -17,13 +17,13 @@ use Rattle.mg_query.specs.Page.{Candidate, row_by}
 use Rattle.mg_query.specs.Query.{Query}
 
 -- the row at a bookmark's place, after which the page begins
-abbrev pub row_at : RowPosition → RowValue
+abbrev pub row_at : RowPlace → RowValue
 row_at p = (p.key, p.id)
 
 -- what a shard lists for a query, in an index of these columns: at most as many rows as the page skips and shows
 abbrev pub shard_rows : NormalForm → List Steps → Query → ShardView → List RowValue
 shard_rows normal columns q s =
-    scanned (scan_input normal (range_of normal.atoms columns) (option_map row_at q.bookmark) (q.skip + q.limit) q.direction columns) (docs_of s.documents)
+    first_matches (input_of_parts normal (range_of normal.atoms columns) (option_map row_at q.bookmark) (q.skip + q.limit) q.direction columns) (docs_of s.documents)
 
 -- the query shows documents as they are served: whole, and without their conflicts
 abbrev pub shows_whole : Query → Bool

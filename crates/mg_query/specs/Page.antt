@@ -20,7 +20,7 @@ use Rattle.mg_doc.specs.Conflicts.{with_conflicts_of}
 use Rattle.mg_selector.specs.Meaning.{holds_in}
 use Rattle.mg_selector.specs.declared.sense.Sense.TheVariants.{Plain}
 use Rattle.mg_normal.specs.Atoms.{atoms_of}
-use Rattle.mg_bookmark.specs.Bookmark.{RowPosition, spelled}
+use Rattle.mg_bookmark.specs.Bookmark.{RowPlace, spelled}
 use Rattle.mg_index.specs.Choice.{Source, all_docs, defined, choice_of, id_path}
 use Rattle.mg_index.specs.Definition.{IndexDefinition, Steps}
 use Rattle.mg_index.specs.Reading.{is_same}
@@ -60,7 +60,7 @@ name_of (defined d) = d.name
 
 -- ---- the order
 
--- the value of a column; null if it is missing. A document that the query finds has a value for each column, as the law of ranges says
+-- the value of a column; null if it is missing. A document that the query finds has a value for each column, by the law `RangesAreComplete`
 abbrev pub value_at : Candidate → Steps → Value
 value_at c column = unwrap_or (part_of column c.form) null
 
@@ -78,7 +78,7 @@ order_by columns direction a b = directed_order direction (row_by columns a) (ro
 abbrev pub is_asked : Query → Candidate → Bool
 is_asked q c = holds_in q.selector Plain (Some c.form) && list_all (λ path. is_some (part_of path c.form)) q.sort
 
--- the document comes after the place that the bookmark names, if there is one
+-- the document comes after the place that the bookmark names; true without a bookmark
 abbrev pub is_after : List Steps → Query → Candidate → Bool
 is_after columns q c = option_map_or (λ p. is_gt (directed_order q.direction (row_by columns c) (p.key, p.id))) q.bookmark true
 
@@ -87,8 +87,8 @@ abbrev pub candidates_found : List Steps → Query → List Candidate → List C
 candidates_found columns q cs = filter (is_after columns q) (sorted (order_by columns q.direction) (filter (is_asked q) cs))
 
 -- those of the page
-abbrev pub page_rows : List Steps → Query → List Candidate → List Candidate
-page_rows columns q cs = take q.limit (drop q.skip (candidates_found columns q cs))
+abbrev pub page_candidates : List Steps → Query → List Candidate → List Candidate
+page_candidates columns q cs = take q.limit (drop q.skip (candidates_found columns q cs))
 
 -- the form of a document, with its conflicts if they are asked for
 abbrev pub form_for : Query → Candidate → Value
@@ -138,15 +138,15 @@ pub data Unanswered : Type 0 where
   bad_bookmark : Unanswered
 
 -- whether two design documents are the same; `None` is that of the index of all documents
-abbrev pub is_ddoc : Option (List ℕ) → Option (List ℕ) → Bool
-is_ddoc None None = true
-is_ddoc (Some a) (Some b) = bytes_eq a b
-is_ddoc a b = false
+abbrev pub is_same_ddoc : Option (List ℕ) → Option (List ℕ) → Bool
+is_same_ddoc None None = true
+is_same_ddoc (Some a) (Some b) = bytes_eq a b
+is_same_ddoc a b = false
 
 -- whether a bookmark's place fits the index, read in the query's direction
-abbrev pub fits_source : Source → Query → RowPosition → Bool
+abbrev pub fits_source : Source → Query → RowPlace → Bool
 fits_source s q p =
-    is_ddoc p.ddoc (ddoc_of s) && (bytes_eq p.name (name_of s) && (is_same p.direction q.direction && (length (item_list p.key) == length (source_columns s))))
+    is_same_ddoc p.ddoc (ddoc_of s) && (bytes_eq p.name (name_of s) && (is_same p.direction q.direction && (length (item_list p.key) == length (source_columns s))))
 
 -- whether the query's bookmark fits the index; true without a bookmark
 abbrev pub accepts_bookmark : Source → Query → Bool
@@ -163,4 +163,4 @@ if_served f (Err why) = Err why
 
 -- the answer to a query, over the index definitions and all served documents
 abbrev pub answer_of : List IndexDefinition → Query → List Candidate → Result Page Unanswered
-answer_of ds q cs = if_served (λ s. page_of s q (page_rows (source_columns s) q cs)) (served_by ds q)
+answer_of ds q cs = if_served (λ s. page_of s q (page_candidates (source_columns s) q cs)) (served_by ds q)

@@ -1,5 +1,5 @@
 -- For private clauses: what a query asks of each shard, and which hits are the first of all shards together.
-use Rattle.std.specs.Prelude.{◌≡◌, ℕ, ◌+◌, true, false, List, Some, drop, is_some, map, option_map}
+use Rattle.std.specs.Prelude.{◌≡◌, ℕ, ◌+◌, true, false, All, List, Some, drop, is_some, map, option_map}
 use Rattle.mg_collate.specs.Row.{RowValue}
 use Rattle.mg_merge.specs.Merged.{merged}
 use Rattle.mg_index.specs.Definition.{IndexDefinition, Steps}
@@ -11,12 +11,14 @@ use Rattle.mg_scan.specs.Hit.{AreHitsIn, hit_rows}
 use Rattle.mg_scan.specs.Search.{after_of}
 use Rattle.mg_scan.specs.declared.hit.Hit.{Hit}
 use Rattle.mg_scan.specs.declared.search.Search.{Search}
-use Rattle.mg_shard.specs.Shard.{ShardView}
+use Rattle.mg_shard.specs.Shard.{ShardView, shards_seen}
 use Rattle.mg_query.specs.Lent.{row_at, shard_rows}
 use Rattle.mg_query.specs.Page.{source_columns}
 use Rattle.mg_query.specs.Query.{Query}
-use Rattle.mg_query.specs.Served.{IsListed, source_seen}
+use Rattle.mg_query.specs.Served.{IsInCatalog, source_seen}
+use Rattle.mg_query.specs.Seen.{query_seen}
 use Rattle.mg_query.specs.declared.found.Plan.{Plan}
+use Rattle.mg_query.specs.declared.page_search.PageSearch.{PageSearch}
 
 -- the normal form asks nothing besides atoms, and their range at the columns decides each of them
 abbrev pub IsDecidedBy : List Steps → NormalForm → Type 0
@@ -29,9 +31,15 @@ pub record IsPlanOf (q : Query) (a : Plan) : Type 0 where
   pub after : a.after ≡ option_map row_at q.bookmark
   pub decided : a.is_decided ≡ true → IsDecidedBy (source_columns (source_seen a.source)) a.normal
 
+-- the search has the query's plan and the plan's range, and each shard has the plan's index
+pub record IsPlanned (s : PageSearch) : Type 0 where
+  pub plan : IsPlanOf (query_seen s.query.now) s.plan.now
+  pub range : s.range.now ≡ s.plan.now.range
+  pub listed : All (λ x. IsInCatalog x.definitions (source_seen s.plan.now.source)) (shards_seen s.shards.now)
+
 -- the search asks a shard for this, and takes as many rows as the page skips and shows
 pub record IsSearchOf (q : Query) (a : Plan) (s : Search) : Type 0 where
-  pub target : (ds : List IndexDefinition) → IsListed ds (source_seen a.source) → target_columns s.target ds ≡ Some (source_columns (source_seen a.source))
+  pub target : (ds : List IndexDefinition) → IsInCatalog ds (source_seen a.source) → target_columns s.target ds ≡ Some (source_columns (source_seen a.source))
   pub normal : s.normal.now ≡ a.normal
   pub range : s.range.now ≡ a.range
   pub after : after_of s ≡ a.after

@@ -14,7 +14,7 @@ use Rattle.mg_selector.specs.Reading.{reading}
 use Rattle.mg_selector.specs.declared.error.SelError.{SelError}
 use Rattle.mg_selector.specs.declared.error.SelError.TheVariants as selector_fault
 use Rattle.mg_selector.specs.Fault.{◌>>=◌, or_fault}
-use Rattle.mg_bookmark.specs.Bookmark.{RowPosition}
+use Rattle.mg_bookmark.specs.Bookmark.{RowPlace}
 use Rattle.mg_bookmark.specs.Reading.{bookmark_read}
 use Rattle.mg_index.specs.Choice.{Hint, no_hint, in_document, exactly}
 use Rattle.mg_index.specs.Definition.{Steps, design_document}
@@ -24,7 +24,8 @@ use Rattle.mg_query.specs.declared.error.QueryError.TheVariants.{Shape, InvalidO
 
 -- what a query asks for: its selector; the paths of the parts that a page shows of a document (empty: the whole); how many documents a
 -- page has at most, and how many it skips; its sort, which may be empty, and its direction; which indexes it prefers; the place after
--- which the page begins; and whether conflicts are shown. It also has the selector, the fields and the bookmark as they were given
+-- which the page begins; and whether conflicts are shown. It also has the selector and the bookmark as they were given, and the fields as
+-- `_explain` renders them
 pub record Query : Type 0 where
   pub selector : Selector
   pub fields : List Steps
@@ -33,10 +34,10 @@ pub record Query : Type 0 where
   pub sort : List Steps
   pub direction : Direction
   pub hint : Hint
-  pub bookmark : Option RowPosition
+  pub bookmark : Option RowPlace
   pub conflicts : Bool
   pub given_selector : Value
-  pub given_fields : Value
+  pub rendered_fields : Value
   pub given_bookmark : List ℕ
 
 -- ---- faults
@@ -54,9 +55,9 @@ selector_or_fault (Ok s) = Ok s
 selector_or_fault (Err e) = Err (fault_of_selector e)
 
 -- a path's fault as the query's
-abbrev pub fault_of_path : PathError → QueryError
-fault_of_path path_fault.Empty = Shape
-fault_of_path path_fault.NoMemory = NoMemory
+abbrev pub error_of_path : PathError → QueryError
+error_of_path path_fault.Empty = Shape
+error_of_path path_fault.NoMemory = NoMemory
 
 -- ---- members; `None` stands for a wrong shape
 
@@ -192,11 +193,11 @@ query_with fields m =
       bookmark = bookmark;
       conflicts = m.conflicts;
       given_selector = m.selector;
-      given_fields = rendered_fields_of fields;
+      rendered_fields = rendered_fields_of fields;
       given_bookmark = m.bookmark;
     }))))
 
--- the query that a body is, or its first fault
+-- the query in a body, or the body's first fault
 abbrev pub query_of : Value → Result Query QueryError
 query_of v = or_fault Shape (shaped v) >>= query_with (member_of (codes "fields") v)
 

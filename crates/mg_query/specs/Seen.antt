@@ -29,7 +29,7 @@ query_seen q = record {
   bookmark = option_map bookmark_place q.bookmark;
   conflicts = q.conflicts;
   given_selector = view q.given_selector.now;
-  given_fields = rendered_fields_of (lent q.given_fields);
+  rendered_fields = rendered_fields_of (lent q.given_fields);
   given_bookmark = q.given_bookmark.now;
 }
 
@@ -42,7 +42,7 @@ Fails BadBookmark r = r ≡ Err BadBookmark
 Fails MixedSort r = r ≡ Err MixedSort
 Fails NoMemory r = Unit {0}
 
--- what a call returned is what is read, unless an allocation failed
+-- the call returned what the definition reads, unless an allocation failed
 abbrev pub ReadsAs : {X Y : Type 0} → (X → Y) → Result X QueryError → Result Y QueryError → Type 0
 ReadsAs seen (Ok x) r = r ≡ Ok (seen x)
 ReadsAs seen (Err e) r = Fails e r

@@ -1,4 +1,4 @@
--- What the code's answers to a query that was read stand for.
+-- The index that serves a query, and the answer to it: what the code returns, against the definition.
 use Rattle.std.specs.Prelude.{◌≡◌, List, Option, Some, None, Result, Ok, Err}
 use Rattle.mg_index.specs.Catalog.{definition_at}
 use Rattle.mg_index.specs.Choice.{Source, all_docs, defined, id_path, rev_path}
@@ -27,11 +27,11 @@ source_seen code.TheVariants.AllDocs = all_docs
 source_seen (code.TheVariants.Defined d) = defined d.now
 
 -- the index is one of these definitions, and the one of its design document and name; that of all documents always is
-abbrev pub IsListed : List IndexDefinition → Source → Type 0
-IsListed ds all_docs = Unit {0}
-IsListed ds (defined d) = definition_at d.ddoc d.name ds ≡ Some d
+abbrev pub IsInCatalog : List IndexDefinition → Source → Type 0
+IsInCatalog ds all_docs = Unit {0}
+IsInCatalog ds (defined d) = definition_at d.ddoc d.name ds ≡ Some d
 
--- for private clauses: what is chosen
+-- for private clauses: the call returned the chosen index, or `NoUsableIndex` if there is none
 abbrev pub IsSourceChosen : Result code.Source PageError → Option Source → Type 0
 IsSourceChosen (Ok s) r = r ≡ Some (source_seen s)
 IsSourceChosen (Err NoUsableIndex) r = r ≡ None

@@ -32,8 +32,9 @@ use std::thread::Threads;
 
 /// The page that answers a query over the indexes of the catalog, and how many rows each shard handed over for it: all
 /// that the query finds there, but at most skip + limit. Each shard must have the indexes of the catalog; others that it
-/// has are ignored. The page does not depend on the number of workers, from 1 to 32, nor on how documents are placed on
-/// shards. The gate is passed before a shard's first row is read, and after its last unless an allocation fails.
+/// has are ignored. Each document must have an object as its body. The page does not depend on the number of workers, from
+/// 1 to 32, nor on how documents are placed on shards. The gate is passed before a shard's first row is read, and after its
+/// last unless an allocation fails.
 ///
 /// Errors: `NoUsableIndex` if no index serves the query, then `BadBookmark` if its bookmark is of another index, direction or
 /// number of columns; `NoMemory` if an allocation fails.
@@ -62,52 +63,30 @@ pub fn page<R: Threads + Sync, G: Gate + Sync>(
         → PageAnswers (λ r. r.1.handed) result
         (handed_of catalog.now (query_seen query.now) place (length shards.now) hs) }
 {
-    let found = find(rt, alloc, query, catalog, shards, workers, gate)?;
+    let found = find(
+        rt,
+        alloc,
+        query,
+        catalog,
+        shards,
+        Workers::exactly(workers),
+        gate,
+    )?;
     let hits = after_skip(&found.hits, query.skip);
     let docs = show_all(alloc, query, hits)?;
     let bookmark = last_bookmark(alloc, query, found.source, hits)?;
     Ok((Page { docs, bookmark }, found.work))
 }
 
-/// The compact text of the page that answers a query, `{"bookmark":..,"docs":[..]}`, and how many rows each shard handed
-/// over for it, as for `page`. The text that a shard keeps of a document is copied if the query shows documents whole.
+/// The compact text of the page that answers a query, `{"bookmark":..,"docs":[..]}`. If the query shows documents whole and without
+/// conflicts, the texts that shards keep of them are copied. If the number of workers is only a maximum, a query that is not worth a second
+/// thread runs on the caller's thread, and passes no gate.
 ///
-/// Errors: those of `page`. Cost: that of `page`, but documents that are shown whole are not made into values.
+/// Errors: those of `page`. Cost: that of `page`, but documents whose texts are copied are not made into values. On the caller's thread,
+/// all shards together find at most skip + limit hits and one more for each shard, and read no further. If the range of the index decides
+/// the whole selector, documents are looked up only for the hits that the page shows, and most rows that it skips are passed over by
+/// counts.
 pub fn page_text<R: Threads + Sync, G: Gate + Sync>(
-    rt: &R,
-    alloc: Global,
-    query: &Query<'_>,
-    catalog: &Catalog,
-    shards: &[Arc<Shard>],
-    workers: usize,
-    gate: &G,
-) -> Result<(Vec<u8>, Work), PageError>
-    requires workers { (0 < workers) × (workers ≤ 32) }
-    requires indexes { HaveIndexes catalog.now (shards_seen shards.now) }
-    ensures answers { (place : Placing) (hs : Histories)
-        → ShardsStandFor place (shards_seen shards.now) hs → HaveIdsAndRevs (candidates_of hs)
-        → PageAnswers (λ r. r.0.items) result
-        (text_of (answer_of catalog.now (query_seen query.now) (candidates_of hs))) }
-    ensures work { IfOk result
-        (λ r. IsWorkWithin (length shards.now) (query.now.skip + query.now.limit) r.1) }
-    ensures handed { (place : Placing) (hs : Histories)
-        → ShardsStandFor place (shards_seen shards.now) hs → HaveIdsAndRevs (candidates_of hs)
-        → PageAnswers (λ r. r.1.handed) result
-        (handed_of catalog.now (query_seen query.now) place (length shards.now) hs) }
-{
-    let found = find(rt, alloc, query, catalog, shards, workers, gate)?;
-    let hits = after_skip(&found.hits, query.skip);
-    let text = write_page(alloc, query, found.source, hits)?;
-    Ok((text, found.work))
-}
-
-/// The compact text of the page that answers a query, as for `page_text`. If the number of workers is only a maximum, a query that
-/// is not worth a second thread runs on the caller's thread, and passes no gate.
-///
-/// Errors: those of `page`. Cost: that of `page_text`. On the caller's thread, all shards together find at most skip + limit hits and
-/// one more for each shard, and read no further. If the range of the index decides the whole selector, documents are looked up only
-/// for the hits that the page shows, and most rows that it skips are passed over by counts.
-pub fn page_text_by<R: Threads + Sync, G: Gate + Sync>(
     rt: &R,
     alloc: Global,
     query: &Query<'_>,

@@ -63,9 +63,9 @@ impl From<NoMemory> for QueryError {
 
 impl From<PathError> for QueryError {
     ghost use Rattle.std.specs.Prelude.{◌≡◌};
-    ghost use Rattle.mg_query.specs.Query.{fault_of_path};
+    ghost use Rattle.mg_query.specs.Query.{error_of_path};
 
-    ghost from_gives = { λ p e. e ≡ fault_of_path p };
+    ghost from_gives = { λ p e. e ≡ error_of_path p };
 
     fn from(fault: PathError) -> QueryError {
         match fault {

@@ -20,8 +20,8 @@ use std::alloc::Global;
 ///
 /// Errors: `NoUsableIndex` if no index serves the query, then `BadBookmark` if its bookmark is of another index, direction
 /// or number of columns; `NoMemory` if an allocation fails.
-/// Cost: the size of the query, and for each definition its columns times the query's atoms. Source: `_explain` of
-/// CouchDB's API reference.
+/// Cost: the size of the query, and for each definition its columns times the query's atoms and the paths of its sort.
+/// Source: `_explain` of CouchDB's API reference.
 pub fn explain(
     alloc: Global,
     db: &str,

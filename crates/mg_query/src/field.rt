@@ -1,19 +1,19 @@
 //! The paths of `fields`, and the paths and directions of `sort`.
 ghost use Rattle.std.specs.Prelude.{map};
 ghost use Rattle.mg_value.specs.View.{view};
-ghost use Rattle.mg_index.specs.Reading.{each_of, field_direction as direction_given};
+ghost use Rattle.mg_index.specs.Reading.{each_of, field_direction};
 ghost use Rattle.mg_selector.specs.Fault.{or_fault};
-ghost use Rattle.mg_query.specs.Query.{one_direction as shared_direction, path_of, sort_path as path_of_field};
+ghost use Rattle.mg_query.specs.Query.{one_direction, path_of, sort_path};
 ghost use Rattle.mg_query.specs.Seen.{ReadsAs};
 
 use crate::error::QueryError;
 use mg_collate::Direction;
-use mg_index::{are_all, field_direction, field_path};
+use mg_index::{all_have_direction, field_direction, field_path};
 use mg_path::Path;
 use mg_value::Json;
 use std::alloc::Global;
 
-// The paths of texts.
+// The paths that these texts spell.
 pub(crate) fn read_paths(alloc: Global, texts: &[Json]) -> Result<Vec<Path>, QueryError>
     ensures { ReadsAs (λ v. v.items) result
         (or_fault QueryError.Shape (each_of path_of (map view texts.now))) }
@@ -38,7 +38,7 @@ fn read_path(alloc: Global, text: &Json) -> Result<Path, QueryError>
 // The paths of a sort's fields.
 pub(crate) fn read_sort_paths(alloc: Global, fields: &[Json]) -> Result<Vec<Path>, QueryError>
     ensures { ReadsAs (λ v. v.items) result
-        (or_fault QueryError.Shape (each_of path_of_field (map view fields.now))) }
+        (or_fault QueryError.Shape (each_of sort_path (map view fields.now))) }
 {
     let mut paths = Vec::with_capacity(alloc, fields.len())?;
     for field in fields {
@@ -50,7 +50,7 @@ pub(crate) fn read_sort_paths(alloc: Global, fields: &[Json]) -> Result<Vec<Path
 
 fn read_sort_path(alloc: Global, field: &Json) -> Result<Path, QueryError>
     ensures { ReadsAs (λ path. path) result
-        (or_fault QueryError.Shape (path_of_field (view field.now))) }
+        (or_fault QueryError.Shape (sort_path (view field.now))) }
 {
     match field_path(field) {
         Some(path) => Ok(Path::parse(alloc, path)?),
@@ -61,7 +61,7 @@ fn read_sort_path(alloc: Global, field: &Json) -> Result<Path, QueryError>
 // The directions of a sort's fields.
 pub(crate) fn read_directions(alloc: Global, fields: &[Json]) -> Result<Vec<Direction>, QueryError>
     ensures { ReadsAs (λ v. v.items) result
-        (or_fault QueryError.Shape (each_of direction_given (map view fields.now))) }
+        (or_fault QueryError.Shape (each_of field_direction (map view fields.now))) }
 {
     let mut directions = Vec::with_capacity(alloc, fields.len())?;
     for field in fields {
@@ -75,12 +75,12 @@ pub(crate) fn read_directions(alloc: Global, fields: &[Json]) -> Result<Vec<Dire
 
 // The direction that all share; ascending if there are none.
 pub(crate) fn one_direction(directions: &[Direction]) -> Result<Direction, QueryError>
-    ensures { ReadsAs (λ d. d) result (or_fault QueryError.MixedSort (shared_direction directions.now)) }
+    ensures { ReadsAs (λ d. d) result (or_fault QueryError.MixedSort (one_direction directions.now)) }
 {
     let Some((first, others)) = directions.split_first() else {
         return Ok(Direction::Asc);
     };
-    if are_all(*first, others) {
+    if all_have_direction(*first, others) {
         Ok(*first)
     } else {
         Err(QueryError::MixedSort)

@@ -4,9 +4,9 @@ ghost use Rattle.mg_query.specs.Laws.{BookmarksChangeNothingElse, PagesJoin, Pag
 use mg_bookmark::laws::what_is_spelled_is_read;
 
 /// Pages join. Ask a query first without a bookmark, and then with the bookmark of each page, until a page is empty. If an index serves
-/// the query, it skips nothing and its limit is at least 1, then each answer is a page, and together the pages show what the query finds,
-/// in order. JSON text must be able to carry the place of each document (`CanBeSpelled`): the values of its key nest at most 125 deep,
-/// its numbers are i64, its objects have their names in order, and all texts are UTF-8.
+/// the query, and the query skips nothing and has a limit of at least 1, then each answer is a page, and together the pages show what the
+/// query finds, in order. JSON text must be able to carry the place of each document (`CanBeSpelled`): the values of its key nest at most
+/// 125 deep, its numbers are i64, its objects have their names in order, and all texts are UTF-8.
 pub fn pages_join()
     ensures { PagesJoin }
 {

@@ -9,12 +9,13 @@ mod field;
 mod found;
 pub mod laws;
 mod member;
+mod page_search;
 mod query;
 mod shown;
 mod source;
 mod text;
 
-pub use answer::{page, page_text, page_text_by};
+pub use answer::{page, page_text};
 pub use error::{PageError, QueryError};
 pub use explanation::explain;
 pub use query::Query;

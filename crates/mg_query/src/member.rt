@@ -2,8 +2,8 @@
 ghost use Rattle.std.specs.Prelude.{◌≡◌, Some, map, option_map};
 ghost use Rattle.mg_value.specs.Value.{item, list, no_items, whole};
 ghost use Rattle.mg_value.specs.View.{view, items_view};
-ghost use Rattle.mg_query.specs.Given.{given as given_of, given_seen, hint_seen};
-ghost use Rattle.mg_query.specs.Query.{bookmark_given as bookmark_of, conflicts_of, count_of, hint_given as hint_of, selector_given as selector_of, items_given};
+ghost use Rattle.mg_query.specs.Given.{given, given_seen, hint_seen};
+ghost use Rattle.mg_query.specs.Query.{bookmark_given, conflicts_of, count_of, hint_given, selector_given, items_given};
 ghost use Rattle.mg_query.specs.Seen.{lent};
 
 use mg_index::{Hint, design_document};
@@ -39,7 +39,7 @@ pub(crate) enum GivenHint<'a> {
 
 // The members of a body; `None` if one has a wrong shape.
 pub(crate) fn members_in(body: &Json) -> Option<Members<'_>>
-    ensures { option_map given_seen result ≡ given_of (view body.now) }
+    ensures { option_map given_seen result ≡ given (view body.now) }
 {
     let selector = selector_given(body.member("selector"))?;
     let fields = array_given(body.member("fields"))?;
@@ -63,7 +63,7 @@ pub(crate) fn members_in(body: &Json) -> Option<Members<'_>>
 
 // `selector`: an object, which must be there.
 fn selector_given<'a>(value: Option<&'a Json>) -> Option<&'a Json>
-    ensures { option_map (λ v. view v.now) result ≡ selector_of (lent value.entry) }
+    ensures { option_map (λ v. view v.now) result ≡ selector_given (lent value.entry) }
 {
     match value {
         Some(selector) => object_in(selector),
@@ -72,7 +72,7 @@ fn selector_given<'a>(value: Option<&'a Json>) -> Option<&'a Json>
 }
 
 fn object_in(value: &Json) -> Option<&Json>
-    ensures { option_map (λ v. view v.now) result ≡ selector_of (Some (view value.now)) }
+    ensures { option_map (λ v. view v.now) result ≡ selector_given (Some (view value.now)) }
 {
     match value {
         Json::Object(_) => Some(value),
@@ -129,7 +129,7 @@ fn count_in(_otherwise: u32, count: i64) -> Option<u32>
 
 // `use_index`: a design document, or an array: `[]`, `[ddoc]` or `[ddoc, name]`.
 fn hint_given<'a>(value: Option<&'a Json>) -> Option<GivenHint<'a>>
-    ensures { option_map hint_seen result ≡ hint_of (lent value.entry) }
+    ensures { option_map hint_seen result ≡ hint_given (lent value.entry) }
 {
     match value {
         None => Some(GivenHint::None),
@@ -140,7 +140,7 @@ fn hint_given<'a>(value: Option<&'a Json>) -> Option<GivenHint<'a>>
 }
 
 fn hint_in(parts: &[Json]) -> Option<GivenHint<'_>>
-    ensures { option_map hint_seen result ≡ hint_of (Some (list (items_view parts.now))) }
+    ensures { option_map hint_seen result ≡ hint_given (Some (list (items_view parts.now))) }
 {
     match parts {
         [] => Some(GivenHint::None),
@@ -151,7 +151,7 @@ fn hint_in(parts: &[Json]) -> Option<GivenHint<'_>>
 }
 
 fn hint_by_ddoc(ddoc: &Json) -> Option<GivenHint<'_>>
-    ensures { option_map hint_seen result ≡ hint_of (Some (list (item (view ddoc.now) no_items))) }
+    ensures { option_map hint_seen result ≡ hint_given (Some (list (item (view ddoc.now) no_items))) }
 {
     match ddoc {
         Json::Text(ddoc) => Some(GivenHint::Ddoc(ddoc.as_str())),
@@ -161,7 +161,7 @@ fn hint_by_ddoc(ddoc: &Json) -> Option<GivenHint<'_>>
 
 fn hint_by_both<'a>(ddoc: &'a Json, name: &'a Json) -> Option<GivenHint<'a>>
     ensures { option_map hint_seen result
-        ≡ hint_of (Some (list (item (view ddoc.now) (item (view name.now) no_items)))) }
+        ≡ hint_given (Some (list (item (view ddoc.now) (item (view name.now) no_items)))) }
 {
     match (ddoc, name) {
         (Json::Text(ddoc), Json::Text(name)) => {
@@ -173,7 +173,7 @@ fn hint_by_both<'a>(ddoc: &'a Json, name: &'a Json) -> Option<GivenHint<'a>>
 
 // `bookmark`: a text; `nil` if it is null or absent.
 fn bookmark_given<'a>(value: Option<&'a Json>) -> Option<&'a str>
-    ensures { option_map (λ t. t.now) result ≡ bookmark_of (lent value.entry) }
+    ensures { option_map (λ t. t.now) result ≡ bookmark_given (lent value.entry) }
 {
     match value {
         None => Some(NO_BOOKMARK),
@@ -196,11 +196,11 @@ fn conflicts_given(value: Option<&Json>) -> Option<bool>
 
 impl GivenHint<'_> {
     ghost use Rattle.std.specs.Prelude.{IfOk};
-    ghost use Rattle.mg_index.specs.View.{hint_of as hint_named};
+    ghost use Rattle.mg_index.specs.View.{hint_of};
 
     // A copy of the hint, with `_design/` put before a design document that does not begin with it.
     pub(crate) fn to_hint(self, alloc: Global) -> Result<Hint, NoMemory>
-        ensures { IfOk result (λ hint. hint_named hint ≡ hint_seen self.entry) }
+        ensures { IfOk result (λ hint. hint_of hint ≡ hint_seen self.entry) }
     {
         match self {
             GivenHint::None => Ok(Hint::None),

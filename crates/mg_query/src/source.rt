@@ -11,9 +11,9 @@ ghost use Rattle.mg_scan.specs.Found.{target_columns};
 ghost use Rattle.mg_selector.specs.View.{selector_of};
 ghost use Rattle.mg_query.specs.Plan.{IsDecidedBy};
 ghost use Rattle.mg_query.specs.Explain.{listed_source};
-ghost use Rattle.mg_query.specs.Page.{source_columns, ddoc_of, accepts_bookmark as accepts_bookmark_of, is_ddoc as is_same_ddoc, fits_source as fits_source_of, name_of, served_by as served_of};
+ghost use Rattle.mg_query.specs.Page.{source_columns, ddoc_of, accepts_bookmark, is_same_ddoc, fits_source, name_of, served_by};
 ghost use Rattle.mg_query.specs.Seen.{query_seen};
-ghost use Rattle.mg_query.specs.Served.{PageAnswers, IsSourceChosen, IsListed, source_seen};
+ghost use Rattle.mg_query.specs.Served.{PageAnswers, IsSourceChosen, IsInCatalog, source_seen};
 
 use crate::error::PageError;
 use crate::query::Query;
@@ -47,8 +47,8 @@ pub(crate) fn served_by<'a>(
     catalog: &'a Catalog,
 ) -> Result<Source<'a>, PageError>
     requires { IsNormalOf (selector_of query.now.selector) normal.now }
-    ensures answers { PageAnswers source_seen result (served_of catalog.now (query_seen query.now)) }
-    ensures listed { IfOk result (λ s. IsListed catalog.now (source_seen s)) }
+    ensures answers { PageAnswers source_seen result (served_by catalog.now (query_seen query.now)) }
+    ensures listed { IfOk result (λ s. IsInCatalog catalog.now (source_seen s)) }
 {
     let source = choose_source(query, normal, catalog)?;
     if accepts_bookmark(source, query) {
@@ -65,7 +65,7 @@ fn choose_source<'a>(
 ) -> Result<Source<'a>, PageError>
     ensures chosen { IsSourceChosen result (choice_of catalog.now normal.now.atoms
         (query_seen query.now).sort (query_seen query.now).hint) }
-    ensures listed { IfOk result (λ s. IsListed catalog.now (source_seen s)) }
+    ensures listed { IfOk result (λ s. IsInCatalog catalog.now (source_seen s)) }
 {
     match choose(catalog, normal, &query.sort, &query.hint) {
         Ok(Choice::AllDocs) => Ok(Source::AllDocs),
@@ -76,7 +76,7 @@ fn choose_source<'a>(
 
 // Whether the query's bookmark belongs to the index, read in the query's direction; true without a bookmark.
 fn accepts_bookmark(source: Source<'_>, query: &Query<'_>) -> bool
-    ensures { result ≡ accepts_bookmark_of (source_seen source.entry) (query_seen query.now) }
+    ensures { result ≡ accepts_bookmark (source_seen source.entry) (query_seen query.now) }
 {
     match &query.bookmark {
         Some(bookmark) => fits_source(source, query, bookmark),
@@ -85,10 +85,10 @@ fn accepts_bookmark(source: Source<'_>, query: &Query<'_>) -> bool
 }
 
 fn fits_source(source: Source<'_>, query: &Query<'_>, bookmark: &Bookmark) -> bool
-    ensures { result ≡ fits_source_of (source_seen source.entry) (query_seen query.now)
+    ensures { result ≡ fits_source (source_seen source.entry) (query_seen query.now)
         (bookmark_place bookmark.now) }
 {
-    is_ddoc(bookmark.ddoc.as_deref(), source.ddoc())
+    is_same_ddoc(bookmark.ddoc.as_deref(), source.ddoc())
         && bookmark.name.as_str() == source.name()
         && bookmark.direction == query.sort.direction
         && key_width(&bookmark.key) == source.width()
@@ -101,7 +101,7 @@ fn key_width(key: &[Json]) -> usize
     key.len()
 }
 
-fn is_ddoc(a: Option<&str>, b: Option<&str>) -> bool
+fn is_same_ddoc(a: Option<&str>, b: Option<&str>) -> bool
     ensures { result ≡ is_same_ddoc (option_map (λ t. t.now) a.entry) (option_map (λ t. t.now) b.entry) }
 {
     match (a, b) {
@@ -143,7 +143,7 @@ impl<'a> Source<'a> {
 
     // What a scan of this index reads in each shard that has the index.
     pub(crate) fn target(self) -> Target<'a>
-        ensures { (ds : List IndexDefinition) → IsListed ds (source_seen self.entry)
+        ensures { (ds : List IndexDefinition) → IsInCatalog ds (source_seen self.entry)
             → target_columns result ds ≡ Some (source_columns (source_seen self.entry)) }
     {
         match self {

@@ -10,7 +10,7 @@ use Rattle.mg_selector.specs.Meaning.{operator_holds}
 use Rattle.mg_normal.specs.Atoms.{Atom, atoms_of, atom_holds}
 use Rattle.mg_normal.specs.Laws.{AtomsAreNecessary}
 use Rattle.mg_index.specs.Bound.{bound_on, bounds_on, meets_all, is_fixed}
-use Rattle.mg_index.specs.Choice.{is_covered, asks_of, needs_part, id_path, rev_path}
+use Rattle.mg_index.specs.Choice.{is_covered, requires_column, needs_part, id_path, rev_path}
 use Rattle.mg_index.specs.Definition.{Steps}
 use Rattle.mg_index.proofs.Paths.{path_eq-Decides}
 use Rattle.mg_range.proofs.Bounded.{bounds_hold}
@@ -46,7 +46,7 @@ needed : (a : Atom) (o : Option Value) → operator_holds a.operator a.sense o �
 needed a None h k = absurd (false≢true (ap not (sym h) ∙ k))
 needed a (Some w) h k = (w, refl)
 
-asked : (v : Value) (c : Steps) (atoms : List Atom) → Hold v atoms → list_any (asks_of c) atoms ≡ true → Part (part_of c v)
+asked : (v : Value) (c : Steps) (atoms : List Atom) → Hold v atoms → list_any (requires_column c) atoms ≡ true → Part (part_of c v)
 asked v c [] h k = absurd (false≢true k)
 asked v c (a ∷ atoms) h k =
     ⊎_elim
@@ -54,16 +54,16 @@ asked v c (a ∷ atoms) h k =
     let p = and_parts (path_eq a.steps c) (needs_part a) e in
     subst (λ s. Part (part_of s v)) ((path_eq-Decides a.steps c).0 p.0) (needed a (part_of a.steps v) (All-head (λ b. atom_holds (Some v) b ≡ true) a atoms h) p.1))
     (λ e. asked v c atoms (All-tail (λ b. atom_holds (Some v) b ≡ true) a atoms h) e)
-    (or_cases (asks_of c a) (list_any (asks_of c) atoms) k)
+    (or_cases (requires_column c a) (list_any (requires_column c) atoms) k)
 
 covered : (v : Value) (atoms : List Atom) (sort : List Steps) (c : Steps) → Hold v atoms → Has v id_path → Has v rev_path → All (Has v) sort
     → is_covered atoms sort c ≡ true → Part (part_of c v)
 covered v atoms sort c h i r s k =
     ⊎_elim (λ e. along v c id_path e (there v id_path i))
     (λ e. ⊎_elim (λ f. along v c rev_path f (there v rev_path r))
-    (λ f. ⊎_elim (in_sort v c sort s) (asked v c atoms h) (or_cases (list_any (path_eq c) sort) (list_any (asks_of c) atoms) f))
-    (or_cases (path_eq c rev_path) (list_any (path_eq c) sort || list_any (asks_of c) atoms) e))
-    (or_cases (path_eq c id_path) (path_eq c rev_path || (list_any (path_eq c) sort || list_any (asks_of c) atoms)) k)
+    (λ f. ⊎_elim (in_sort v c sort s) (asked v c atoms h) (or_cases (list_any (path_eq c) sort) (list_any (requires_column c) atoms) f))
+    (or_cases (path_eq c rev_path) (list_any (path_eq c) sort || list_any (requires_column c) atoms) e))
+    (or_cases (path_eq c id_path) (path_eq c rev_path || (list_any (path_eq c) sort || list_any (requires_column c) atoms)) k)
 
 -- ---- its value meets the bounds
 

@@ -1,18 +1,18 @@
--- Where a scan enters a range of keys, by the first column alone.
+-- Where a search enters a range of keys, by the first column alone.
 use Rattle.std.specs.Prelude.{List, [], ◌∷◌, true, Option, Some, None}
 use Rattle.mg_value.specs.Value.{Value}
 use Rattle.mg_collate.specs.declared.direction.Direction.{Direction}
 use Rattle.mg_collate.specs.declared.direction.Direction.TheVariants.{Asc, Desc}
 use Rattle.mg_range.specs.Range.{Limit, Range, limit_at}
 
--- the limit of the first column on that side: its value if that is fixed; else the lower limit for an ascending scan, the upper one
--- for a descending scan
+-- the limit on the first column for a search in the direction: the column's value if that is fixed; else the lower limit if the search
+-- ascends, the upper one if it descends
 abbrev pub limit_on : Direction → List Value → Option Limit → Option Limit → Option Limit
 limit_on direction (v ∷ vs) lower upper = Some (limit_at v true)
 limit_on Asc [] lower upper = lower
 limit_on Desc [] lower upper = upper
 
--- the limit at which a scan in a direction enters a range, if there is one
+-- the limit at which a search in a direction enters a range, if there is one
 abbrev pub limit_entered : Direction → Range → Option Limit
 limit_entered direction None = None
 limit_entered direction (Some s) = limit_on direction s.equal s.lower s.upper

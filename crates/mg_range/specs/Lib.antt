@@ -3,7 +3,7 @@ pub mod RangeSide
 pub mod Enter
 pub mod SpanEnds
 pub mod Decided
-pub mod Listed
+pub mod Explained
 pub mod Laws
 pub mod View
 pub mod InRows

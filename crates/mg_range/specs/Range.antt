@@ -101,8 +101,8 @@ between lower upper = if is_crossed lower upper then None else Some (span_of [] 
 abbrev pub with_equal : Value → Range → Range
 with_equal v rest = option_map (λ s. span_of (v ∷ s.equal) s.lower s.upper) rest
 
--- the range of columns whose first one has these bounds: a fixed value that meets every bound is put before the range of the
--- others; if no value is fixed, the range is what is between the tightest limits
+-- the range of columns whose first one has these bounds: if they fix its value, that value in front of the range of the others, or
+-- the empty range if it breaks another bound; else what is between the tightest limits
 abbrev pub range_from : List Bound → Option Bound → Range → Range
 range_from bounds (Some fixed) rest = if meets_all fixed.value bounds then with_equal fixed.value rest else None
 range_from bounds None rest = between (tightest Asc bounds) (tightest Desc bounds)

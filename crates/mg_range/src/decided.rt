@@ -1,8 +1,8 @@
 // Whether a range decides the atoms of a selector.
 ghost use Rattle.std.specs.Prelude.{◌≡◌, take};
 ghost use Rattle.mg_normal.specs.View.{atom_view, atoms_view};
-ghost use Rattle.mg_index.specs.Bound.{bounded_count as count_of};
-ghost use Rattle.mg_range.specs.Decided.{bounds_one as is_bound_on_one, decides_of};
+ghost use Rattle.mg_index.specs.Bound.{bounded_count};
+ghost use Rattle.mg_range.specs.Decided.{bounds_one, decides_of};
 
 use mg_index::{Bound, bounded_count};
 use mg_normal::Atom;
@@ -26,14 +26,14 @@ pub fn decides(columns: &[Path], atoms: &[Atom]) -> bool
 
 // The bounded columns: the leading ones whose value the atoms fix, and the next one if they bound it.
 fn bounded_columns<'a>(columns: &'a [Path], atoms: &[Atom]) -> &'a [Path]
-    ensures { result.now ≡ take (count_of (atoms_view atoms.now) columns.now) columns.now }
+    ensures { result.now ≡ take (bounded_count (atoms_view atoms.now) columns.now) columns.now }
 {
     &columns[..bounded_count(columns, atoms)]
 }
 
 // Whether the atom bounds one of the columns.
 fn bounds_one(columns: &[Path], atom: &Atom) -> bool
-    ensures { result ≡ is_bound_on_one columns.now (atom_view atom.now) }
+    ensures { result ≡ bounds_one columns.now (atom_view atom.now) }
 {
     for column in columns {
         if Bound::on(column, atom).is_some() {

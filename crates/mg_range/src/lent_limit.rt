@@ -3,9 +3,9 @@ ghost use Rattle.std.specs.Prelude.{◌≡◌, List, option_map};
 ghost use Rattle.std.specs.List.{cons_option, filter_map, fold};
 ghost use Rattle.mg_value.specs.View.{view};
 ghost use Rattle.mg_normal.specs.View.{atom_view, atoms_view};
-ghost use Rattle.mg_index.specs.Bound.{Bound as BoundValue, bound_on, bounds_on, meets_all as meets_each};
-ghost use Rattle.mg_range.specs.Range.{inclusive_from as inclusive_given, limit_by, limit_of, tightest as tightest_of};
-ghost use Rattle.mg_range.specs.LentLimit.{lent_limit_seen, tightened, tighter as tighter_of};
+ghost use Rattle.mg_index.specs.Bound.{Bound as BoundValue, bound_on, bounds_on, meets_all};
+ghost use Rattle.mg_range.specs.Range.{inclusive_from, limit_by, limit_of, tightest};
+ghost use Rattle.mg_range.specs.LentLimit.{lent_limit_seen, tightened, tighter};
 
 use mg_collate::{Direction, compare};
 use mg_index::{Bound, Comparison};
@@ -36,7 +36,7 @@ fn find_limit(direction: Direction, bound: Bound<'_>) -> Option<LentLimit<'_>>
 // Whether the comparison allows the value itself. `None` if it gives no limit from below (`Asc`) or from
 // above (`Desc`).
 fn inclusive_from(direction: Direction, comparison: Comparison) -> Option<bool>
-    ensures { result ≡ inclusive_given direction comparison }
+    ensures { result ≡ inclusive_from direction comparison }
 {
     match direction {
         Direction::Asc => match comparison {
@@ -59,7 +59,7 @@ fn inclusive_from(direction: Direction, comparison: Comparison) -> Option<bool>
 // The tighter of two limits.
 fn tighter<'a>(direction: Direction, a: LentLimit<'a>, b: LentLimit<'a>) -> LentLimit<'a>
     ensures { lent_limit_seen result
-        ≡ tighter_of direction (lent_limit_seen a.entry) (lent_limit_seen b.entry) }
+        ≡ tighter direction (lent_limit_seen a.entry) (lent_limit_seen b.entry) }
 {
     match direction.apply(compare(a.value, b.value)) {
         Ordering::Less => b,
@@ -100,7 +100,7 @@ pub(crate) fn tightest<'a>(
     atoms: &'a [Atom],
 ) -> Option<LentLimit<'a>>
     ensures { option_map lent_limit_seen result
-        ≡ tightest_of direction (bounds_on (atoms_view atoms.now) column.now) }
+        ≡ tightest direction (bounds_on (atoms_view atoms.now) column.now) }
 {
     let mut best = None;
     for atom in atoms {
@@ -111,7 +111,7 @@ pub(crate) fn tightest<'a>(
 
 // Whether the value meets every bound that the atoms give on the column.
 pub(crate) fn meets_all(column: &Path, atoms: &[Atom], value: &Json) -> bool
-    ensures { result ≡ meets_each (view value.now) (bounds_on (atoms_view atoms.now) column.now) }
+    ensures { result ≡ meets_all (view value.now) (bounds_on (atoms_view atoms.now) column.now) }
 {
     for atom in atoms {
         if let Some(bound) = Bound::on(column, atom) {

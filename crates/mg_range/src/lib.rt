@@ -2,9 +2,9 @@
 #![tactic(auto)]
 
 mod decided;
+mod explained;
 pub mod laws;
 mod lent_limit;
-mod listed;
 mod range;
 mod row_range;
 mod side;

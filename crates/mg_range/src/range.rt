@@ -1,12 +1,12 @@
 ghost use Rattle.std.specs.Prelude.{◌≡◌, ℕ, List, [], ◌∷◌, IfOk, is_none, length, map, option_map};
 ghost use Rattle.mg_value.specs.Value.{Value, text as string};
 ghost use Rattle.mg_value.specs.View.{view as json_view};
-ghost use Rattle.mg_range.specs.Listed.{range_value};
+ghost use Rattle.mg_range.specs.Explained.{range_value};
 ghost use Rattle.mg_range.specs.RangeSide.{has_key, is_side_within, side_of};
 ghost use Rattle.mg_range.specs.Enter.{limit_entered};
 ghost use Rattle.mg_range.specs.Range.{in_range, limit_at, range_of};
 
-use crate::listed::{empty_json, span_json};
+use crate::explained::{empty_json, span_json};
 use crate::side::RangeSide;
 use crate::span::{Span, side_in, span_of};
 use crate::text;
@@ -43,8 +43,8 @@ impl Model for KeyRange {
 impl KeyRange {
     /// The range of an index of these columns for a query.
     ///
-    /// The bounds come from the atoms alone, as `Bound::on` gives them. A leading column that an `$eq` bounds, or
-    /// a negated `$ne`, has its value, and the next column lies between its tightest bounds.
+    /// The bounds come from the atoms alone, as `Bound::on` gives them. They fix the value of each leading column
+    /// that an `$eq` or a negated `$ne` bounds; the value of the next column lies between its tightest bounds.
     ///
     /// Errors: `NoMemory` if an allocation fails. Cost: the columns times the atoms, and a copy of each bound
     /// that is kept.
@@ -82,7 +82,7 @@ impl KeyRange {
         }
     }
 
-    /// The limit on the first column at which a scan in the direction enters the range: the value, and
+    /// The limit on the first column at which a search in the direction enters the range: the value, and
     /// whether keys with that value may be in the range. `None` if there is no limit on that side, or if
     /// the range is empty. Takes no memory. Cost: constant.
     pub fn entered_at(&self, direction: Direction) -> Option<(&Json, bool)>

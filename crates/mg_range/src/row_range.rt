@@ -5,9 +5,9 @@ ghost use Rattle.mg_value.specs.Value.{item_list};
 ghost use Rattle.mg_value.specs.View.{items_view, view as json_view};
 ghost use Rattle.mg_rows.specs.RowBound.{bound_order};
 ghost use Rattle.mg_rows.specs.Laws.{joined_items};
-ghost use Rattle.mg_range.specs.SpanEnds.{end_values, high_edge as high_side, low_edge as low_side};
-ghost use Rattle.mg_range.specs.InRows.{ends_at, ends_of as both_ends};
-ghost use Rattle.mg_range.specs.RangeSide.{is_early as stands_early, is_late as stands_late, is_side_before, is_side_past, side_of};
+ghost use Rattle.mg_range.specs.SpanEnds.{end_values, high_edge, low_edge};
+ghost use Rattle.mg_range.specs.InRows.{ends_at, ends_of};
+ghost use Rattle.mg_range.specs.RangeSide.{is_early, is_late, is_side_before, is_side_past, side_of};
 ghost use Rattle.mg_range.specs.View.{limit_seen, span_seen};
 
 use crate::range::KeyRange;
@@ -25,8 +25,8 @@ pub(crate) struct SpanEnds {
     pub(crate) high: RowBound,
 }
 
-/// A key range with its two ends as bytes, so that rows are compared with them byte by byte. Contracts see
-/// the range.
+/// A key range with its two ends as bytes, so that rows are compared with them byte by byte. In contracts it
+/// is the range.
 #[derive(Drop)]
 pub struct RowRange<'a> {
     keys: &'a KeyRange,
@@ -69,7 +69,7 @@ impl KeyRange {
 
 impl<'a> RowRange<'a> {
     /// The range. Takes no memory.
-    pub fn keys(&self) -> &'a KeyRange
+    pub fn key_range(&self) -> &'a KeyRange
         ensures { result.now ≡ self.now }
     {
         self.keys
@@ -88,7 +88,7 @@ impl<'a> RowRange<'a> {
     /// `Desc`, late in `Asc`. Takes no memory. Cost: a comparison of bytes.
     #[inline(always)]
     pub fn is_early(&self, direction: Direction, row: &RowBytes) -> bool
-        ensures { result ≡ stands_early direction (side_of self.now (item_list row.now.0)) }
+        ensures { result ≡ is_early direction (side_of self.now (item_list row.now.0)) }
     {
         match direction {
             Direction::Asc => self.is_below(row),
@@ -100,7 +100,7 @@ impl<'a> RowRange<'a> {
     /// `Desc`, late in `Asc`. Takes no memory. Cost: a comparison of bytes.
     #[inline(always)]
     pub fn is_late(&self, direction: Direction, row: &RowBytes) -> bool
-        ensures { result ≡ stands_late direction (side_of self.now (item_list row.now.0)) }
+        ensures { result ≡ is_late direction (side_of self.now (item_list row.now.0)) }
     {
         match direction {
             Direction::Asc => self.is_above(row),
@@ -160,7 +160,7 @@ fn is_past(ends: &SpanEnds, row: &RowBytes) -> bool
 // The ends of a span, if there is one.
 fn ends_if(alloc: Global, span: &Option<Span>) -> Result<Option<SpanEnds>, NoMemory>
     ensures { IfOk result (λ ends. option_map ends_at ends
-        ≡ option_map (λ s. both_ends (span_seen s)) span.now) }
+        ≡ option_map (λ s. ends_of (span_seen s)) span.now) }
 {
     match span {
         Some(span) => Ok(Some(ends_of(alloc, span)?)),
@@ -169,7 +169,7 @@ fn ends_if(alloc: Global, span: &Option<Span>) -> Result<Option<SpanEnds>, NoMem
 }
 
 fn ends_of(alloc: Global, span: &Span) -> Result<SpanEnds, NoMemory>
-    ensures { IfOk result (λ ends. ends_at ends ≡ both_ends (span_seen span.now)) }
+    ensures { IfOk result (λ ends. ends_at ends ≡ ends_of (span_seen span.now)) }
 {
     let lower = span.lower.as_ref();
     let upper = span.upper.as_ref();
@@ -221,7 +221,7 @@ fn push_limit(key: &mut KeyBytes, limit: Option<&Limit>) -> Result<(), NoMemory>
 
 // Whether the low end is before or after the rows with its values: before them if they are in the range.
 fn low_edge(limit: Option<&Limit>) -> Edge
-    ensures { result ≡ low_side (option_map (λ l. limit_seen l.now) limit.entry) }
+    ensures { result ≡ low_edge (option_map (λ l. limit_seen l.now) limit.entry) }
 {
     match limit {
         Some(limit) => if limit.inclusive {
@@ -235,7 +235,7 @@ fn low_edge(limit: Option<&Limit>) -> Edge
 
 // Whether the high end is before or after the rows with its values: after them if they are in the range.
 fn high_edge(limit: Option<&Limit>) -> Edge
-    ensures { result ≡ high_side (option_map (λ l. limit_seen l.now) limit.entry) }
+    ensures { result ≡ high_edge (option_map (λ l. limit_seen l.now) limit.entry) }
 {
     match limit {
         Some(limit) => if limit.inclusive {

@@ -4,8 +4,8 @@ ghost use Rattle.mg_value.specs.View.{view};
 ghost use Rattle.mg_normal.specs.View.{atoms_view};
 ghost use Rattle.mg_collate.specs.declared.direction.Direction.TheVariants.{Asc, Desc};
 ghost use Rattle.mg_range.specs.LentLimit.{lent_limit_seen};
-ghost use Rattle.mg_range.specs.Range.{range_of, between, are_crossed as cross, is_crossed as is_cross};
-ghost use Rattle.mg_range.specs.RangeSide.{admits as admits_by, side_from, is_before as stands_before, is_past as stands_past, is_within as stands_within};
+ghost use Rattle.mg_range.specs.Range.{range_of, between, are_crossed, is_crossed};
+ghost use Rattle.mg_range.specs.RangeSide.{admits, side_from, is_before, is_past, is_within};
 ghost use Rattle.mg_range.specs.View.{limit_seen, span_seen, with_equals};
 
 use crate::lent_limit::{LentLimit, meets_all, tightest};
@@ -84,7 +84,7 @@ fn span_between(
 // Whether both limits are there and cross: the lower is above the upper, or equal to it while one of them is
 // exclusive.
 fn is_crossed(lower: Option<LentLimit<'_>>, upper: Option<LentLimit<'_>>) -> bool
-    ensures { result ≡ is_cross (option_map lent_limit_seen lower.entry)
+    ensures { result ≡ is_crossed (option_map lent_limit_seen lower.entry)
         (option_map lent_limit_seen upper.entry) }
 {
     match (lower, upper) {
@@ -94,7 +94,7 @@ fn is_crossed(lower: Option<LentLimit<'_>>, upper: Option<LentLimit<'_>>) -> boo
 }
 
 fn are_crossed(lower: LentLimit<'_>, upper: LentLimit<'_>) -> bool
-    ensures { result ≡ cross (lent_limit_seen lower.entry) (lent_limit_seen upper.entry) }
+    ensures { result ≡ are_crossed (lent_limit_seen lower.entry) (lent_limit_seen upper.entry) }
 {
     match compare(lower.value, upper.value) {
         Ordering::Less => false,
@@ -153,7 +153,7 @@ pub(crate) fn side_at_limits(
 }
 
 fn is_before(lower: &Option<Limit>, rest: &[Json]) -> bool
-    ensures { result ≡ stands_before [] (option_map limit_seen lower.now) (map view rest.now) }
+    ensures { result ≡ is_before [] (option_map limit_seen lower.now) (map view rest.now) }
 {
     let Some(lower) = lower else {
         return false;
@@ -165,7 +165,7 @@ fn is_before(lower: &Option<Limit>, rest: &[Json]) -> bool
 }
 
 fn is_past(upper: &Option<Limit>, rest: &[Json]) -> bool
-    ensures { result ≡ stands_past [] (option_map limit_seen upper.now) (map view rest.now) }
+    ensures { result ≡ is_past [] (option_map limit_seen upper.now) (map view rest.now) }
 {
     let Some(upper) = upper else {
         return false;
@@ -178,7 +178,7 @@ fn is_past(upper: &Option<Limit>, rest: &[Json]) -> bool
 
 // Whether the value is within the limit.
 fn is_within(direction: Direction, limit: &Limit, value: &Json) -> bool
-    ensures { result ≡ stands_within direction (limit_seen limit.now) (view value.now) }
+    ensures { result ≡ is_within direction (limit_seen limit.now) (view value.now) }
 {
     admits(limit, direction.apply(compare(value, &limit.value)))
 }
@@ -186,7 +186,7 @@ fn is_within(direction: Direction, limit: &Limit, value: &Json) -> bool
 // Whether a value is within the limit; `order` is that of the value to the limit's, reversed for an upper
 // limit.
 pub(crate) fn admits(limit: &Limit, order: Ordering) -> bool
-    ensures { result ≡ admits_by limit.now.inclusive order }
+    ensures { result ≡ admits limit.now.inclusive order }
 {
     if limit.inclusive {
         order.is_ge()

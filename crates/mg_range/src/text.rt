@@ -2,7 +2,7 @@
 ghost use Rattle.std.specs.Prelude.{◌≡◌, [], ◌∷◌, map, option_map};
 ghost use Rattle.mg_value.specs.Value.{text as string};
 ghost use Rattle.mg_value.specs.View.{view};
-ghost use Rattle.mg_range.specs.RangeSide.{side_from, is_before as stands_before, is_past as stands_past, is_within as stands_within};
+ghost use Rattle.mg_range.specs.RangeSide.{side_from, is_before, is_past, is_within};
 ghost use Rattle.mg_range.specs.View.{limit_seen};
 
 use crate::side::RangeSide;
@@ -53,7 +53,7 @@ fn side_of_text(lower: &Option<Limit>, upper: &Option<Limit>, text: &str) -> Ran
 }
 
 fn is_before(lower: &Option<Limit>, text: &str) -> bool
-    ensures { result ≡ stands_before [] (option_map limit_seen lower.now) (string text.now ∷ []) }
+    ensures { result ≡ is_before [] (option_map limit_seen lower.now) (string text.now ∷ []) }
 {
     match lower {
         Some(lower) => !is_within(Direction::Asc, lower, text),
@@ -62,7 +62,7 @@ fn is_before(lower: &Option<Limit>, text: &str) -> bool
 }
 
 fn is_past(upper: &Option<Limit>, text: &str) -> bool
-    ensures { result ≡ stands_past [] (option_map limit_seen upper.now) (string text.now ∷ []) }
+    ensures { result ≡ is_past [] (option_map limit_seen upper.now) (string text.now ∷ []) }
 {
     match upper {
         Some(upper) => !is_within(Direction::Desc, upper, text),
@@ -72,7 +72,7 @@ fn is_past(upper: &Option<Limit>, text: &str) -> bool
 
 // Whether the text is within the limit.
 fn is_within(direction: Direction, limit: &Limit, text: &str) -> bool
-    ensures { result ≡ stands_within direction (limit_seen limit.now) (string text.now) }
+    ensures { result ≡ is_within direction (limit_seen limit.now) (string text.now) }
 {
     admits(limit, direction.apply(compare_text(text, &limit.value)))
 }

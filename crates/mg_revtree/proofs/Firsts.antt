@@ -2,12 +2,12 @@
 use Rattle.std.proofs.Common.{◌≡◌, ◌∙◌, ℕ, ◌-◌, ◌<◌, ◌&&◌, Bool, true, false, Option, Some, None, List, [], ◌∷◌, ◌++◌, append-nil, Bor, inl, inr, is_some, option_copied, get_or, length, map, refl, ap, sym, subst, arith}
 use Rattle.mg_value.specs.Value.{Value}
 use Rattle.mg_revtree.specs.Revision.{Revision, run_from, same_revision}
-use Rattle.mg_revtree.specs.History.{Leaf, Link, Paths, all_links, are_held, fit, is_known, links, newest_of}
+use Rattle.mg_revtree.specs.History.{Leaf, Link, Paths, all_links, are_known_whole, fit, is_known, links, newest_of}
 use Rattle.mg_revtree.specs.Growth.{empty_tree, first_tree, is_empty, is_run_of, line_tree, tree_in}
 use Rattle.mg_revtree.specs.declared.growth.Growth.{Growth}
 use Rattle.mg_revtree.specs.declared.growth.Growth.TheVariants.{Empty, First, Pair, Line, Grown}
 use Rattle.mg_revtree.specs.Tree.{AreNodes, StandsFor, Tree, find, node}
-use Rattle.mg_revtree.specs.Steps.{agrees_found, held_found, put}
+use Rattle.mg_revtree.specs.Steps.{agrees_found, known_found, put}
 use Rattle.mg_revtree.specs.Changes.{found_of, path_of, with_path}
 use Rattle.mg_revtree.specs.declared.error.Merged.TheVariants.{New}
 use Rattle.mg_revtree.proofs.Same.{two}
@@ -77,26 +77,26 @@ all_fit kept ls (m ∷ ms) nodes none =
 
 -- ---- which runs are known
 
-held_at : (kept ls : List Link) (m : Link) (ms : List Link) → AreNodes kept ls → are_held ls (m ∷ ms) ≡ held_found (find m.rev kept) m.parent && are_held ls ms
+held_at : (kept ls : List Link) (m : Link) (ms : List Link) → AreNodes kept ls → are_known_whole ls (m ∷ ms) ≡ known_found (find m.rev kept) m.parent && are_known_whole ls ms
 held_at kept ls m ms nodes =
-    ap (λ (b : Bool). b && are_held ls ms) (sym (held_node m.rev ls m.parent) ∙ ap (λ (o : Option (Option Revision)). held_found o m.parent) (sym (nodes.same m.rev)))
+    ap (λ (b : Bool). b && are_known_whole ls ms) (sym (held_node m.rev ls m.parent) ∙ ap (λ (o : Option (Option Revision)). known_found o m.parent) (sym (nodes.same m.rev)))
 
-pub none_held : (n : ℕ) (ids : List (List ℕ)) (ls : List Link) → 0 < length ids → AreNodes [] ls → false ≡ are_held ls (links (run_from n ids))
+pub none_held : (n : ℕ) (ids : List (List ℕ)) (ls : List Link) → 0 < length ids → AreNodes [] ls → false ≡ are_known_whole ls (links (run_from n ids))
 none_held n [] ls some nodes = absurd (omega arith)
 none_held n (x ∷ ids) ls some nodes = sym (held_at [] ls (record { rev = (n, x); parent = newest_of (run_from (n - 1) ids) }) (links (run_from (n - 1) ids)) nodes)
 
-pub alone_held : (q : Revision) (n : ℕ) (ids : List (List ℕ)) (ls : List Link) → 0 < length ids → AreNodes (alone q ∷ []) ls → is_run_of q (run_from n ids) ≡ are_held ls (links (run_from n ids))
+pub alone_held : (q : Revision) (n : ℕ) (ids : List (List ℕ)) (ls : List Link) → 0 < length ids → AreNodes (alone q ∷ []) ls → is_run_of q (run_from n ids) ≡ are_known_whole ls (links (run_from n ids))
 alone_held q n [] ls some nodes = absurd (omega arith)
 alone_held q n (x ∷ []) ls some nodes = sym (held_at (alone q ∷ []) ls (alone (n, x)) [] nodes ∙ one)
   where
-    one : held_found (find (n, x) (alone q ∷ [])) None && true ≡ same_revision (n, x) q
+    one : known_found (find (n, x) (alone q ∷ [])) None && true ≡ same_revision (n, x) q
     one = elim (two (same_revision (n, x) q)) [ inl t ↦ rw t refl | inr f ↦ rw f refl ]
 alone_held q n (x ∷ y ∷ ids) ls some nodes =
     let m : Link = record { rev = (n, x); parent = Some (n - 1, y) } in
     let rest = links (run_from (n - 1) (y ∷ ids)) in
     sym (held_at (alone q ∷ []) ls m rest nodes ∙ no)
   where
-    no : held_found (find (n, x) (alone q ∷ [])) (Some (n - 1, y)) && are_held ls (links (run_from (n - 1) (y ∷ ids))) ≡ false
+    no : known_found (find (n, x) (alone q ∷ [])) (Some (n - 1, y)) && are_known_whole ls (links (run_from (n - 1) (y ∷ ids))) ≡ false
     no = elim (two (same_revision (n, x) q)) [ inl t ↦ rw t refl | inr f ↦ rw f refl ]
 
 -- ---- runs of one revision

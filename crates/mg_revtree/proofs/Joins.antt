@@ -2,9 +2,9 @@
 use Rattle.std.proofs.Common.{◌≡◌, true, false, ◌||◌, ◌&&◌, Option, Some, None, List, [], ◌∷◌, ◌++◌, inl, inr, refl, ap, sym, ◌∙◌, append_assoc}
 use Rattle.mg_revtree.specs.Revision.{Revision, same_revision}
 use Rattle.std.specs.Option.{option_or}
-use Rattle.mg_revtree.specs.History.{Link, Paths, agrees, gives, is_known, parent_of, has_child, is_at, links, all_links}
+use Rattle.mg_revtree.specs.History.{Link, Paths, agrees, gives, is_known, parent_of, has_child, is_this, links, all_links}
 use Rattle.mg_revtree.specs.Tree.{node}
-use Rattle.mg_revtree.specs.Steps.{agrees_found, held_found, put}
+use Rattle.mg_revtree.specs.Steps.{agrees_found, known_found, put}
 use Rattle.mg_revtree.proofs.Same.{two, same_is}
 
 pub known-append : (r : Revision) (ls ms : List Link) → is_known r (ls ++ ms) ≡ is_known r ls || is_known r ms
@@ -24,7 +24,7 @@ parent-append r (l ∷ ls) ms = elim (two (same_revision r l.rev)) [
 
 pub has_child-append : (r : Revision) (ls ms : List Link) → has_child r (ls ++ ms) ≡ has_child r ls || has_child r ms
 has_child-append r [] ms = refl
-has_child-append r (l ∷ ls) ms = elim (two (is_at r l.parent)) [ inl t ↦ rw t refl | inr f ↦ rw f (has_child-append r ls ms) ]
+has_child-append r (l ∷ ls) ms = elim (two (is_this r l.parent)) [ inl t ↦ rw t refl | inr f ↦ rw f (has_child-append r ls ms) ]
 
 pub all_links-append : (h g : Paths) → all_links (h ++ g) ≡ all_links h ++ all_links g
 all_links-append [] g = refl
@@ -67,7 +67,7 @@ agrees_node r ls q = elim (two (is_known r ls)) [
 ]
 
 -- a kept node is held where the known revision is
-pub held_node : (r : Revision) (ls : List Link) (q : Option Revision) → held_found (node r ls) q ≡ is_known r ls && gives (parent_of r ls) q
+pub held_node : (r : Revision) (ls : List Link) (q : Option Revision) → known_found (node r ls) q ≡ is_known r ls && gives (parent_of r ls) q
 held_node r ls q = elim (two (is_known r ls)) [
   | inl k ↦ rw k refl
   | inr k ↦ rw k refl

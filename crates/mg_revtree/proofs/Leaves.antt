@@ -4,7 +4,7 @@ use Rattle.std.specs.declared.cmp.Ordering.{Ordering}
 use Rattle.std.specs.declared.cmp.Ordering.TheVariants.{Less, Equal, Greater}
 use Rattle.mg_value.specs.Value.{Value}
 use Rattle.mg_revtree.specs.Revision.{Revision, same_revision}
-use Rattle.mg_revtree.specs.History.{Link, Leaf, Paths, is_known, has_child, is_at, newest_of, links, all_links, marked, leaf_order, ranked_with}
+use Rattle.mg_revtree.specs.History.{Link, Leaf, Paths, is_known, has_child, is_this, newest_of, links, all_links, marked, leaf_order, ranked_with}
 use Rattle.mg_revtree.specs.Tree.{leaf_in, AreApart}
 use Rattle.mg_revtree.proofs.Same.{two, same_is, same_refl, apart}
 use Rattle.mg_revtree.proofs.Ranks.{tied_same}
@@ -111,21 +111,21 @@ or_false : (a b : Bool) → a || b ≡ false → (a ≡ false) × (b ≡ false)
 or_false true b h = cc
 or_false false b h = (refl, h)
 
-pub head_known : (r : Revision) (rs : List Revision) → is_at r (newest_of rs) ≡ true → is_known r (links rs) ≡ true
+pub head_known : (r : Revision) (rs : List Revision) → is_this r (newest_of rs) ≡ true → is_known r (links rs) ≡ true
 head_known r [] h = cc
 head_known r (q ∷ qs) h = rw h refl
 
 run_child_known : (r : Revision) (rs : List Revision) → has_child r (links rs) ≡ true → is_known r (links rs) ≡ true
 run_child_known r [] h = cc
-run_child_known r (q ∷ qs) h = elim (two (is_at r (newest_of qs))) [
+run_child_known r (q ∷ qs) h = elim (two (is_this r (newest_of qs))) [
   | inl t ↦ rw (head_known r qs t) (or_true (same_revision r q))
   | inr f ↦ let k : has_child r (links qs) ≡ true = rw f at h in rw (run_child_known r qs k) (or_true (same_revision r q))
 ]
 
-run_leaf_newest : (r : Revision) (rs : List Revision) → is_known r (links rs) ≡ true → has_child r (links rs) ≡ false → is_at r (newest_of rs) ≡ true
+run_leaf_newest : (r : Revision) (rs : List Revision) → is_known r (links rs) ≡ true → has_child r (links rs) ≡ false → is_this r (newest_of rs) ≡ true
 run_leaf_newest r [] h k = cc
 run_leaf_newest r (q ∷ qs) h k =
-    let p = or_false (is_at r (newest_of qs)) (has_child r (links qs)) k in
+    let p = or_false (is_this r (newest_of qs)) (has_child r (links qs)) k in
     elim (two (same_revision r q)) [
       | inl t ↦ t
       | inr f ↦ let g : is_known r (links qs) ≡ true = rw f at h in absurd (let e : true ≡ false = sym (run_leaf_newest r qs g p.1) ∙ p.0 in cc)
@@ -148,7 +148,7 @@ pub unknown_unmarked : (r : Revision) (h : Paths) → is_known r (all_links h) �
 unknown_unmarked r [] e = refl
 unknown_unmarked r (p ∷ h) e =
     let f = or_false (is_known r (links p.revs)) (is_known r (all_links h)) (sym (known-append r (links p.revs) (all_links h)) ∙ e) in
-    elim (two (is_at r (newest_of p.revs))) [
+    elim (two (is_this r (newest_of p.revs))) [
       | inl t ↦ absurd (let g : true ≡ false = sym (head_known r p.revs t) ∙ f.0 in cc)
       | inr n ↦ rw n (unknown_unmarked r h f.1)
     ]
@@ -159,7 +159,7 @@ leaf_marked r [] e n = cc
 leaf_marked r (p ∷ h) e n =
     let f = or_false (has_child r (links p.revs)) (has_child r (all_links h)) (sym (has_child-append r (links p.revs) (all_links h)) ∙ n) in
     let k : is_known r (links p.revs) || is_known r (all_links h) ≡ true = sym (known-append r (links p.revs) (all_links h)) ∙ e in
-    elim (two (is_at r (newest_of p.revs))) [
+    elim (two (is_this r (newest_of p.revs))) [
       | inl t ↦ rw t refl
       | inr m ↦ elim (two (is_known r (links p.revs))) [
         | inl t ↦ absurd (let g : true ≡ false = sym (run_leaf_newest r p.revs t f.0) ∙ m in cc)

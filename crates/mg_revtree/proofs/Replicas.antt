@@ -4,7 +4,7 @@ use Rattle.std.specs.List.{list_all}
 use Rattle.mg_value.specs.Value.{Value}
 use Rattle.mg_revtree.specs.Revision.{Revision, run_from, same_revision}
 use Rattle.std.specs.Option.{option_or}
-use Rattle.mg_revtree.specs.History.{Path, Paths, Link, newest_of, agrees, are_held, fit, gives, is_whole, is_at, is_known, parent_of, has_child, marked, links, all_links, leaf_at}
+use Rattle.mg_revtree.specs.History.{Path, Paths, Link, newest_of, agrees, are_known_whole, fit, gives, is_known_whole, is_this, is_known, parent_of, has_child, marked, links, all_links, leaf_at}
 use Rattle.mg_revtree.specs.Changes.{found_of, path_of, with_path}
 use Rattle.mg_revtree.specs.Tree.{StandsFor, Tree}
 use Rattle.mg_revtree.specs.declared.error.Merged.TheVariants.{Known}
@@ -108,19 +108,19 @@ abbrev mark_in : Path → Bool × Value
 mark_in p = (p.deleted, p.body)
 
 -- a mark is that of a path
-marked_among : (r : Revision) (h : Paths) → is_some (marked r h) ≡ true → (p : Path) × Among p h × (is_at r (newest_of p.revs) ≡ true) × (marked r h ≡ Some (mark_in p))
+marked_among : (r : Revision) (h : Paths) → is_some (marked r h) ≡ true → (p : Path) × Among p h × (is_this r (newest_of p.revs) ≡ true) × (marked r h ≡ Some (mark_in p))
 marked_among r [] e = cc
-marked_among r (q ∷ h) e = elim (two (is_at r (newest_of q.revs))) [
+marked_among r (q ∷ h) e = elim (two (is_this r (newest_of q.revs))) [
   | inl t ↦ (q, inl refl, t, rw t refl)
   | inr n ↦ let k : is_some (marked r h) ≡ true = rw n at e in let d = marked_among r h k in (d.0, inr d.1, d.2, rw n (d.3))
 ]
 
-among_marked : (r : Revision) (h : Paths) (p : Path) → Among p h → is_at r (newest_of p.revs) ≡ true → is_some (marked r h) ≡ true
+among_marked : (r : Revision) (h : Paths) (p : Path) → Among p h → is_this r (newest_of p.revs) ≡ true → is_some (marked r h) ≡ true
 among_marked r [] p a e = absurd a
-among_marked r (q ∷ h) p a e = elim (two (is_at r (newest_of q.revs))) [
+among_marked r (q ∷ h) p a e = elim (two (is_this r (newest_of q.revs))) [
   | inl t ↦ rw t refl
   | inr n ↦ rw n (elim a [
-    | inl s ↦ absurd (let f : true ≡ false = sym (subst (λ (x : Path). is_at r (newest_of x.revs) ≡ true) s e) ∙ n in cc)
+    | inl s ↦ absurd (let f : true ≡ false = sym (subst (λ (x : Path). is_this r (newest_of x.revs) ≡ true) s e) ∙ n in cc)
     | inr b ↦ among_marked r h p b e
   ])
 ]
@@ -165,19 +165,19 @@ known_link r (k ∷ ls) e = elim (two (same_revision r k.rev)) [
   | inr f ↦ let g : is_known r ls ≡ true = rw f at e in let d = known_link r ls g in (d.0, inr d.1, d.2)
 ]
 
-child_link : (r : Revision) (ls : List Link) → has_child r ls ≡ true → (l : Link) × AmongLinks l ls × (is_at r l.parent ≡ true)
+child_link : (r : Revision) (ls : List Link) → has_child r ls ≡ true → (l : Link) × AmongLinks l ls × (is_this r l.parent ≡ true)
 child_link r [] e = cc
-child_link r (k ∷ ls) e = elim (two (is_at r k.parent)) [
+child_link r (k ∷ ls) e = elim (two (is_this r k.parent)) [
   | inl t ↦ (k, inl refl, t)
   | inr f ↦ let g : has_child r ls ≡ true = rw f at e in let d = child_link r ls g in (d.0, inr d.1, d.2)
 ]
 
 link_child : (r : Revision) (ls : List Link) (l : Link) → AmongLinks l ls → l.parent ≡ Some r → has_child r ls ≡ true
 link_child r [] l a e = absurd a
-link_child r (k ∷ ls) l (inl s) e = let f : k.parent ≡ Some r = subst (λ (x : Link). x.parent ≡ Some r) s e in let t : is_at r k.parent ≡ true = rw f (same_refl r) in or_left (is_at r k.parent) (has_child r ls) t
-link_child r (k ∷ ls) l (inr a) e = or_right (is_at r k.parent) (has_child r ls) (link_child r ls l a e)
+link_child r (k ∷ ls) l (inl s) e = let f : k.parent ≡ Some r = subst (λ (x : Link). x.parent ≡ Some r) s e in let t : is_this r k.parent ≡ true = rw f (same_refl r) in or_left (is_this r k.parent) (has_child r ls) t
+link_child r (k ∷ ls) l (inr a) e = or_right (is_this r k.parent) (has_child r ls) (link_child r ls l a e)
 
-at_some : (r : Revision) (o : Option Revision) → is_at r o ≡ true → o ≡ Some r
+at_some : (r : Revision) (o : Option Revision) → is_this r o ≡ true → o ≡ Some r
 at_some r None e = cc
 at_some r (Some q) e = ap Some (sym (same_is r q e))
 
@@ -201,7 +201,7 @@ gives_known None (Some r) q e is = cc
 gives_known (Some p) (Some r) q e is = let s : r ≡ q = cc in ap Some (same_is p r e ∙ s)
 
 -- each link of a path that is known whole: its revision is known, with the parent that it gives
-held_links : (known ls : List Link) → are_held known ls ≡ true → (l : Link) → AmongLinks l ls → (is_known l.rev known ≡ true) × ((q : Revision) → l.parent ≡ Some q → parent_of l.rev known ≡ Some q)
+held_links : (known ls : List Link) → are_known_whole known ls ≡ true → (l : Link) → AmongLinks l ls → (is_known l.rev known ≡ true) × ((q : Revision) → l.parent ≡ Some q → parent_of l.rev known ≡ Some q)
 held_links known ls e l a =
     let both = and_both (is_known l.rev known) (gives (parent_of l.rev known) l.parent) (all_true (λ m. is_known m.rev known && gives (parent_of m.rev known) m.parent) ls e l a) in
     (both.0, λ q is. gives_known (parent_of l.rev known) l.parent q both.1 is)
@@ -233,7 +233,7 @@ module _ (h : Paths) (p : Path) (whole : (l : Link) → AmongLinks l (links p.re
   whole_leaf : (r : Revision) → leaf_at r (with_path h p) ≡ leaf_at r h
   whole_leaf r = leaf_at-append r h p ∙ rw (or_same (has_child r (all_links h)) (has_child r (links p.revs)) (whole_child r)) (elim (two (has_child r (all_links h))) [
     | inl t ↦ rw t refl
-    | inr f ↦ rw f (elim (two (is_at r (newest_of p.revs))) [
+    | inr f ↦ rw f (elim (two (is_this r (newest_of p.revs))) [
       | inl n ↦ kept (marked r h) (mark_of r p) (leaf_marked r h (whole_known r (head_known r p.revs n)) f)
       | inr n ↦ rw n (or_none (marked r h))
     ])
@@ -262,7 +262,7 @@ nothing_is_lost h ps = record {
 }
 
 -- a tree stands for a history with a path that is known whole as it did before
-pub whole_stands : (t : Tree) (h : Paths) (rs : List Revision) (d : Bool) (b : Value) → is_whole h rs ≡ true → StandsFor t h → StandsFor t (with_path h (path_of rs d b))
+pub whole_stands : (t : Tree) (h : Paths) (rs : List Revision) (d : Bool) (b : Value) → is_known_whole h rs ≡ true → StandsFor t h → StandsFor t (with_path h (path_of rs d b))
 whole_stands t h rs d b e s =
     let same = known_changes_nothing h (path_of rs d b) e in
     record {
@@ -278,7 +278,7 @@ whole_stands t h rs d b e s =
     }
 
 -- the newest revision of a path that is known whole is known
-pub whole_found : (h : Paths) (n : ℕ) (ids : List (List ℕ)) → 0 < length ids → is_whole h (run_from n ids) ≡ true → Known ≡ found_of h (run_from n ids)
+pub whole_found : (h : Paths) (n : ℕ) (ids : List (List ℕ)) → 0 < length ids → is_known_whole h (run_from n ids) ≡ true → Known ≡ found_of h (run_from n ids)
 whole_found h n [] lt e = absurd (omega arith)
 whole_found h n (id ∷ ids) lt e =
     let rest = run_from (n - 1) ids in
@@ -291,9 +291,9 @@ agrees_held (Some p) None e = refl
 agrees_held (Some p) (Some q) e = e
 
 -- a path that is known whole fits
-pub whole_fits : (known ls : List Link) → are_held known ls ≡ true → fit known ls ≡ true
+pub whole_fits : (known ls : List Link) → are_known_whole known ls ≡ true → fit known ls ≡ true
 whole_fits known [] e = refl
 whole_fits known (l ∷ ls) e =
-    let both = and_both (is_known l.rev known && gives (parent_of l.rev known) l.parent) (are_held known ls) e in
+    let both = and_both (is_known l.rev known && gives (parent_of l.rev known) l.parent) (are_known_whole known ls) e in
     let a : agrees (parent_of l.rev known) l.parent ≡ true = agrees_held (parent_of l.rev known) l.parent (and_both (is_known l.rev known) (gives (parent_of l.rev known) l.parent) both.0).1 in
     rw a (whole_fits known ls both.1)

@@ -5,7 +5,7 @@ use Rattle.std.specs.Cmp.Lexicographic.{slice_cmp}
 use Rattle.std.proofs.lemmas.List.{drop_more, drop_all, get_or-map}
 use Rattle.std.proofs.lemmas.Bool.Decides.{nat_tests}
 use Rattle.mg_revtree.specs.Revision.{Revision, is_revision_id, run_from, run_of, same_revision}
-use Rattle.mg_revtree.specs.History.{Link, is_at, links, has_child, is_known, newest_of}
+use Rattle.mg_revtree.specs.History.{Link, is_this, links, has_child, is_known, newest_of}
 use Rattle.mg_revtree.proofs.Same.{two, same_is, same_at}
 
 module _ {X : Type 0} (f : X → List ℕ) where
@@ -78,7 +78,7 @@ no_child_below n (a ∷ b ∷ ids) r le fits = elim (two (same_revision r (n - 1
 
 -- the newest of a path is no parent in it
 abbrev pub IsRun : List Revision → Type 0
-IsRun rs = (r : Revision) → is_at r (newest_of rs) ≡ true → has_child r (links rs) ≡ false
+IsRun rs = (r : Revision) → is_this r (newest_of rs) ≡ true → has_child r (links rs) ≡ false
 
 -- the newest of a run is no parent in it
 pub run_is : (n : ℕ) (ids : List (List ℕ)) → length ids ≤ n + 1 → IsRun (run_from n ids)

@@ -3,7 +3,7 @@ use Rattle.std.proofs.Common.{◌≡◌, Bool, true, false, not, ◌||◌, if◌
 use Rattle.mg_value.specs.Value.{Value}
 use Rattle.mg_revtree.specs.Revision.{Revision, same_revision}
 use Rattle.std.specs.Option.{option_or}
-use Rattle.mg_revtree.specs.History.{Link, Leaf, Path, Paths, is_known, has_child, is_at, newest_of, links, all_links, marked, leaf_at, ranked_with}
+use Rattle.mg_revtree.specs.History.{Link, Leaf, Path, Paths, is_known, has_child, is_this, newest_of, links, all_links, marked, leaf_at, ranked_with}
 use Rattle.mg_revtree.specs.Tree.{StandsFor, AreNodes, node, find, leaf_in}
 use Rattle.mg_revtree.specs.Changes.{path_of, with_path}
 use Rattle.mg_revtree.proofs.Same.{two, same_is}
@@ -14,11 +14,11 @@ use Rattle.mg_revtree.proofs.Leaves.{apart-filter, apart-with, leaf_in-filter, l
 
 -- what the newest path says, if no other does
 abbrev pub mark_of : Revision → Path → Option (Bool × Value)
-mark_of r p = if is_at r (newest_of p.revs) then Some (p.deleted, p.body) else None
+mark_of r p = if is_this r (newest_of p.revs) then Some (p.deleted, p.body) else None
 
 marked-append : (r : Revision) (h : Paths) (p : Path) → marked r (h ++ p ∷ []) ≡ option_or (marked r h) (mark_of r p)
 marked-append r [] p = refl
-marked-append r (q ∷ h) p = elim (two (is_at r (newest_of q.revs))) [ inl t ↦ rw t refl | inr f ↦ rw f (marked-append r h p) ]
+marked-append r (q ∷ h) p = elim (two (is_this r (newest_of q.revs))) [ inl t ↦ rw t refl | inr f ↦ rw f (marked-append r h p) ]
 
 pub all_links-one : (h : Paths) (p : Path) → all_links (h ++ p ∷ []) ≡ all_links h ++ links p.revs
 all_links-one h p = all_links-append h (p ∷ []) ∙ ap (λ ls. all_links h ++ ls) (append-nil (links p.revs))
@@ -34,7 +34,7 @@ or_else_none : {A : Type 0} (a : Option A) → a ≡ option_or a None
 or_else_none None = refl
 or_else_none (Some x) = refl
 
-is_at_is : (r q : Revision) (o : Option Revision) → o ≡ Some q → is_at r o ≡ true → r ≡ q
+is_at_is : (r q : Revision) (o : Option Revision) → o ≡ Some q → is_this r o ≡ true → r ≡ q
 is_at_is r q None e h = cc
 is_at_is r q (Some s) e h = let f : s ≡ q = cc in same_is r s h ∙ f
 
@@ -51,7 +51,7 @@ module _ (h : Paths) (p : Path) (q : Revision) (newest : newest_of p.revs ≡ So
     | inl t ↦ elim (two (has_child r (all_links h))) [ inl u ↦ rw (t, u) refl | inr u ↦ rw (t, u) refl ]
     | inr f ↦ elim (two (has_child r (all_links h))) [
       | inl u ↦ rw (f, u) refl
-      | inr u ↦ rw (f, u) (elim (two (is_at r (newest_of p.revs))) [
+      | inr u ↦ rw (f, u) (elim (two (is_this r (newest_of p.revs))) [
         | inl n ↦
             let e : q ≡ r = sym (is_at_is r q (newest_of p.revs) newest n) in
             or_else_some (marked r h) (mark_of r p) (leaf_marked r h (subst (λ (x : Revision). is_known x (all_links h) ≡ true) e k) u)
@@ -71,7 +71,7 @@ module _ (h : Paths) (p : Path) (q : Revision) (newest : newest_of p.revs ≡ So
   leaves-new run k r = rw (kept_leaf r, leaf_at-append r h p) (elim (two (same_revision r q)) [
     | inl t ↦
         let e : q ≡ r = sym (same_is r q t) in
-        let n : is_at r (newest_of p.revs) ≡ true = rw newest t in
+        let n : is_this r (newest_of p.revs) ≡ true = rw newest t in
         let v : is_known r (all_links h) ≡ false = subst (λ (x : Revision). is_known x (all_links h) ≡ false) e k in
         let c : has_child r (all_links h) ≡ false = elim (two (has_child r (all_links h))) [
           | inl u ↦ absurd (let g : true ≡ false = sym (child_known r h u) ∙ v in cc)
@@ -79,7 +79,7 @@ module _ (h : Paths) (p : Path) (q : Revision) (newest : newest_of p.revs ≡ So
         ] in
         rw (t, c, run r n, unknown_unmarked r h v, n) refl
     | inr f ↦
-        let n : is_at r (newest_of p.revs) ≡ false = rw newest f in
+        let n : is_this r (newest_of p.revs) ≡ false = rw newest f in
         elim (two (has_child r (links p.revs))) [
           | inl t ↦ elim (two (has_child r (all_links h))) [ inl u ↦ rw (f, t, u) refl | inr u ↦ rw (f, t, u) refl ]
           | inr g ↦ elim (two (has_child r (all_links h))) [

@@ -3,7 +3,7 @@ use Rattle.std.proofs.Common.{◌≡◌, Bool, true, false, Option, Some, None, 
 use Rattle.std.specs.List.{filter_map, cons_option}
 use Rattle.mg_value.specs.Value.{Value}
 use Rattle.mg_revtree.specs.Revision.{Revision}
-use Rattle.mg_revtree.specs.History.{Leaf, Paths, newest_of, is_at, has_child, all_links, marked, leaf_at, leaf_of, IsLeaf, tip_of}
+use Rattle.mg_revtree.specs.History.{Leaf, Paths, newest_of, is_this, has_child, all_links, marked, leaf_at, leaf_of, IsLeaf, tip_of}
 use Rattle.mg_revtree.proofs.Same.{two, same_is}
 
 abbrev pub Has : Leaf → List Leaf → Type 0
@@ -31,12 +31,12 @@ has_more b (Some l) ls a = inr a
 
 pub tips_have : (h g : Paths) (b : Leaf) → IsLeaf h b → is_some (marked b.rev g) ≡ true → Has b (filter_map (tip_of h) g)
 tips_have h [] b leaf e = cc
-tips_have h (p ∷ g) b leaf e = elim (two (is_at b.rev (newest_of p.revs))) [
+tips_have h (p ∷ g) b leaf e = elim (two (is_this b.rev (newest_of p.revs))) [
   | inl t ↦ newest (newest_of p.revs) t
   | inr f ↦ let k : is_some (marked b.rev g) ≡ true = rw f at e in has_more b (tip_of h p) (filter_map (tip_of h) g) (tips_have h g b leaf k)
 ]
   where
-    newest : (o : Option Revision) → is_at b.rev o ≡ true → Has b (cons_option (option_and_then (leaf_of h) o) (filter_map (tip_of h) g))
+    newest : (o : Option Revision) → is_this b.rev o ≡ true → Has b (cons_option (option_and_then (leaf_of h) o) (filter_map (tip_of h) g))
     newest None t = cc
     newest (Some r) t =
         let s : r ≡ b.rev = sym (same_is b.rev r t) in

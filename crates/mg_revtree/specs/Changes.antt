@@ -20,7 +20,7 @@ with_path h p = h ++ p ∷ []
 
 -- ---- a path of a replica
 
--- whether the newest revision of a run is known
+-- whether an optional revision is known; false if there is none
 abbrev pub knows : Paths → Option Revision → Bool
 knows h None = false
 knows h (Some r) = is_known r (all_links h)
@@ -54,7 +54,7 @@ run_over r (Some q) = r ∷ q ∷ []
 abbrev pub extension : Option Revision → List ℕ → Bool → Value → Path
 extension base id d b = path_of (run_over (next_revision base id) base) d b
 
--- the position of a new revision, if it may be made there
+-- the position of a new revision over a base, or why it may not be made
 abbrev pub next_position : Paths → Option Revision → Result ℕ TreeRefusal
 next_position h base =
     if not (may_extend h base) then Err NotLeaf

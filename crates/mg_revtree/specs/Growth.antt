@@ -18,7 +18,7 @@ first_tree leaf = record { links = record { rev = leaf.rev; parent = None } ∷ 
 abbrev pub line_tree : List Link → Leaf → Tree
 line_tree known leaf = record { links = known; leaves = leaf ∷ [] }
 
--- the tree that has grown so far
+-- the tree that a `Growth` keeps
 abbrev pub tree_in : Growth → Tree
 tree_in Empty = empty_tree
 tree_in (First leaf) = first_tree leaf
@@ -40,7 +40,7 @@ is_run_of q [] = false
 is_run_of q (r ∷ []) = same_revision r q
 is_run_of q (r ∷ s ∷ rs) = false
 
--- the tree of a line that goes on, or of the lists that take its place
+-- the tree after a line has accepted a run: that of the lists that replace the line, or else of the line itself
 abbrev pub after_line : Option Tree → List Link → Leaf → Tree
 after_line None known leaf = line_tree known leaf
 after_line (Some grown) known leaf = grown

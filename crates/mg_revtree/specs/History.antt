@@ -48,13 +48,13 @@ parent_of r [] = None
 parent_of r (l ∷ ls) = if same_revision r l.rev then option_or l.parent (parent_of r ls) else parent_of r ls
 
 -- whether an optional revision is this one
-abbrev pub is_at : Revision → Option Revision → Bool
-is_at r None = false
-is_at r (Some q) = same_revision r q
+abbrev pub is_this : Revision → Option Revision → Bool
+is_this r None = false
+is_this r (Some q) = same_revision r q
 
 -- whether a revision is the parent of another
 abbrev pub has_child : Revision → List Link → Bool
-has_child r = list_any (λ l. is_at r l.parent)
+has_child r = list_any (λ l. is_this r l.parent)
 
 -- ---- leaves and the winner
 
@@ -67,13 +67,13 @@ pub record Leaf : Type 0 where
 -- the mark and body of the first path of which r is the newest
 abbrev pub marked : Revision → Paths → Option (Bool × Value)
 marked r [] = None
-marked r (p ∷ h) = if is_at r (newest_of p.revs) then Some (p.deleted, p.body) else marked r h
+marked r (p ∷ h) = if is_this r (newest_of p.revs) then Some (p.deleted, p.body) else marked r h
 
 -- the mark and body of a leaf: a known revision that is nobody's parent
 abbrev pub leaf_at : Revision → Paths → Option (Bool × Value)
 leaf_at r h = if has_child r (all_links h) then None else marked r h
 
--- the leaf at a revision, if it is one
+-- the leaf at a revision, if the revision is a leaf
 abbrev pub leaf_of : Paths → Revision → Option Leaf
 leaf_of h r = option_map (λ m. record { rev = r; deleted = m.0; body = m.1 }) (leaf_at r h)
 
@@ -137,9 +137,9 @@ gives None (Some q) = false
 gives (Some p) (Some q) = same_revision p q
 
 -- whether all links are known: each revision with its given parent
-abbrev pub are_held : List Link → List Link → Bool
-are_held known ls = list_all (λ l. is_known l.rev known && gives (parent_of l.rev known) l.parent) ls
+abbrev pub are_known_whole : List Link → List Link → Bool
+are_known_whole known ls = list_all (λ l. is_known l.rev known && gives (parent_of l.rev known) l.parent) ls
 
 -- whether a path of these revisions is known whole
-abbrev pub is_whole : Paths → List Revision → Bool
-is_whole h rs = are_held (all_links h) (links rs)
+abbrev pub is_known_whole : Paths → List Revision → Bool
+is_known_whole h rs = are_known_whole (all_links h) (links rs)

@@ -6,7 +6,7 @@ use Rattle.std.specs.Option.{option_or}
 use Rattle.mg_revtree.specs.Revision.{Revision, revision_order}
 use Rattle.mg_revtree.specs.History.{Link}
 
--- sorted links with one more: if its revision is there, that gets its parent if none is known; else the link goes to its place
+-- sorted links with one more: if one of them has its revision, that one gets the parent, unless it has one; else the link is inserted in order
 abbrev pub with_link : Link → List Link → List Link
 with_link l [] = l ∷ []
 with_link l (m ∷ ms) = match_ordering (revision_order l.rev m.rev) (l ∷ m ∷ ms) (record m { parent = option_or m.parent l.parent } ∷ ms) (m ∷ with_link l ms)

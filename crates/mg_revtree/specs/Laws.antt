@@ -2,7 +2,7 @@
 use Rattle.std.specs.Prelude.{◌≡◌, ℕ, ◌+◌, Bool, Option, None, List, [], ◌∷◌, ◌++◌, ◌⊎◌, true, false, Some}
 use Rattle.mg_value.specs.Value.{Value}
 use Rattle.mg_revtree.specs.Revision.{Revision, run_of}
-use Rattle.mg_revtree.specs.History.{Path, Paths, Link, Leaf, newest_of, is_at, all_links, is_known, parent_of, leaf_at, leaf_order, leaves_of, winner_of, fits, is_whole, IsLeaf}
+use Rattle.mg_revtree.specs.History.{Path, Paths, Link, Leaf, newest_of, is_this, all_links, is_known, parent_of, leaf_at, leaf_order, leaves_of, winner_of, fits, is_known_whole, IsLeaf}
 use Rattle.mg_revtree.specs.Changes.{with_path, extension}
 use Rattle.mg_revtree.specs.Tree.{AreLeaves, AreLosers}
 use Rattle.mg_revtree.specs.Losers.{losers_of}
@@ -22,7 +22,7 @@ pub record SamePaths (h g : Paths) : Type 0 where
 
 -- paths with the same newest revision have the same mark and body
 abbrev pub SameMarks : Paths → Type 0
-SameMarks h = (r : Revision) (p q : Path) → Among p h → Among q h → is_at r (newest_of p.revs) ≡ true → is_at r (newest_of q.revs) ≡ true → (p.deleted ≡ q.deleted) × (p.body ≡ q.body)
+SameMarks h = (r : Revision) (p q : Path) → Among p h → Among q h → is_this r (newest_of p.revs) ≡ true → is_this r (newest_of q.revs) ≡ true → (p.deleted ≡ q.deleted) × (p.body ≡ q.body)
 
 -- the link is one of these
 abbrev pub AmongLinks : Link → List Link → Type 0
@@ -59,14 +59,14 @@ AcceptedInEveryOrder = (h ps : List Path) → OneParent (all_links (h ++ ps)) �
 
 -- one more path that is known whole changes nothing
 abbrev pub KnownChangesNothing : Type 0
-KnownChangesNothing = (h : Paths) (p : Path) → is_whole h p.revs ≡ true → Agree (with_path h p) h
+KnownChangesNothing = (h : Paths) (p : Path) → is_known_whole h p.revs ≡ true → Agree (with_path h p) h
 
 -- each known revision of h is known in g, and each known parent is the same
 pub record Keeps (h g : Paths) : Type 0 where
   pub revisions : (r : Revision) → is_known r (all_links h) ≡ true → is_known r (all_links g) ≡ true
   pub parents : (r q : Revision) → parent_of r (all_links h) ≡ Some q → parent_of r (all_links g) ≡ Some q
 
--- a revision that is known stays known, whatever is accepted later
+-- known revisions stay known and known parents stay the same, whatever is accepted later
 abbrev pub NothingIsLost : Type 0
 NothingIsLost = (h : Paths) (ps : List Path) → Keeps h (h ++ ps)
 
@@ -97,7 +97,7 @@ Falls [] = Unit {0}
 Falls (r ∷ []) = Unit {0}
 Falls (r ∷ q ∷ rs) = (r.0 ≡ q.0 + 1) × Falls (q ∷ rs)
 
--- the positions fall in each run that a replica gives, and in a new revision over its parent
+-- the positions fall in each run that a replica gives, and in the path of each new revision
 pub record PathsFall : Type 0 where
   pub runs : (n : ℕ) (ids : List (List ℕ)) (rs : List Revision) → run_of n ids ≡ Some rs → Falls rs
   pub extensions : (base : Option Revision) (id : List ℕ) (d : Bool) (b : Value) → Falls (extension base id d b).revs

@@ -16,7 +16,7 @@ abbrev pub AreFrom : ℕ → List Link → Type 0
 AreFrom n [] = Unit {0}
 AreFrom n (l ∷ ls) = (n ≤ l.rev.0) × AreFrom n ls
 
--- the nodes after a join: they hold the link of the joined node, are sorted, and after the room are at its position or above
+-- the nodes after a node is joined: sorted, they hold its link and the old links; those after the room are at its position or above
 pub record Joins (texts : List ℕ) (x : Node) (old new after : List Node) : Type 0 where
   pub kept : (r : Revision) → find r (links_in texts new) ≡ put (link_in texts x) r (find r (links_in texts old))
   pub sorted : AreSorted (links_in texts new)

@@ -34,9 +34,9 @@ agrees_found None q = true
 agrees_found (Some p) q = agrees p q
 
 -- whether a looked-up revision is known, and with the given parent if there is one
-abbrev pub held_found : Option (Option Revision) → Option Revision → Bool
-held_found None q = false
-held_found (Some p) q = gives p q
+abbrev pub known_found : Option (Option Revision) → Option Revision → Bool
+known_found None q = false
+known_found (Some p) q = gives p q
 
 -- a leaf with this mark and revision; its body does not matter
 abbrev pub marked_as : Bool → Revision → Leaf

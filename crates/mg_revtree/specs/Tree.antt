@@ -5,7 +5,7 @@ use Rattle.std.specs.declared.cmp.Ordering.TheVariants.{Less}
 use Rattle.mg_value.specs.Value.{Value}
 use Rattle.mg_value.specs.Code.{value_code}
 use Rattle.mg_revtree.specs.Revision.{Revision, revision_order, same_revision}
-use Rattle.mg_revtree.specs.History.{Paths, Link, Leaf, all_links, is_known, parent_of, leaf_at, leaf_order, winner_of, is_at}
+use Rattle.mg_revtree.specs.History.{Paths, Link, Leaf, all_links, is_known, parent_of, leaf_at, leaf_order, winner_of, is_this}
 
 -- what a tree keeps: each known revision once with its parent, and the leaves
 pub record Tree : Type 0 where
@@ -68,7 +68,7 @@ pub record AreLeaves (h : Paths) (ls : List Leaf) : Type 0 where
 
 -- the mark and body of a loser: a leaf beside the winner that is not deleted
 abbrev pub loser_at : Revision → Paths → Option (Bool × Value)
-loser_at r h = if is_at r (option_map (λ l. l.rev) (winner_of h)) then None else option_and_then (λ m. if not m.0 then Some m else None) (leaf_at r h)
+loser_at r h = if is_this r (option_map (λ l. l.rev) (winner_of h)) then None else option_and_then (λ m. if not m.0 then Some m else None) (leaf_at r h)
 
 -- the losers of a history, each once, best first
 pub record AreLosers (h : Paths) (ls : List Leaf) : Type 0 where

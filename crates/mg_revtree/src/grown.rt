@@ -56,8 +56,8 @@ impl Grown {
         ensures { IfOk result
             (λ grown. (h : Paths) → StandsFor (first_tree first.now) h → StandsFor grown h) }
     {
-        let links = links_of(alloc, &first.leaf().rev)?;
-        let leaves = leaves_of(alloc, first)?;
+        let links = links_of_first(alloc, &first.leaf().rev)?;
+        let leaves = list_of_leaf(alloc, first)?;
         Ok(Grown { links, leaves })
     }
 
@@ -67,7 +67,7 @@ impl Grown {
     {
         Ok(Grown {
             links: known.copy(alloc)?,
-            leaves: leaves_of(alloc, leaf)?,
+            leaves: list_of_leaf(alloc, leaf)?,
         })
     }
 
@@ -77,7 +77,7 @@ impl Grown {
     {
         Ok(Grown {
             links: KnownLinks::new(alloc),
-            leaves: leaves_of(alloc, leaf)?,
+            leaves: list_of_leaf(alloc, leaf)?,
         })
     }
 
@@ -150,7 +150,7 @@ impl Grown {
 }
 
 // The known revisions of a tree of this revision alone.
-fn links_of(alloc: Global, rev: &Rev) -> Result<KnownLinks, NoMemory>
+fn links_of_first(alloc: Global, rev: &Rev) -> Result<KnownLinks, NoMemory>
     ensures { IfOk result (λ known. AreNodes known (links (rev.now ∷ []))) }
 {
     let mut known = KnownLinks::new(alloc);
@@ -160,7 +160,7 @@ fn links_of(alloc: Global, rev: &Rev) -> Result<KnownLinks, NoMemory>
 }
 
 /// The list of this leaf alone, with capacity for one more.
-pub(crate) fn leaves_of(alloc: Global, first: &SharedLeaf) -> Result<Vec<SharedLeaf>, NoMemory>
+pub(crate) fn list_of_leaf(alloc: Global, first: &SharedLeaf) -> Result<Vec<SharedLeaf>, NoMemory>
     ensures { IfOk result (λ leaves. leaves.items ≡ first.now ∷ []) }
 {
     let mut leaves = Vec::with_capacity(alloc, 2)?;

@@ -2,7 +2,7 @@
 ghost use Rattle.std.specs.Prelude.{◌≡◌, ◌<◌, ◌≤◌, ◌+◌, List, IfOk, IfSome, OnErr, OnOk, is_some, length, map, option_map, string_bytes};
 ghost use Rattle.mg_revtree.specs.Revision.{run_from};
 ghost use Rattle.mg_revtree.specs.Body.{IsFormOf};
-ghost use Rattle.mg_revtree.specs.History.{Paths, Link, are_held, first_of, fit, links};
+ghost use Rattle.mg_revtree.specs.History.{Paths, Link, are_known_whole, first_of, fit, links};
 ghost use Rattle.mg_revtree.specs.Growth.{after_line, first_tree, is_empty, is_run_of, line_tree, tree_in};
 ghost use Rattle.mg_revtree.specs.Tree.{AreNodes, AreSorted, StandsFor, find};
 ghost use Rattle.mg_revtree.specs.Changes.{found_of, path_of, with_path};
@@ -88,7 +88,7 @@ impl Growth {
     pub fn knows_whole(&self, start: u32, ids: &[String]) -> bool
         requires { 0 < length ids.now }
         ensures { (ls : List Link) → AreNodes (tree_in self.now).links ls
-            → result ≡ are_held ls (links (run_from start (map string_bytes ids.now))) }
+            → result ≡ are_known_whole ls (links (run_from start (map string_bytes ids.now))) }
     {
         match self {
             Growth::Empty => false,

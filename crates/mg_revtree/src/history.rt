@@ -4,7 +4,7 @@ ghost use Rattle.mg_revtree.specs.Revision.{is_revision_id, run_from, run_of};
 ghost use Rattle.mg_revtree.specs.History.{newest_of};
 
 use crate::rev_id::RevId;
-use crate::revision::{Rev, is_id};
+use crate::revision::{Rev, is_rev_id};
 use mg_value::{NoMemory, copy_texts};
 use std::alloc::Global;
 use std::marker::Model;
@@ -86,5 +86,5 @@ impl History {
 fn are_ids(ids: &[String]) -> bool
     ensures { result ≡ list_all (λ id. is_revision_id (string_bytes id)) ids.now }
 {
-    ids.iter().all(|id| is_id(id))
+    ids.iter().all(|id| is_rev_id(id))
 }

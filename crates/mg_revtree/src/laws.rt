@@ -32,7 +32,7 @@ pub fn deleted_do_not_win()
     ensures { DeletedDoNotWin }
 {}
 
-/// The definition lists the leaves and the losers of a history, each once and best first. No other list does so.
+/// `leaves_of` and `losers_of` list the leaves and the losers of a history, each once and best first. No other list does so.
 pub fn leaves_are_listed()
     ensures { LeavesAreListed }
 {}

@@ -18,7 +18,7 @@ pub struct Leaf {
     pub rev: Rev,
     /// Whether the revision deletes the document.
     pub deleted: bool,
-    /// The body, in one block of memory.
+    /// The body, in at most one block of memory.
     pub body: Body,
 }
 

@@ -78,7 +78,7 @@ fn place_for(leaves: &[SharedLeaf], leaf: &Leaf) -> Result<usize, usize>
     leaves.binary_search_by(|other| leaf.order(other.leaf()))
 }
 
-// The place where a leaf goes whose revision is not among these leaves.
+// The place for a leaf whose revision none of these leaves has.
 fn rank(leaves: &[SharedLeaf], leaf: &Leaf) -> usize
     ensures within { result ≤ length leaves.now }
     ensures ranked { AreRanked leaves.now → leaf_in leaf.now.rev leaves.now ≡ None
@@ -90,7 +90,7 @@ fn rank(leaves: &[SharedLeaf], leaf: &Leaf) -> usize
     }
 }
 
-/// Adds a leaf whose revision is not among them. The vector has the capacity for it. Cost: the logarithm of the leaves, and
+/// Adds a leaf whose revision none of the leaves has. The vector must have capacity for it. Cost: the logarithm of the leaves, and
 /// a move of one pointer for each worse leaf.
 pub fn add_leaf(leaves: &mut Vec<SharedLeaf>, leaf: SharedLeaf)
     requires { vec_len leaves.old < vec_capacity leaves.old }

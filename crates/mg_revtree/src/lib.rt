@@ -23,5 +23,5 @@ pub use form::Form;
 pub use history::History;
 pub use leaf::Leaf;
 pub use rev_id::RevId;
-pub use revision::{Rev, is_id};
+pub use revision::{Rev, is_rev_id};
 pub use tree::RevTree;

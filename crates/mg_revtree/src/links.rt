@@ -11,4 +11,4 @@ mod parts;
 mod room;
 
 pub(crate) use known::KnownLinks;
-pub(crate) use lookup::{LookUp, all_agree, all_held};
+pub(crate) use lookup::{LookUp, all_agree, all_known};

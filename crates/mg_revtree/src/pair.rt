@@ -2,16 +2,16 @@
 ghost use Rattle.std.specs.Prelude.{◌≡◌, ◌<◌, List, IfOk, IfSome, is_some, map, string_bytes};
 ghost use Rattle.mg_revtree.specs.Revision.{run_from};
 ghost use Rattle.mg_revtree.specs.Body.{IsFormOf};
-ghost use Rattle.mg_revtree.specs.History.{Link, are_held, first_of, fit, links};
+ghost use Rattle.mg_revtree.specs.History.{Link, are_known_whole, first_of, fit, links};
 ghost use Rattle.mg_revtree.specs.Growth.{line_tree};
 ghost use Rattle.mg_revtree.specs.Pair.{pair_links};
 ghost use Rattle.mg_revtree.specs.Tree.{AreNodes, find};
 
 use crate::form::Form;
-use crate::grown::{Grown, leaves_of};
+use crate::grown::{Grown, list_of_leaf};
 use crate::leaf::SharedLeaf;
-use crate::links::{KnownLinks, LookUp, all_agree, all_held};
-use crate::rev_id::digest_of;
+use crate::links::{KnownLinks, LookUp, all_agree, all_known};
+use crate::rev_id::inline_bytes;
 use crate::revision::Rev;
 use mg_value::NoMemory;
 use std::alloc::Global;
@@ -83,9 +83,9 @@ impl Pair {
     /// gives them. Takes no memory. Cost: the length of the run.
     pub fn knows_whole(&self, start: u32, ids: &[String]) -> bool
         ensures { (ls : List Link) → AreNodes self.now.links ls
-            → result ≡ are_held ls (links (run_from start (map string_bytes ids.now))) }
+            → result ≡ are_known_whole ls (links (run_from start (map string_bytes ids.now))) }
     {
-        all_held(self, start, ids)
+        all_known(self, start, ids)
     }
 
     /// Moves the leaf's body into the block of its form, if no copy of the tree shares the leaf. Takes no memory.
@@ -111,7 +111,7 @@ impl Pair {
         ensures { IfOk result (λ grown. grown ≡ self.now) }
     {
         let links = KnownLinks::of_pair(alloc, &self.leaf.leaf().rev, self.parent.as_slice())?;
-        let leaves = leaves_of(alloc, &self.leaf)?;
+        let leaves = list_of_leaf(alloc, &self.leaf)?;
         Ok(Grown { links, leaves })
     }
 }
@@ -138,7 +138,7 @@ fn parent_of(rev: &Rev, known: &KnownLinks) -> Option<[u8; 32]>
     ensures { IfSome result (λ parent. (0 < rev.now.0) × (known.now ≡ pair_links rev.now parent)) }
 {
     match known.parent_in_pair(rev) {
-        Some(id) => digest_of(id),
+        Some(id) => inline_bytes(id),
         None => None,
     }
 }

@@ -7,14 +7,14 @@ use std::alloc::Global;
 use std::marker::Model;
 
 // An id of exactly this many bytes has no block.
-const DIGEST_BYTES: usize = 32;
+const INLINE: usize = 32;
 
 const _: () = prove!(size_of::<RevId>() == 40);
 
 #[derive(Debug, Drop)]
 pub(crate) enum HeldRevId {
-    Digest([u8; 32]),
-    Text(String),
+    Inline([u8; 32]),
+    Block(String),
 }
 
 /// The id of a revision. An id of exactly 32 bytes is stored in the value itself, since a block for each id would take more memory; each
@@ -76,10 +76,10 @@ impl RevId {
 }
 
 /// The bytes as an array, if there are 32 of them. Takes no memory.
-pub(crate) fn digest_of(bytes: &[u8]) -> Option<[u8; 32]>
+pub(crate) fn inline_bytes(bytes: &[u8]) -> Option<[u8; 32]>
     ensures { IfSome result (λ digest. digest ≡ bytes.now) }
 {
-    if bytes.len() != DIGEST_BYTES {
+    if bytes.len() != INLINE {
         return None;
     }
     let mut digest = [0u8; 32];
@@ -91,9 +91,9 @@ fn hold(id: String) -> HeldRevId
     ensures bytes { held_id result ≡ string_bytes id }
     ensures text { IsText result }
 {
-    match digest_of(id.as_bytes()) {
-        Some(digest) => HeldRevId::Digest(digest),
-        None => HeldRevId::Text(id),
+    match inline_bytes(id.as_bytes()) {
+        Some(digest) => HeldRevId::Inline(digest),
+        None => HeldRevId::Block(id),
     }
 }
 
@@ -101,9 +101,9 @@ fn hold_copy(alloc: Global, id: &str) -> Result<HeldRevId, NoMemory>
     ensures bytes { IfOk result (λ held. held_id held ≡ id.now) }
     ensures text { IfOk result (λ held. IsText held) }
 {
-    match digest_of(id.as_bytes()) {
-        Some(digest) => Ok(HeldRevId::Digest(digest)),
-        None => Ok(HeldRevId::Text(String::from_str(alloc, id)?)),
+    match inline_bytes(id.as_bytes()) {
+        Some(digest) => Ok(HeldRevId::Inline(digest)),
+        None => Ok(HeldRevId::Block(String::from_str(alloc, id)?)),
     }
 }
 
@@ -112,7 +112,7 @@ fn lend(held: &HeldRevId) -> &str
     ensures { result.now ≡ held_id held.now }
 {
     match held {
-        HeldRevId::Digest(digest) => unsafe { str::from_utf8_unchecked(digest.as_slice()) },
-        HeldRevId::Text(id) => id,
+        HeldRevId::Inline(digest) => unsafe { str::from_utf8_unchecked(digest.as_slice()) },
+        HeldRevId::Block(id) => id,
     }
 }

@@ -41,7 +41,7 @@ impl Rev {
         let Some((number, id)) = text.split_once('-') else {
             return Err(RevError::Bad);
         };
-        if !is_id(id) {
+        if !is_rev_id(id) {
             return Err(RevError::Bad);
         }
         let Some(pos) = position(number) else {
@@ -98,7 +98,7 @@ impl Rev {
 }
 
 /// Whether a text is the id of a revision: one or more characters `!` to `~`. Cost: its length.
-pub fn is_id(id: &str) -> bool
+pub fn is_rev_id(id: &str) -> bool
     ensures { result ≡ is_revision_id id.now }
 {
     !id.is_empty() && are_id_bytes(id.as_bytes())

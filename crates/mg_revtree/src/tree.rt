@@ -1,7 +1,7 @@
 ghost use Rattle.std.specs.Prelude.{◌≡◌, ◌+◌, ◌<◌, ◌≤◌, [], Err, IfOk, IfSome, IsOk, IsOkUnless, Ok, OnErr, OnOk, false, is_some, length, map, option_copied, string_bytes, true};
 ghost use Rattle.mg_revtree.specs.Revision.{run_from};
 ghost use Rattle.mg_revtree.specs.Body.{IsFormOf};
-ghost use Rattle.mg_revtree.specs.History.{Paths, first_of, fits, is_whole, leaves_of, winner_of};
+ghost use Rattle.mg_revtree.specs.History.{Paths, first_of, fits, is_known_whole, leaves_of, winner_of};
 ghost use Rattle.mg_revtree.specs.Growth.{empty_tree, first_tree};
 ghost use Rattle.mg_revtree.specs.Tree.{AreLeaves, AreLosers, AreRanked, StandsFor};
 ghost use Rattle.mg_revtree.specs.Losers.{losers_of};
@@ -160,7 +160,7 @@ impl RevTree {
     /// Whether a path is known whole: each of its revisions is known, with the parent that the path gives it. To merge such a
     /// path changes nothing. Takes no memory. Cost: as for `fits`, up to the first revision that is not known with its parent.
     pub fn knows_whole(&self, path: &History) -> bool
-        ensures { (h : Paths) → StandsFor self.now h → result ≡ is_whole h path.now }
+        ensures { (h : Paths) → StandsFor self.now h → result ≡ is_known_whole h path.now }
     {
         let (start, ids) = path.run();
         self.growth.knows_whole(start, ids)
@@ -207,7 +207,7 @@ impl RevTree {
             → IsOkUnless result MergeError.NoMemory }
         ensures refused { (h : Paths) → StandsFor self.old h → fits h path.now ≡ false
             → result ≡ Err MergeError.BadHistory }
-        ensures whole { (h : Paths) → StandsFor self.old h → is_whole h path.now ≡ true
+        ensures whole { (h : Paths) → StandsFor self.old h → is_known_whole h path.now ≡ true
             → (result ≡ Ok Merged.Known) × (self.new ≡ self.old) }
         ensures err { OnErr result (self.new ≡ self.old) }
     {
@@ -262,7 +262,7 @@ impl RevTree {
     }
 
     /// Makes a new revision over the leaf `parent`; without a parent, at position 1 in a tree without leaves. `id` must
-    /// be one that `is_id` allows.
+    /// be one that `is_rev_id` allows.
     ///
     /// Errors, in this order: those of `next_position`, then `Known` if the revision is already known, all found without memory;
     /// else `NoMemory`, as for `merge`. An error leaves the tree as it was. Cost: as for `merge`, with a path of the new revision

@@ -14,8 +14,8 @@ use Rattle.mg_rows.specs.Stored.{IsStoredRow}
 use Rattle.mg_rows.specs.declared.edge.Edge.{Edge}
 use Rattle.mg_rows.specs.declared.edge.Edge.TheVariants.{Before, After}
 use Rattle.mg_rows.proofs.Joined.{columns_append}
-use Rattle.mg_rows.specs.Only.{BoundOf, BeginsLow, value_low, below_value}
-use Rattle.mg_rows.specs.Ranked.{value_cmp, then_two, above_zero}
+use Rattle.mg_rows.specs.StandsFor.{BoundOf, BeginsLow, value_low, below_value}
+use Rattle.mg_rows.specs.ByteOrder.{value_cmp, then_two, above_zero}
 
 -- ---- what follows a column
 

@@ -1,5 +1,5 @@
--- Rows of an index as bytes whose order is the order of rows: an order-preserving encoding of tuples, as FoundationDB's
--- tuple layer or SQLite's `memcmp` keys. Each function puts the bytes of a value before the bytes that follow it.
+-- Rows of an index as bytes whose order is the order of rows: an order-preserving encoding of tuples, as in FoundationDB's
+-- tuple layer or the keys of SQLite4. Each function puts the bytes of a value before the bytes that follow it.
 use Rattle.std.specs.Prelude.{ℕ, zero, suc, ◌+◌, ◌-◌, ◌/◌, ◌%◌, ℤ, pos, negsuc, List, [], ◌∷◌, true, false}
 use Rattle.std.specs.declared.cmp.Ordering.{Ordering}
 use Rattle.std.specs.Cmp.Lexicographic.{slice_cmp}
@@ -16,7 +16,7 @@ abbrev pub big_endian : ℕ → ℕ → List ℕ → List ℕ
 big_endian zero n rest = rest
 big_endian (suc k) n rest = big_endian k (n / 256) (n % 256 ∷ rest)
 
--- a whole number of 64 bits with its sign bit turned, so that the lowest is 0
+-- a whole number of 64 bits with its sign bit flipped, so that the lowest is 0
 abbrev pub sign_turned : ℤ → ℕ
 sign_turned (pos n) = n + 9223372036854775808
 sign_turned (negsuc n) = 9223372036854775808 - suc n

@@ -2,8 +2,8 @@ pub mod Bytes
 pub mod Stored
 pub mod RowBound
 pub mod Code
-pub mod Only
+pub mod StandsFor
 pub mod Split
 pub mod Order
-pub mod Ranked
+pub mod ByteOrder
 pub mod Laws

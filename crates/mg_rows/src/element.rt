@@ -26,7 +26,7 @@ impl Element for RowBytes {
 
     #[inline(always)]
     fn owners(&self) -> usize {
-        self.sharers()
+        self.owners()
     }
 }
 

@@ -18,7 +18,7 @@ const NEAR: u64 = 1 << 59;
 // The bits below the type, in the hint of `NEAR - 1` and of all whole numbers above it.
 const FARTHEST: u64 = ((1 << 60) - 1) << 1;
 
-/// The hint of a value: its type, and then the first bits of what it holds; 0 for `None`, the start of a key without
+/// The hint of a value: its type, and then the first bits of what it holds; 0 for `None`, as for a row whose key has no
 /// columns. Every row whose key begins with the value has this hint. It is even, so that a place before or after all
 /// these rows can have the odd hint below or above.
 pub fn value_hint(value: Option<&Json>) -> u64 {
@@ -84,7 +84,7 @@ fn type_hint(tag: u8) -> u64 {
     u64::from(tag.min(7)) << TYPE_SHIFT
 }
 
-// The hint of a whole number whose sign bit is turned. It determines the number, unless it is the lowest or the greatest
+// The hint of a whole number whose sign bit is flipped. It determines the number, unless it is the lowest or the greatest
 // of these hints.
 fn turned_hint(turned: u64) -> u64 {
     let lowest = (1 << 63) - NEAR;

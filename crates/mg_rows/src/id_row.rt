@@ -1,4 +1,4 @@
-// Compares bytes with the row that an id has among all documents, whose key is the id alone.
+// Compares bytes with an id's row in the index of all documents; the key of that row is the id alone.
 ghost use Rattle.std.specs.Prelude.{◌≡◌, ◌∷◌};
 ghost use Rattle.mg_value.specs.Value.{no_items, item, text as text_value};
 ghost use Rattle.mg_rows.specs.Bytes.{bytes_order, text_before, row_bytes};

@@ -1,4 +1,4 @@
-ghost use Rattle.mg_rows.specs.Only.{KeyOf, KeyOf-prop};
+ghost use Rattle.mg_rows.specs.StandsFor.{KeyOf, KeyOf-prop};
 
 use crate::edge::Edge;
 use crate::row::RowBytes;

@@ -1,4 +1,4 @@
-ghost use Rattle.mg_rows.specs.Only.{RowOf, RowOf-prop};
+ghost use Rattle.mg_rows.specs.StandsFor.{RowOf, RowOf-prop};
 
 use crate::error::DecodeError;
 use crate::id_row::against_id_row;
@@ -14,7 +14,7 @@ use std::marker::Model;
 // The first size of the buffer, in bytes: most keys fit.
 const FIRST_ROOM: usize = 64;
 
-// The byte after the columns of a key.
+// The byte after the columns of a key: below every type.
 const KEY_END: u8 = 0;
 
 /// A row of an index as one string of bytes: the values of its columns, and then the id of its document. Contracts
@@ -105,9 +105,9 @@ impl RowBytes {
         self.as_bytes().cmp(other.as_bytes())
     }
 
-    /// Compares the row with the row that an id has among all documents, whose key is the id alone. Takes no
-    /// memory. Cost: up to the first difference.
-    pub fn order_of_id(&self, id: &str) -> Ordering
+    /// Compares the row with this id's row in the index of all documents; the key of that row is the id alone. Takes
+    /// no memory. Cost: up to the first difference.
+    pub fn compare_to_id(&self, id: &str) -> Ordering
         ensures { result ≡ row_value_order self.now (item (text id.now) no_items, id.now) }
     {
         against_id_row(self.as_bytes(), id)
@@ -158,8 +158,8 @@ impl RowBytes {
 
     // How many copies share the row's block; 0 where it has no block.
     #[inline(always)]
-    pub(crate) fn sharers(&self) -> usize {
-        self.bytes.sharers()
+    pub(crate) fn owners(&self) -> usize {
+        self.bytes.owners()
     }
 }
 

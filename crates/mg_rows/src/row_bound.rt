@@ -12,7 +12,7 @@ const ABOVE_ALL: u8 = 255;
 
 ghost use Rattle.std.specs.Prelude.{◌≡◌, ◌++◌, OnOk};
 ghost use Rattle.mg_rows.specs.RowBound.{edge_bytes};
-ghost use Rattle.mg_rows.specs.Only.{BoundOf, BoundOf-prop};
+ghost use Rattle.mg_rows.specs.StandsFor.{BoundOf, BoundOf-prop};
 
 /// A place among rows: before or after all rows whose key begins with some values. Contracts see the edge and the
 /// values.

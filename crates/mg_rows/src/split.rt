@@ -94,7 +94,7 @@ impl SplitBytes {
 
     /// How many copies share the block; 0 where there is no block.
     #[inline(always)]
-    pub(crate) fn sharers(&self) -> usize {
+    pub(crate) fn owners(&self) -> usize {
         sharers_of(&self.held)
     }
 }

@@ -1,4 +1,4 @@
-// Appends the bytes of values to a buffer. After an error some of them may have been appended.
+// Appends the bytes of values to a buffer. After an error some of them may have been appended, unless the function says otherwise.
 ghost use Rattle.std.specs.Prelude.{◌≡◌, ◌++◌, [], ◌∷◌, suc, map, OnOk, OnErr, IsUtf8};
 ghost use Rattle.mg_value.specs.Value.{Items};
 ghost use Rattle.mg_value.specs.View.{items_view};
@@ -6,14 +6,14 @@ ghost use Rattle.mg_rows.specs.Bytes.{big_endian, sign_turned, text_before, valu
 ghost use Rattle.mg_rows.specs.Bytes.{columns_before, items_before, members_before};
 ghost use Rattle.mg_value.specs.Stored.{IsStored, AreStored, MembersAreStored};
 ghost use Rattle.mg_rows.specs.Stored.{IsKey};
-ghost use Rattle.mg_rows.specs.Only.{KeyOf};
+ghost use Rattle.mg_rows.specs.StandsFor.{KeyOf};
 
 use mg_value::{Json, Kind, LentValue, NoMemory};
 
 // The byte after a string: below every byte of the string, since these are stored plus 1.
 const TEXT_END: u8 = 0;
 
-// The byte after the items of an array, the members of an object, and the columns of a key: below every type.
+// The byte after the items of an array or the members of an object: below every type.
 const LIST_END: u8 = 0;
 
 // Appends a column of a key. After an error the buffer is empty.

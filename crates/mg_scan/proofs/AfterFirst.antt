@@ -16,7 +16,7 @@ use Rattle.mg_collate.specs.declared.direction.Direction.{Direction}
 use Rattle.mg_index.specs.Definition.{Steps}
 use Rattle.mg_merge.specs.Merged.{merged}
 use Rattle.mg_merge.specs.Pulled.{IsGivenBy}
-use Rattle.mg_scan.specs.Begun.{IsBegunIn, IsLeftAfter}
+use Rattle.mg_scan.specs.Begun.{IsBegunIn, IsUnreadAfter}
 use Rattle.mg_scan.specs.Decided.{IsDecidedIn}
 use Rattle.mg_scan.specs.Lead.{AreLeadsIn, IsLeadIn, IsLeadUnread, IsLeadOf, IsLeadSourceAfter, lead_rows, without_selector}
 use Rattle.mg_scan.specs.Search.{search_input, found_by}
@@ -24,8 +24,8 @@ use Rattle.mg_scan.specs.Way.{all_found_by}
 use Rattle.mg_scan.specs.Walked.{is_late_row, walked_all}
 use Rattle.mg_scan.specs.declared.lead.Lead.{Lead}
 use Rattle.mg_scan.specs.declared.lead_source.LeadSource.{LeadSource}
-use Rattle.mg_scan.specs.declared.left.Unread.{Unread}
-use Rattle.mg_scan.specs.declared.left.Unread.TheVariants as left
+use Rattle.mg_scan.specs.declared.unread.Unread.{Unread}
+use Rattle.mg_scan.specs.declared.unread.Unread.TheVariants as unread
 use Rattle.mg_scan.specs.declared.search.Search.{Search}
 use Rattle.mg_scan.proofs.Begun.{begun_led, served_begun}
 use Rattle.mg_scan.proofs.Decided.{all_alike}
@@ -85,22 +85,22 @@ nothing_after zero = refl
 nothing_after (suc n) = refl
 
 -- the rows after the first n that are read are those after the first n that are found
-pub rows_left_after : (at : Option (List Steps)) (s : Search) (shard : ShardView) (n : ℕ) (l m : Unread) → IsBegunIn at s shard l → IsLeftAfter n l m → lead_rows s m ≡ drop n (lead_rows s l)
-rows_left_after at s shard n (left.Rows rows) m b e =
+pub rows_left_after : (at : Option (List Steps)) (s : Search) (shard : ShardView) (n : ℕ) (l m : Unread) → IsBegunIn at s shard l → IsUnreadAfter n l m → lead_rows s m ≡ drop n (lead_rows s l)
+rows_left_after at s shard n (unread.Rows rows) m b e =
     let ds = shard.documents in
     ap (lead_rows s) e
     ∙ on_way_after (is_late_row s.direction s.range.now) n rows (late_rows (search_input s b.0) ds rows (all_forms ds) b.2)
-rows_left_after at s shard n (left.Documents documents) m b e =
-    ap (lead_rows s) e.1 ∙ sym (ap (λ k. drop k (lead_rows s (left.Documents documents))) e.0)
-rows_left_after at s shard n left.Nothing m b e = ap (lead_rows s) e ∙ nothing_after n
+rows_left_after at s shard n (unread.Documents documents) m b e =
+    ap (lead_rows s) e.1 ∙ sym (ap (λ k. drop k (lead_rows s (unread.Documents documents))) e.0)
+rows_left_after at s shard n unread.Nothing m b e = ap (lead_rows s) e ∙ nothing_after n
 
-pub led_left_after : (at : Option (List Steps)) (s : Search) (shard : ShardView) (n : ℕ) (l m : Unread) → IsBegunIn at s shard l → IsLeftAfter n l m → (lead : Lead) → IsLeadUnread shard m lead → IsLeadOf shard lead
-led_left_after at s shard n (left.Rows rows) m b e lead lent =
+pub led_left_after : (at : Option (List Steps)) (s : Search) (shard : ShardView) (n : ℕ) (l m : Unread) → IsBegunIn at s shard l → IsUnreadAfter n l m → (lead : Lead) → IsLeadUnread shard m lead → IsLeadOf shard lead
+led_left_after at s shard n (unread.Rows rows) m b e lead lent =
     let served = served_begun s shard.documents b.0 rows b.2 in
     let kept = all_dropped _ n rows served in
     subst (λ (x : Unread). IsLeadUnread shard x lead) e lent kept
-led_left_after at s shard n (left.Documents documents) m b e lead lent = begun_led at s shard (left.Documents documents) b lead (subst (λ (x : Unread). IsLeadUnread shard x lead) e.1 lent)
-led_left_after at s shard n left.Nothing m b e lead lent = begun_led at s shard left.Nothing b lead (subst (λ (x : Unread). IsLeadUnread shard x lead) e lent)
+led_left_after at s shard n (unread.Documents documents) m b e lead lent = begun_led at s shard (unread.Documents documents) b lead (subst (λ (x : Unread). IsLeadUnread shard x lead) e.1 lent)
+led_left_after at s shard n unread.Nothing m b e lead lent = begun_led at s shard unread.Nothing b lead (subst (λ (x : Unread). IsLeadUnread shard x lead) e lent)
 
 -- ---- one shard
 
@@ -136,7 +136,7 @@ module _ (s : Search) (n : ℕ) (shard : ShardView) (source : LeadSource) (is : 
       ∙ sym (found_merged (without_selector s) (shard ∷ [])) ∙ merged_one s.direction s.take all all_rises in
       ap (drop more) here ∙ drop-drop more n (take s.take all) ∙ ap (λ k. drop k (take s.take all)) sum ∙ ap (drop skip) (sym there)
 
-  pub one_given : (leads : List Lead) → All (IsGivenBy (λ x. IsLeadUnread x.shard.now x.left) (source ∷ [])) leads → AreLeadsIn (shard ∷ []) leads
+  pub one_given : (leads : List Lead) → All (IsGivenBy (λ x. IsLeadUnread x.shard.now x.unread) (source ∷ [])) leads → AreLeadsIn (shard ∷ []) leads
   one_given leads given =
       all_weaker (InOneOf IsLeadOf (shard ∷ [])) (IsLeadIn (shard ∷ [])) (λ lead here. record { place = here.0; shard = here.1; there = here.2; lead = here.3 }) leads
-      (all_given (IsLeadSourceAfter n s) (λ x. IsLeadUnread x.shard.now x.left) IsLeadOf (λ t x here. here.leads) (shard ∷ []) (source ∷ []) (is, tt) leads given)
+      (all_given (IsLeadSourceAfter n s) (λ x. IsLeadUnread x.shard.now x.unread) IsLeadOf (λ t x here. here.leads) (shard ∷ []) (source ∷ []) (is, tt) leads given)

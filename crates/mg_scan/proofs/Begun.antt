@@ -8,15 +8,15 @@ use Rattle.mg_index.specs.Definition.{IndexDefinition, Steps}
 use Rattle.mg_scan.specs.Begun.{IsBegunIn}
 use Rattle.mg_scan.specs.Hit.{IsHitOf}
 use Rattle.mg_scan.specs.Lead.{AreServed, IsLeadUnread, IsLeadOf, lead_rows, rows_on_way, without_selector}
-use Rattle.mg_scan.specs.Scan.{all_scanned}
+use Rattle.mg_scan.specs.Scan.{all_matches}
 use Rattle.mg_scan.specs.Search.{search_input}
 use Rattle.mg_scan.specs.Way.{begin_at, walked_all_by}
-use Rattle.mg_scan.specs.Sourced.{IsUnread, left_rows}
+use Rattle.mg_scan.specs.Sourced.{IsUnread, unread_rows}
 use Rattle.mg_scan.specs.Walked.{id_row, is_late_row}
 use Rattle.mg_scan.specs.declared.hit.Hit.{Hit}
 use Rattle.mg_scan.specs.declared.lead.Lead.{Lead}
-use Rattle.mg_scan.specs.declared.left.Unread.{Unread}
-use Rattle.mg_scan.specs.declared.left.Unread.TheVariants as left
+use Rattle.mg_scan.specs.declared.unread.Unread.{Unread}
+use Rattle.mg_scan.specs.declared.unread.Unread.TheVariants as unread
 use Rattle.mg_scan.specs.declared.search.Search.{Search}
 use Rattle.mg_scan.proofs.Entries.{all_beyond, all_forms}
 use Rattle.mg_scan.proofs.Found.{all_owned}
@@ -45,20 +45,20 @@ none_begun s ds (Some d) e = absurd cc
 
 -- all that is found on the way from there is all that there is
 pub begun_hits : (at : Option (List Steps)) (s : Search) (shard : ShardView) (l : Unread) → IsBegunIn at s shard l
-    → left_rows s shard l ≡ option_map_or (λ columns. all_scanned (search_input s columns) (docs_of shard.documents)) at []
-begun_hits at s shard (left.Rows rows) b =
+    → unread_rows s shard l ≡ option_map_or (λ columns. all_matches (search_input s columns) (docs_of shard.documents)) at []
+begun_hits at s shard (unread.Rows rows) b =
     let ds = shard.documents in
-    all_found_rows (search_input s b.0) ds rows (all_forms ds) b.2 ∙ ap (λ o. option_map_or (λ columns. all_scanned (search_input s columns) (docs_of ds)) o []) (sym b.1)
-begun_hits at s shard (left.Documents documents) b =
+    all_found_rows (search_input s b.0) ds rows (all_forms ds) b.2 ∙ ap (λ o. option_map_or (λ columns. all_matches (search_input s columns) (docs_of ds)) o []) (sym b.1)
+begun_hits at s shard (unread.Documents documents) b =
     let ds = shard.documents in
     source_rows s ds documents (all_owned ds s.direction (λ e. begin_at s (id_row e.0)) documents b.1.begun) b.1.own b.1.begun
-    ∙ ap (λ o. option_map_or (λ columns. all_scanned (search_input s columns) (docs_of ds)) o []) (sym b.0)
-begun_hits at s shard left.Nothing b = ap (λ o. option_map_or (λ columns. all_scanned (search_input s columns) (docs_of shard.documents)) o []) (sym b)
+    ∙ ap (λ o. option_map_or (λ columns. all_matches (search_input s columns) (docs_of ds)) o []) (sym b.0)
+begun_hits at s shard unread.Nothing b = ap (λ o. option_map_or (λ columns. all_matches (search_input s columns) (docs_of shard.documents)) o []) (sym b)
 
 pub begun_lent : (at : Option (List Steps)) (s : Search) (shard : ShardView) (l : Unread) → IsBegunIn at s shard l → (h : Hit) → IsUnread shard l h → IsHitOf shard.documents h
-begun_lent at s shard (left.Rows rows) b h lent = lent
-begun_lent at s shard (left.Documents documents) b h lent = lent (all_owned shard.documents s.direction (λ e. begin_at s (id_row e.0)) documents b.1.begun)
-begun_lent at s shard left.Nothing b h lent = lent
+begun_lent at s shard (unread.Rows rows) b h lent = lent
+begun_lent at s shard (unread.Documents documents) b h lent = lent (all_owned shard.documents s.direction (λ e. begin_at s (id_row e.0)) documents b.1.begun)
+begun_lent at s shard unread.Nothing b h lent = lent
 
 -- ---- rows of served documents
 
@@ -108,14 +108,14 @@ on_way s ds (r ∷ rows) h =
 
 -- all rows on the way from there are all that there are, where nothing is asked of documents
 pub begun_leads : (at : Option (List Steps)) (s : Search) (shard : ShardView) (l : Unread) → IsBegunIn at s shard l
-    → lead_rows s l ≡ option_map_or (λ columns. all_scanned (search_input (without_selector s) columns) (docs_of shard.documents)) at []
-begun_leads at s shard (left.Rows rows) b =
-    on_way s shard.documents rows (served_begun s shard.documents b.0 rows b.2) ∙ begun_hits at (without_selector s) shard (left.Rows rows) b
-begun_leads at s shard (left.Documents documents) b =
-    begun_hits at (without_selector s) shard (left.Documents documents) (b.0, record { own = b.1.own; begun = b.1.begun })
-begun_leads at s shard left.Nothing b = begun_hits at (without_selector s) shard left.Nothing b
+    → lead_rows s l ≡ option_map_or (λ columns. all_matches (search_input (without_selector s) columns) (docs_of shard.documents)) at []
+begun_leads at s shard (unread.Rows rows) b =
+    on_way s shard.documents rows (served_begun s shard.documents b.0 rows b.2) ∙ begun_hits at (without_selector s) shard (unread.Rows rows) b
+begun_leads at s shard (unread.Documents documents) b =
+    begun_hits at (without_selector s) shard (unread.Documents documents) (b.0, record { own = b.1.own; begun = b.1.begun })
+begun_leads at s shard unread.Nothing b = begun_hits at (without_selector s) shard unread.Nothing b
 
 pub begun_led : (at : Option (List Steps)) (s : Search) (shard : ShardView) (l : Unread) → IsBegunIn at s shard l → (lead : Lead) → IsLeadUnread shard l lead → IsLeadOf shard lead
-begun_led at s shard (left.Rows rows) b lead lent = lent (served_begun s shard.documents b.0 rows b.2)
-begun_led at s shard (left.Documents documents) b lead lent = lent (all_owned shard.documents s.direction (λ e. begin_at s (id_row e.0)) documents b.1.begun)
-begun_led at s shard left.Nothing b lead lent = lent
+begun_led at s shard (unread.Rows rows) b lead lent = lent (served_begun s shard.documents b.0 rows b.2)
+begun_led at s shard (unread.Documents documents) b lead lent = lent (all_owned shard.documents s.direction (λ e. begin_at s (id_row e.0)) documents b.1.begun)
+begun_led at s shard unread.Nothing b lead lent = lent

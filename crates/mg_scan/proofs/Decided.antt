@@ -13,9 +13,9 @@ use Rattle.mg_range.specs.RangeSide.{has_key}
 use Rattle.mg_range.specs.Range.{Range, range_of}
 use Rattle.mg_range.proofs.Deciding.{decides_rows}
 use Rattle.mg_scan.specs.Decided.{IsDecidedIn, everything}
-use Rattle.mg_scan.specs.Found.{scan_input}
+use Rattle.mg_scan.specs.Found.{input_of_parts}
 use Rattle.mg_scan.specs.Lead.{without_selector}
-use Rattle.mg_scan.specs.Scan.{all_scanned, comes_after, is_wanted}
+use Rattle.mg_scan.specs.Scan.{all_matches, comes_after, is_wanted}
 use Rattle.mg_scan.specs.Search.{after_of, search_input, found_by}
 use Rattle.mg_scan.specs.declared.search.Search.{Search}
 use Rattle.mg_scan.proofs.Walking.{filter-both, filter-same, sorted_rows-where}
@@ -36,9 +36,9 @@ once false b = refl
 
 -- rows in the range alone are those in the range whose documents the selector holds of
 scanned_alike : (n : NormalForm) (columns : List Steps) (range : Range) (after : Option RowValue) (count : ℕ) (direction : Direction) → is_some n.rest ≡ false → decides_of n.atoms columns ≡ true
-    → range ≡ range_of n.atoms columns → (ds : List ServedDocument) → all_scanned (scan_input everything range after count direction columns) ds ≡ all_scanned (scan_input n range after count direction columns) ds
+    → range ≡ range_of n.atoms columns → (ds : List ServedDocument) → all_matches (input_of_parts everything range after count direction columns) ds ≡ all_matches (input_of_parts n range after count direction columns) ds
 scanned_alike n columns range after count direction alone decides is ds =
-    let q = scan_input n range after count direction columns in
+    let q = input_of_parts n range after count direction columns in
     let within : RowValue → Bool = λ r. has_key range (item_list r.0) in
     let rows = filter_map (row_of columns) ds in
     let decided : filter within rows ≡ filter_map (row_of columns) (filter (λ d. normal_holds n (Some d.1)) ds) =
@@ -52,9 +52,9 @@ scanned_alike n columns range after count direction alone decides is ds =
 found_alike : (s : Search) (shard : ShardView) → IsDecidedIn s.target s.normal.now s.range.now shard → found_by (without_selector s) shard ≡ found_by s shard
 found_alike s shard d =
     let ds = docs_of shard.documents in
-    ap (λ o. option_map_or (λ columns. take s.take (all_scanned (search_input (without_selector s) columns) ds)) o []) d.there
+    ap (λ o. option_map_or (λ columns. take s.take (all_matches (search_input (without_selector s) columns) ds)) o []) d.there
     ∙ ap (take s.take) (scanned_alike s.normal.now d.columns s.range.now (after_of s) s.take s.direction d.alone d.decides d.bounds ds)
-    ∙ ap (λ o. option_map_or (λ columns. take s.take (all_scanned (search_input s columns) ds)) o []) (sym d.there)
+    ∙ ap (λ o. option_map_or (λ columns. take s.take (all_matches (search_input s columns) ds)) o []) (sym d.there)
 
 each_alike : (s : Search) (shards : List ShardView) → AllByRecursion (IsDecidedIn s.target s.normal.now s.range.now) shards → map (found_by (without_selector s)) shards ≡ map (found_by s) shards
 each_alike s [] h = refl

@@ -3,12 +3,12 @@ use Rattle.std.proofs.Common.{◌≡◌, ℕ, zero, suc, ◌-◌, ◌≤◌, Boo
 use Rattle.std.specs.List.{AllByRecursion}
 use Rattle.mg_collate.specs.Row.{RowValue}
 use Rattle.mg_index.specs.Definition.{Steps}
-use Rattle.mg_scan.specs.Begun.{IsBegunIn, IsLeftAfter}
-use Rattle.mg_scan.specs.RangeEnd.{AreBeforeEnd, EndsOnce, index_rows, is_past_at}
+use Rattle.mg_scan.specs.Begun.{IsBegunIn, IsUnreadAfter}
+use Rattle.mg_scan.specs.RangeEnd.{AreBeforeEnd, EndsOnce, index_rows, is_late_at}
 use Rattle.mg_scan.specs.Search.{search_input}
 use Rattle.mg_scan.specs.Walked.{is_late_row}
-use Rattle.mg_scan.specs.declared.left.Unread.{Unread}
-use Rattle.mg_scan.specs.declared.left.Unread.TheVariants as left
+use Rattle.mg_scan.specs.declared.unread.Unread.{Unread}
+use Rattle.mg_scan.specs.declared.unread.Unread.TheVariants as unread
 use Rattle.mg_scan.specs.declared.search.Search.{Search}
 use Rattle.mg_scan.proofs.Entries.{all_forms}
 use Rattle.mg_scan.proofs.Walking.{LateLast, late_rows}
@@ -26,17 +26,17 @@ before_on s r rows n m e h i less = h (suc i) (omega (arith, e, less))
 pub before_none : (s : Search) (rows : List RowValue) (n : ℕ) → n ≡ 0 → AreBeforeEnd s rows n
 before_none s rows n e i less = absurd (omega (arith, e, less))
 
-before_at : (s : Search) (rows : List RowValue) (i n : ℕ) (b : Bool) → EndsOnce s rows → i ≤ n → is_past_at s rows n ≡ false → is_past_at s rows i ≡ b → is_past_at s rows i ≡ false
+before_at : (s : Search) (rows : List RowValue) (i n : ℕ) (b : Bool) → EndsOnce s rows → i ≤ n → is_late_at s rows n ≡ false → is_late_at s rows i ≡ b → is_late_at s rows i ≡ false
 before_at s rows i n true h le e is = absurd (let wrong = h i n le is in cc)
 before_at s rows i n false h le e is = is
 
 -- all rows before one that is not past the range
-pub before_all : (s : Search) (rows : List RowValue) (n : ℕ) → EndsOnce s rows → is_past_at s rows n ≡ false → AreBeforeEnd s rows n
-before_all s rows n h e i less = before_at s rows i n (is_past_at s rows i) h (omega (arith, less)) e refl
+pub before_all : (s : Search) (rows : List RowValue) (n : ℕ) → EndsOnce s rows → is_late_at s rows n ≡ false → AreBeforeEnd s rows n
+before_all s rows n h e i less = before_at s rows i n (is_late_at s rows i) h (omega (arith, less)) e refl
 
 -- ---- rows in order
 
-all_past : (s : Search) (rows : List RowValue) → AllByRecursion (λ r. is_late_row s.direction s.range.now r ≡ true) rows → (j : ℕ) → is_past_at s rows j ≡ true
+all_past : (s : Search) (rows : List RowValue) → AllByRecursion (λ r. is_late_row s.direction s.range.now r ≡ true) rows → (j : ℕ) → is_late_at s rows j ≡ true
 all_past s [] h j = refl
 all_past s (r ∷ rows) h zero = h.0
 all_past s (r ∷ rows) h (suc j) = all_past s rows h.1 j
@@ -57,12 +57,12 @@ ends_after s (suc n) (r ∷ rows) h = ends_after s n rows (ends_on s r rows h)
 
 -- from where a search begins
 pub begun_ends : (at : Option (List Steps)) (s : Search) (shard : ShardView) (l : Unread) → IsBegunIn at s shard l → EndsOnce s (index_rows l)
-begun_ends at s shard (left.Rows rows) b = ends_once s rows (late_rows (search_input s b.0) shard.documents rows (all_forms shard.documents) b.2)
-begun_ends at s shard (left.Documents documents) b = λ i j le e. refl
-begun_ends at s shard left.Nothing b = λ i j le e. refl
+begun_ends at s shard (unread.Rows rows) b = ends_once s rows (late_rows (search_input s b.0) shard.documents rows (all_forms shard.documents) b.2)
+begun_ends at s shard (unread.Documents documents) b = λ i j le e. refl
+begun_ends at s shard unread.Nothing b = λ i j le e. refl
 
 -- after the first n rows
-pub left_ends_after : (s : Search) (n : ℕ) (l m : Unread) → IsLeftAfter n l m → EndsOnce s (index_rows l) → EndsOnce s (index_rows m)
-left_ends_after s n (left.Rows rows) m e h = subst (λ (x : Unread). EndsOnce s (index_rows x)) (sym e) (ends_after s n rows h)
-left_ends_after s n (left.Documents documents) m e h = subst (λ (x : Unread). EndsOnce s (index_rows x)) (sym e.1) h
-left_ends_after s n left.Nothing m e h = subst (λ (x : Unread). EndsOnce s (index_rows x)) (sym e) h
+pub left_ends_after : (s : Search) (n : ℕ) (l m : Unread) → IsUnreadAfter n l m → EndsOnce s (index_rows l) → EndsOnce s (index_rows m)
+left_ends_after s n (unread.Rows rows) m e h = subst (λ (x : Unread). EndsOnce s (index_rows x)) (sym e) (ends_after s n rows h)
+left_ends_after s n (unread.Documents documents) m e h = subst (λ (x : Unread). EndsOnce s (index_rows x)) (sym e.1) h
+left_ends_after s n unread.Nothing m e h = subst (λ (x : Unread). EndsOnce s (index_rows x)) (sym e) h

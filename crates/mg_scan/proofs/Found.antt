@@ -10,7 +10,7 @@ use Rattle.mg_index.specs.Catalog.{definition_at}
 use Rattle.mg_index.specs.Definition.{IndexDefinition, Steps}
 use Rattle.mg_scan.specs.Found.{found_in}
 use Rattle.mg_scan.specs.Hit.{AreHitsOf, hit_rows}
-use Rattle.mg_scan.specs.Scan.{scanned}
+use Rattle.mg_scan.specs.Scan.{first_matches}
 use Rattle.mg_scan.specs.Search.{search_input}
 use Rattle.mg_scan.specs.Way.{begin_at, entry_rows, walked_by}
 use Rattle.mg_scan.specs.Walked.{id_row}
@@ -37,13 +37,13 @@ all_owned ds direction order documents is =
     (subst (λ (es : List Entry). AllByRecursion (λ e. get ds e.0 ≡ Some e.1) es) (sym is) (all_beyond (λ e. get ds e.0 ≡ Some e.1) direction order (entries ds) (all_kept ds)))
 
 pub all_found : (s : Search) (ds : KeptDocuments) (es : List Entry) → ((id : List ℕ) (form : Value) → form_at ds id ≡ Some form → HasOwnId id form) → es ≡ beyond s.direction (λ e. begin_at s (id_row e.0)) (entries ds)
-    → walked_by s ds s.take (entry_rows es) ≡ scanned (search_input s id_columns) (docs_of ds)
+    → walked_by s ds s.take (entry_rows es) ≡ first_matches (search_input s id_columns) (docs_of ds)
 all_found s ds es own is =
     ap (λ (x : List Entry). walked_by s ds s.take (entry_rows x)) is
     ∙ ap (walked_by s ds s.take) (rows-beyond s.direction (begin_at s) (entries ds) (own_rows ds own) ∙ ap (beyond s.direction (begin_at s)) (all_rows ds own))
     ∙ found_rows (search_input s id_columns) ds (beyond s.direction (begin_at s) (rows_of id_columns (docs_of ds))) (all_forms ds) refl
 
-pub gives_all : (s : Search) (shard : ShardView) (hits : List Hit) → s.target ≡ AllDocs → hit_rows hits ≡ scanned (search_input s id_columns) (docs_of shard.documents) → AreHitsOf shard.documents hits → AreHitsFound s shard hits
+pub gives_all : (s : Search) (shard : ShardView) (hits : List Hit) → s.target ≡ AllDocs → hit_rows hits ≡ first_matches (search_input s id_columns) (docs_of shard.documents) → AreHitsOf shard.documents hits → AreHitsFound s shard hits
 gives_all s shard hits e is documents = record { rows = is ∙ ap (λ t. found_in t (search_input s) shard) (sym e); documents = documents }
 
 -- ---- an index
@@ -53,12 +53,12 @@ some_is x y e = cc
 
 pub index_found : (s : Search) (ds : KeptDocuments) (o : Option IndexDefinition) (rows : List RowValue)
     → Some rows ≡ option_map (beyond s.direction (begin_at s)) (option_map (λ d. rows_of d.columns (docs_of ds)) o)
-    → walked_by s ds s.take rows ≡ option_map_or (λ d. scanned (search_input s d.columns) (docs_of ds)) o []
+    → walked_by s ds s.take rows ≡ option_map_or (λ d. first_matches (search_input s d.columns) (docs_of ds)) o []
 index_found s ds None rows e = absurd cc
 index_found s ds (Some d) rows e = found_rows (search_input s d.columns) ds rows (all_forms ds) (some_is rows (beyond s.direction (begin_at s) (rows_of d.columns (docs_of ds))) e)
 
 pub index_missing : (s : Search) (ds : KeptDocuments) (o : Option IndexDefinition) → None ≡ option_map (beyond s.direction (begin_at s)) (option_map (λ d. rows_of d.columns (docs_of ds)) o)
-    → ◌≡◌ {A = List RowValue} [] (option_map_or (λ d. scanned (search_input s d.columns) (docs_of ds)) o [])
+    → ◌≡◌ {A = List RowValue} [] (option_map_or (λ d. first_matches (search_input s d.columns) (docs_of ds)) o [])
 index_missing s ds None e = refl
 index_missing s ds (Some d) e = absurd cc
 
@@ -67,10 +67,10 @@ or_map f None = refl
 or_map f (Some d) = refl
 
 pub gives_index : (s : Search) (shard : ShardView) (hits : List Hit) (ddoc name : Bor (List ℕ)) → s.target ≡ Index ddoc name
-    → hit_rows hits ≡ option_map_or (λ d. scanned (search_input s d.columns) (docs_of shard.documents)) (definition_at ddoc.now name.now shard.definitions) [] → AreHitsOf shard.documents hits
+    → hit_rows hits ≡ option_map_or (λ d. first_matches (search_input s d.columns) (docs_of shard.documents)) (definition_at ddoc.now name.now shard.definitions) [] → AreHitsOf shard.documents hits
     → AreHitsFound s shard hits
 gives_index s shard hits ddoc name e is documents =
     record {
-      rows = is ∙ or_map (λ columns. scanned (search_input s columns) (docs_of shard.documents)) (definition_at ddoc.now name.now shard.definitions) ∙ ap (λ t. found_in t (search_input s) shard) (sym e);
+      rows = is ∙ or_map (λ columns. first_matches (search_input s columns) (docs_of shard.documents)) (definition_at ddoc.now name.now shard.definitions) ∙ ap (λ t. found_in t (search_input s) shard) (sym e);
       documents = documents;
     }

@@ -56,7 +56,7 @@ lead_where (Some x) Q f = f
 -- ---- leads in the shards
 
 abbrev pub lead_rests : LeadSource → List RowValue
-lead_rests x = lead_rows x.search x.left
+lead_rests x = lead_rows x.search x.unread
 
 pub leads_size : (s : Search) (shards : List ShardView) (sources : List LeadSource) → AllZip (IsLeadSourceOf s) shards sources → length sources ≡ length shards
 leads_size s shards sources h = sources_size (without_selector s) (IsLeadSourceOf s) lead_rests (λ shard x is. is.rows) shards sources h
@@ -72,10 +72,10 @@ leads_merged s shards sources h decided =
 
 -- what the sources give are leads in the shards
 pub leads_given : (s : Search) (shards : List ShardView) (sources : List LeadSource) → AllZip (IsLeadSourceOf s) shards sources → (leads : List Lead)
-    → All (IsGivenBy (λ x. IsLeadUnread x.shard.now x.left) sources) leads → AreLeadsIn shards leads
+    → All (IsGivenBy (λ x. IsLeadUnread x.shard.now x.unread) sources) leads → AreLeadsIn shards leads
 leads_given s shards sources h leads given =
     all_weaker (InOneOf IsLeadOf shards) (IsLeadIn shards) (λ lead is. record { place = is.0; shard = is.1; there = is.2; lead = is.3 }) leads
-    (all_given (IsLeadSourceOf s) (λ x. IsLeadUnread x.shard.now x.left) IsLeadOf (λ shard x is. is.leads) shards sources h leads given)
+    (all_given (IsLeadSourceOf s) (λ x. IsLeadUnread x.shard.now x.unread) IsLeadOf (λ shard x is. is.leads) shards sources h leads given)
 
 lead_at : (shards : List ShardView) (leads : List Lead) (i : ℕ) (lead : Lead) → AreLeadsIn shards leads → i < length leads → lead ≡ get_or leads i lead → IsLeadIn shards lead
 lead_at shards [] i lead h less is = absurd (omega arith)

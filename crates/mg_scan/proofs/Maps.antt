@@ -8,7 +8,7 @@ use Rattle.std.specs.declared.alloc.Global.{Global}
 use Rattle.mg_shard.specs.Shard.{shards_seen, ShardView}
 use Rattle.mg_scan.specs.Hit.{AreHitsOf, hit_rows}
 use Rattle.mg_scan.specs.Search.{found_by}
-use Rattle.mg_scan.specs.Worked.{AllSlots, HitsAnswer, AreHitsFound}
+use Rattle.mg_scan.specs.Worked.{AllSlots, AreHitsFoundAt, AreHitsFound}
 use Rattle.mg_scan.specs.declared.hit.Hit.{Hit}
 use Rattle.mg_scan.specs.declared.search.Search.{Search}
 
@@ -22,7 +22,7 @@ some_is x y e = cc
 
 -- the hits of a shard are those of its place
 pub answers : (search : Search) (shards : List (Arc ShardView Global)) (i : ℕ) (a : Arc ShardView Global) (s : ShardView) (hits : List Hit) → i < length shards → a ≡ get_or shards i a → s ≡ arc_value a
-    → AreHitsFound search s hits → HitsAnswer search (shards_seen shards) i hits
+    → AreHitsFound search s hits → AreHitsFoundAt search (shards_seen shards) i hits
 answers search shards i a s hits less is same given =
     record { gives = λ t e. subst (λ (x : ShardView). AreHitsFound search x hits) (same ∙ some_is (arc_value a) t (sym (get-map arc_value shards i a less is) ∙ e)) given }
 
@@ -36,13 +36,13 @@ get-set P (y ∷ ys) (suc at) a here all (suc i) x e = get-set (λ k z. P (suc k
 
 abbrev Fits : Search → List ShardView → ℕ → Option (Vec Hit Global) → Type 0
 Fits search shards i None = Unit {0}
-Fits search shards i (Some v) = HitsAnswer search shards i v.items
+Fits search shards i (Some v) = AreHitsFoundAt search shards i v.items
 
 to_fits : (search : Search) (shards : List ShardView) (slots : List (Option (Vec Hit Global))) → AllSlots search shards slots → (i : ℕ) (o : Option (Vec Hit Global)) → slice_get slots i ≡ Some o → Fits search shards i o
 to_fits search shards slots h i None e = tt
 to_fits search shards slots h i (Some v) e = h i v e
 
-pub slots-set : (search : Search) (shards : List ShardView) (slots : List (Option (Vec Hit Global))) (at : ℕ) (v : Vec Hit Global) → AllSlots search shards slots → HitsAnswer search shards at v.items → AllSlots search shards (set slots at (Some v))
+pub slots-set : (search : Search) (shards : List ShardView) (slots : List (Option (Vec Hit Global))) (at : ℕ) (v : Vec Hit Global) → AllSlots search shards slots → AreHitsFoundAt search shards at v.items → AllSlots search shards (set slots at (Some v))
 slots-set search shards slots at v h here i w e = get-set (Fits search shards) slots at (Some v) here (to_fits search shards slots h) i (Some w) e
 
 pub slots-unset : (search : Search) (shards : List ShardView) (slots : List (Option (Vec Hit Global))) (at : ℕ) → AllSlots search shards slots → AllSlots search shards (set slots at None)
@@ -73,7 +73,7 @@ zip_more R (x ∷ xs) (z ∷ ys) (suc i) y less h here = (h.0, zip_more R xs ys 
 
 -- the lists so far, and that of one shard more
 pub lists-more : (search : Search) (shards : List (Arc ShardView Global)) (all : List (Vec Hit Global)) (i : ℕ) (v : Vec Hit Global) → i < length shards
-    → AllZip (λ s w. AreHitsFound search s w.items) (take i (shards_seen shards)) all → HitsAnswer search (shards_seen shards) i v.items
+    → AllZip (λ s w. AreHitsFound search s w.items) (take i (shards_seen shards)) all → AreHitsFoundAt search (shards_seen shards) i v.items
     → AllZip (λ s w. AreHitsFound search s w.items) (take (i + 1) (shards_seen shards)) (all ++ v ∷ [])
 lists-more search shards all i v less so here =
     rw add-one (zip_more (λ s (w : Vec Hit Global). AreHitsFound search s w.items) (shards_seen shards) all i v (omega (arith, less, length-seen shards)) so here.gives)

@@ -24,10 +24,10 @@ use Rattle.mg_range.specs.declared.side.RangeSide.{RangeSide}
 use Rattle.mg_range.specs.declared.side.RangeSide.TheVariants.{Before, Within, Past}
 use Rattle.mg_scan.specs.Begins.{beyond_rises, row_side, reached}
 use Rattle.mg_scan.specs.Decided.{everything}
-use Rattle.mg_scan.specs.Found.{all_found_in, scan_input, target_columns}
+use Rattle.mg_scan.specs.Found.{all_found_in, input_of_parts, target_columns}
 use Rattle.mg_scan.specs.Lead.{without_selector}
 use Rattle.mg_scan.specs.Passed.{AreDecided, HasPageOf, IsIndex, IsWithin, beyond_row, count_all_upcoming}
-use Rattle.mg_scan.specs.Scan.{all_scanned, asked_documents, comes_after, is_wanted}
+use Rattle.mg_scan.specs.Scan.{all_matches, asked_documents, comes_after, is_wanted}
 use Rattle.mg_scan.specs.Search.{after_of, found_by}
 use Rattle.mg_scan.specs.Upcoming.{begins_at, count_upcoming}
 use Rattle.mg_scan.specs.Way.{all_found_by}
@@ -168,12 +168,12 @@ module _ (direction : Direction) (range : Range) (after : Option RowValue) (p : 
   still_timed r e = not_both (is_late_row direction range r) (λ late. let wrong : true ≡ false = sym (late_rises direction range r p e late) ∙ timed in absurd cc)
 
   -- what is asked after it is asked
-  wanted_after : (r : RowValue) → is_wanted (scan_input everything range (Some p) 0 direction []) r ≡ (is_wanted (scan_input everything range after 0 direction []) r && later r)
+  wanted_after : (r : RowValue) → is_wanted (input_of_parts everything range (Some p) 0 direction []) r ≡ (is_wanted (input_of_parts everything range after 0 direction []) r && later r)
   wanted_after r = further (is_side_within (row_side range r)) (comes_after direction after r) (later r) (beyond_both r)
 
   counted : (r : RowValue)
-      → one (reached direction range after r) + one (is_wanted (scan_input everything range (Some p) 0 direction []) r)
-      ≡ one (reached direction range (Some p) r) + one (is_wanted (scan_input everything range after 0 direction []) r)
+      → one (reached direction range after r) + one (is_wanted (input_of_parts everything range (Some p) 0 direction []) r)
+      ≡ one (reached direction range (Some p) r) + one (is_wanted (input_of_parts everything range after 0 direction []) r)
   counted r =
       ap (λ b. one (not (is_early direction (row_side range r)) && b) + one (is_side_within (row_side range r) && later r)) (beyond_is direction after r)
       ∙ one_count (not (is_early direction (row_side range r))) (is_side_within (row_side range r)) (comes_after direction after r) (later r) (beyond_both r)
@@ -204,11 +204,11 @@ module _ (direction : Direction) (range : Range) (after : Option RowValue) (p : 
   all_of columns ds = sorted_rows direction (filter_map (row_of columns) ds)
 
   scanned_after : (count more : ℕ) (columns : List Steps) (ds : List ServedDocument)
-      → all_scanned (scan_input everything range (Some p) more direction columns) ds ≡ filter later (all_scanned (scan_input everything range after count direction columns) ds)
+      → all_matches (input_of_parts everything range (Some p) more direction columns) ds ≡ filter later (all_matches (input_of_parts everything range after count direction columns) ds)
   scanned_after count more columns ds =
-      let rows = sorted_rows direction (filter_map (row_of columns) (asked_documents (scan_input everything range after 0 direction []) ds)) in
-      filter-same (is_wanted (scan_input everything range (Some p) 0 direction [])) (λ r. is_wanted (scan_input everything range after 0 direction []) r && later r) wanted_after rows
-      ∙ sym (filter-both later (is_wanted (scan_input everything range after 0 direction [])) rows)
+      let rows = sorted_rows direction (filter_map (row_of columns) (asked_documents (input_of_parts everything range after 0 direction []) ds)) in
+      filter-same (is_wanted (input_of_parts everything range (Some p) 0 direction [])) (λ r. is_wanted (input_of_parts everything range after 0 direction []) r && later r) wanted_after rows
+      ∙ sym (filter-both later (is_wanted (input_of_parts everything range after 0 direction [])) rows)
 
   abbrev columns_at : Option IndexDefinition → Option (List Steps)
   columns_at o = option_map (λ d. d.columns) o
@@ -220,51 +220,51 @@ module _ (direction : Direction) (range : Range) (after : Option RowValue) (p : 
       ap length (begun direction range o (sorted row_value_order rows)) ∙ ap (λ xs. length (filter (reached direction range o) xs)) (sym (sorted-directed direction rows))
 
   scanned_count : (o : Option RowValue) (count : ℕ) (columns : List Steps) (ds : List ServedDocument)
-      → length (all_scanned (scan_input everything range o count direction columns) ds) ≡ length (filter (is_wanted (scan_input everything range o 0 direction [])) (all_of columns ds))
+      → length (all_matches (input_of_parts everything range o count direction columns) ds) ≡ length (filter (is_wanted (input_of_parts everything range o 0 direction [])) (all_of columns ds))
   scanned_count o count columns ds =
-      ap (λ xs. length (filter (is_wanted (scan_input everything range o 0 direction [])) (sorted_rows direction (filter_map (row_of columns) xs)))) (all_asked ds)
+      ap (λ xs. length (filter (is_wanted (input_of_parts everything range o 0 direction [])) (sorted_rows direction (filter_map (row_of columns) xs)))) (all_asked ds)
 
   one_index : (count more : ℕ) (o : Option IndexDefinition) (ds : List ServedDocument)
       → option_map_or (λ rows. length (beyond direction (begins_at range after direction) rows)) (option_map (λ d. rows_of d.columns ds) o) 0
-      + length (option_map_or (λ columns. all_scanned (scan_input everything range (Some p) more direction columns) ds) (columns_at o) [])
+      + length (option_map_or (λ columns. all_matches (input_of_parts everything range (Some p) more direction columns) ds) (columns_at o) [])
       ≡ option_map_or (λ rows. length (beyond direction (begins_at range (Some p) direction) rows)) (option_map (λ d. rows_of d.columns ds) o) 0
-      + length (option_map_or (λ columns. all_scanned (scan_input everything range after count direction columns) ds) (columns_at o) [])
+      + length (option_map_or (λ columns. all_matches (input_of_parts everything range after count direction columns) ds) (columns_at o) [])
   one_index count more None ds = refl
   one_index count more (Some d) ds =
       let a = reached_count after d.columns ds in
       let b = reached_count (Some p) d.columns ds in
       let u = scanned_count (Some p) more d.columns ds in
       let v = scanned_count after count d.columns ds in
-      ap₂ (λ m n. m + n) a u ∙ counts_alike (reached direction range after) (reached direction range (Some p)) (is_wanted (scan_input everything range (Some p) 0 direction [])) (is_wanted (scan_input everything range after 0 direction [])) counted (all_of d.columns ds) ∙ sym (ap₂ (λ m n. m + n) b v)
+      ap₂ (λ m n. m + n) a u ∙ counts_alike (reached direction range after) (reached direction range (Some p)) (is_wanted (input_of_parts everything range (Some p) 0 direction [])) (is_wanted (input_of_parts everything range after 0 direction [])) counted (all_of d.columns ds) ∙ sym (ap₂ (λ m n. m + n) b v)
 
   pub one_counted : (count more : ℕ) (target : Target) (shard : ShardView) → IsIndex target
-      → count_upcoming target range after direction shard + length (all_found_in target (scan_input everything range (Some p) more direction) shard)
-      ≡ count_upcoming target range (Some p) direction shard + length (all_found_in target (scan_input everything range after count direction) shard)
+      → count_upcoming target range after direction shard + length (all_found_in target (input_of_parts everything range (Some p) more direction) shard)
+      ≡ count_upcoming target range (Some p) direction shard + length (all_found_in target (input_of_parts everything range after count direction) shard)
   one_counted count more AllDocs shard is = absurd is
   one_counted count more (Index ddoc name) shard is = one_index count more (definition_at ddoc.now name.now shard.definitions) (docs_of shard.documents)
 
   found_or : (count more : ℕ) (o : Option (List Steps)) (ds : List ServedDocument)
-      → option_map_or (λ columns. all_scanned (scan_input everything range (Some p) more direction columns) ds) o []
-      ≡ filter later (option_map_or (λ columns. all_scanned (scan_input everything range after count direction columns) ds) o [])
+      → option_map_or (λ columns. all_matches (input_of_parts everything range (Some p) more direction columns) ds) o []
+      ≡ filter later (option_map_or (λ columns. all_matches (input_of_parts everything range after count direction columns) ds) o [])
   found_or count more None ds = refl
   found_or count more (Some columns) ds = scanned_after count more columns ds
 
   pub one_found : (count more : ℕ) (target : Target) (shard : ShardView)
-      → all_found_in target (scan_input everything range (Some p) more direction) shard ≡ filter later (all_found_in target (scan_input everything range after count direction) shard)
+      → all_found_in target (input_of_parts everything range (Some p) more direction) shard ≡ filter later (all_found_in target (input_of_parts everything range after count direction) shard)
   one_found count more target shard = found_or count more (target_columns target shard.definitions) (docs_of shard.documents)
 
   -- ---- in all shards
 
   pub all_passed : (count more : ℕ) (target : Target) (shards : List ShardView) → IsIndex target
-      → sorted_rows direction (joined (map (all_found_in target (scan_input everything range (Some p) more direction)) shards))
+      → sorted_rows direction (joined (map (all_found_in target (input_of_parts everything range (Some p) more direction)) shards))
       ≡ drop (sum_by (count_upcoming target range after direction) shards - sum_by (count_upcoming target range (Some p) direction) shards)
-      (sorted_rows direction (joined (map (all_found_in target (scan_input everything range after count direction)) shards)))
+      (sorted_rows direction (joined (map (all_found_in target (input_of_parts everything range after count direction)) shards)))
   all_passed count more target shards is =
-      let before = joined (map (all_found_in target (scan_input everything range after count direction)) shards) in
-      let behind = joined (map (all_found_in target (scan_input everything range (Some p) more direction)) shards) in
-      let kept = joined_where later (all_found_in target (scan_input everything range after count direction)) (all_found_in target (scan_input everything range (Some p) more direction)) (one_found count more target) shards in
-      let sums = summed (count_upcoming target range after direction) (count_upcoming target range (Some p) direction) (all_found_in target (scan_input everything range after count direction))
-      (all_found_in target (scan_input everything range (Some p) more direction)) (λ shard. one_counted count more target shard is) shards in
+      let before = joined (map (all_found_in target (input_of_parts everything range after count direction)) shards) in
+      let behind = joined (map (all_found_in target (input_of_parts everything range (Some p) more direction)) shards) in
+      let kept = joined_where later (all_found_in target (input_of_parts everything range after count direction)) (all_found_in target (input_of_parts everything range (Some p) more direction)) (one_found count more target) shards in
+      let sums = summed (count_upcoming target range after direction) (count_upcoming target range (Some p) direction) (all_found_in target (input_of_parts everything range after count direction))
+      (all_found_in target (input_of_parts everything range (Some p) more direction)) (λ shard. one_counted count more target shard is) shards in
       let size = ap length kept in
       let e : length before - length (filter later before) ≡ sum_by (count_upcoming target range after direction) shards - sum_by (count_upcoming target range (Some p) direction) shards = omega (arith, sums, size) in
       ap (sorted_rows direction) kept ∙ after_sorted before ∙ ap (λ n. drop n (sorted_rows direction before)) e

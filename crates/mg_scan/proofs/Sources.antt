@@ -18,10 +18,10 @@ use Rattle.mg_merge.specs.Merged.{merged}
 use Rattle.mg_merge.specs.Pulled.{IsGivenBy}
 use Rattle.mg_scan.specs.Found.{target_columns}
 use Rattle.mg_scan.specs.Hit.{AreHitsIn, IsHitIn, IsHitOf, hit_row}
-use Rattle.mg_scan.specs.Scan.{all_scanned, asked_documents, is_wanted}
+use Rattle.mg_scan.specs.Scan.{all_matches, asked_documents, is_wanted}
 use Rattle.mg_scan.specs.Search.{search_input, found_by}
 use Rattle.mg_scan.specs.Way.{all_found_by, begin_at, entry_rows, walked_all_by}
-use Rattle.mg_scan.specs.Sourced.{AreKept, IsUnread, IsSourceOf, holds_for, left_rows, row_among, walked_documents, walked_on}
+use Rattle.mg_scan.specs.Sourced.{AreKept, IsUnread, IsSourceOf, holds_for, unread_rows, row_among, walked_documents, walked_on}
 use Rattle.mg_scan.specs.Walked.{holds_at, id_row, is_late_row}
 use Rattle.mg_scan.specs.declared.hit.Hit.{Hit}
 use Rattle.mg_scan.specs.declared.search.Search.{Search}
@@ -94,7 +94,7 @@ walked_rows s ds (d ∷ documents) h =
 
 -- all that is found among all documents
 pub source_rows : (s : Search) (ds : KeptDocuments) (documents : List Document) → AreKept ds documents → ((id : List ℕ) (form : Value) → form_at ds id ≡ Some form → HasOwnId id form)
-    → map kept_entry documents ≡ beyond s.direction (λ e. begin_at s (id_row e.0)) (entries ds) → walked_documents s documents ≡ all_scanned (search_input s id_columns) (docs_of ds)
+    → map kept_entry documents ≡ beyond s.direction (λ e. begin_at s (id_row e.0)) (entries ds) → walked_documents s documents ≡ all_matches (search_input s id_columns) (docs_of ds)
 source_rows s ds documents kept own is =
     walked_rows s ds documents kept
     ∙ ap (λ (x : List Entry). walked_all_by s ds (entry_rows x)) is
@@ -103,7 +103,7 @@ source_rows s ds documents kept own is =
 
 -- ---- all that is found, and as much of it as is asked for
 
-ordered_or : (s : Search) (ds : KeptDocuments) (o : Option (List Steps)) → IsInOrder s.direction (option_map_or (λ columns. all_scanned (search_input s columns) (docs_of ds)) o [])
+ordered_or : (s : Search) (ds : KeptDocuments) (o : Option (List Steps)) → IsInOrder s.direction (option_map_or (λ columns. all_matches (search_input s columns) (docs_of ds)) o [])
 ordered_or s ds None = in_order (directed_order s.direction) (directed_total s.direction) [] tt
 ordered_or s ds (Some columns) =
     let q = search_input s columns in
@@ -128,7 +128,7 @@ all_in_order s (shard ∷ shards) = (found_in_order s shard, all_in_order s shar
 cut_found : (s : Search) (shards : List ShardView) → map (take s.take) (map (all_found_by s) shards) ≡ map (found_by s) shards
 cut_found s [] = refl
 cut_found s (shard ∷ shards) =
-    ap₂ (λ rows lists. rows ∷ lists) (sym (cut_or s.take (λ columns. all_scanned (search_input s columns) (docs_of shard.documents)) (target_columns s.target shard.definitions))) (cut_found s shards)
+    ap₂ (λ rows lists. rows ∷ lists) (sym (cut_or s.take (λ columns. all_matches (search_input s columns) (docs_of shard.documents)) (target_columns s.target shard.definitions))) (cut_found s shards)
 
 -- the merge of all that there is is the merge of what is found, so much at most in each shard
 pub found_merged : (s : Search) (shards : List ShardView) → merged s.direction s.take (map (all_found_by s) shards) ≡ merged s.direction s.take (map (found_by s) shards)
@@ -197,7 +197,7 @@ module _ {X : Type 0} (Is : ShardView → X → Type 0) where
 -- ---- those that give hits
 
 abbrev pub hit_rests : HitSource → List RowValue
-hit_rests x = left_rows x.search x.shard.now x.left
+hit_rests x = unread_rows x.search x.shard.now x.unread
 
 pub hits_size : (s : Search) (shards : List ShardView) (sources : List HitSource) → AllZip (IsSourceOf s) shards sources → length sources ≡ length shards
 hits_size s shards sources h = sources_size s (IsSourceOf s) hit_rests (λ shard x is. is.rows) shards sources h
@@ -210,7 +210,7 @@ hits_merged s shards sources h = sources_merged s (IsSourceOf s) hit_rests (λ s
 
 -- what they give are hits in the shards
 pub hits_given : (s : Search) (shards : List ShardView) (sources : List HitSource) → AllZip (IsSourceOf s) shards sources → (hits : List Hit)
-    → All (IsGivenBy (λ x. IsUnread x.shard.now x.left) sources) hits → AreHitsIn shards hits
+    → All (IsGivenBy (λ x. IsUnread x.shard.now x.unread) sources) hits → AreHitsIn shards hits
 hits_given s shards sources h hits given =
     all_weaker (InOneOf (λ shard. IsHitOf shard.documents) shards) (IsHitIn shards) (λ hit is. record { place = is.0; shard = is.1; there = is.2; hit = is.3 }) hits
-    (all_given (IsSourceOf s) (λ x. IsUnread x.shard.now x.left) (λ shard. IsHitOf shard.documents) (λ shard x is. is.hits) shards sources h hits given)
+    (all_given (IsSourceOf s) (λ x. IsUnread x.shard.now x.unread) (λ shard. IsHitOf shard.documents) (λ shard x is. is.hits) shards sources h hits given)

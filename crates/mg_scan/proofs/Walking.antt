@@ -18,7 +18,7 @@ use Rattle.mg_range.specs.RangeSide.{is_early, is_late, is_side_within}
 use Rattle.mg_range.specs.Range.{Range}
 use Rattle.mg_range.specs.declared.side.RangeSide.{RangeSide}
 use Rattle.mg_range.specs.declared.side.RangeSide.TheVariants.{Before, Within, Past}
-use Rattle.mg_scan.specs.Scan.{ScanInput, all_scanned, comes_after, is_wanted, scanned}
+use Rattle.mg_scan.specs.Scan.{SearchInput, all_matches, comes_after, is_wanted, first_matches}
 use Rattle.mg_scan.specs.Walked.{begin_order, holds_at, is_beyond, is_late_row, walked, walked_all}
 use Rattle.mg_scan.specs.Begins.{row_side, reached}
 use Rattle.mg_scan.proofs.Late.{late_rises}
@@ -192,10 +192,10 @@ asked_is columns normal ds (d ∷ docs) h =
 -- ---- the whole search
 
 -- the rows are those of the columns, from where the search begins
-abbrev pub AreBegun : ScanInput → KeptDocuments → List RowValue → Type 0
+abbrev pub AreBegun : SearchInput → KeptDocuments → List RowValue → Type 0
 AreBegun q ds rows = rows ≡ beyond q.direction (λ r. begin_order q.direction (row_side q.range r) (option_map (row_value_order r) q.after)) (rows_of q.columns (docs_of ds))
 
-module _ (q : ScanInput) (ds : KeptDocuments) (rows : List RowValue) (own : AllByRecursion (λ d. form_at ds d.0 ≡ Some d.1) (docs_of ds)) (is : AreBegun q ds rows) where
+module _ (q : SearchInput) (ds : KeptDocuments) (rows : List RowValue) (own : AllByRecursion (λ d. form_at ds d.0 ≡ Some d.1) (docs_of ds)) (is : AreBegun q ds rows) where
   abbrev direction : Direction
   direction = q.direction
 
@@ -226,7 +226,7 @@ module _ (q : ScanInput) (ds : KeptDocuments) (rows : List RowValue) (own : AllB
   pub late_rows : LateLast late rows
   late_rows = subst (LateLast late) (sym begun_at) late_ones
 
-  wanted_ones : filter holds (filter on_time (filter reach all)) ≡ all_scanned q (docs_of ds)
+  wanted_ones : filter holds (filter on_time (filter reach all)) ≡ all_matches q (docs_of ds)
   wanted_ones =
       filter-both holds on_time (filter reach all) ∙ filter-both (λ r. on_time r && holds r) reach all
       ∙ filter-same (λ r. reach r && (on_time r && holds r)) (λ r. holds r && is_wanted q r)
@@ -235,8 +235,8 @@ module _ (q : ScanInput) (ds : KeptDocuments) (rows : List RowValue) (own : AllB
       ∙ sym (filter-both (is_wanted q) holds all)
       ∙ ap (filter (is_wanted q)) (sym (sorted_rows-where holds direction unsorted) ∙ ap (sorted_rows direction) (sym (asked_is q.columns q.normal ds (docs_of ds) own)))
 
-  pub found_rows : walked late holds q.count rows ≡ scanned q (docs_of ds)
+  pub found_rows : walked late holds q.count rows ≡ first_matches q (docs_of ds)
   found_rows = ap (walked late holds q.count) begun_at ∙ walked_is late holds q.count (filter reach all) late_ones ∙ ap (take q.count) wanted_ones
 
-  pub all_found_rows : walked_all late holds rows ≡ all_scanned q (docs_of ds)
+  pub all_found_rows : walked_all late holds rows ≡ all_matches q (docs_of ds)
   all_found_rows = ap (walked_all late holds) begun_at ∙ walked_all_is late holds (filter reach all) late_ones ∙ wanted_ones

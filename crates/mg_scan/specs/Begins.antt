@@ -1,4 +1,4 @@
--- Where a search begins is a place among rows and among documents: first come those that it passes over, then those that it reaches.
+-- Where a search begins is a place among rows and among documents: first come those that it does not reach, then those that it reaches.
 -- The proofs of both laws are in specs/, since the code cites them, and code can cite nothing else of its own crate.
 use Rattle.std.proofs.Common.{◌≡◌, ℕ, ◌≤◌, Bool, true, false, not, List, Option, Some, None, option_map, Ordering, Less, Equal, Greater, is_gt, if◌then◌else◌, refl, ap, ap₂, sym, ◌∙◌, arith}
 use Rattle.std.proofs.lemmas.Bool.{and_from, and_parts}

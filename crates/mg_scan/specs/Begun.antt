@@ -5,8 +5,8 @@ use Rattle.mg_index.specs.Definition.{Steps}
 use Rattle.mg_scan.specs.Found.{target_columns}
 use Rattle.mg_scan.specs.Way.{begin_at}
 use Rattle.mg_scan.specs.Walked.{id_row}
-use Rattle.mg_scan.specs.declared.left.Unread.{Unread}
-use Rattle.mg_scan.specs.declared.left.Unread.TheVariants as left
+use Rattle.mg_scan.specs.declared.unread.Unread.{Unread}
+use Rattle.mg_scan.specs.declared.unread.Unread.TheVariants as unread
 use Rattle.mg_scan.specs.declared.search.Search.{Search}
 use Rattle.mg_shard.specs.Documents.{KeptDocuments, docs_of, form_at, kept_entry}
 use Rattle.mg_shard.specs.Own.{HasOwnId, id_columns}
@@ -23,16 +23,16 @@ pub record AreBegun (s : Search) (ds : KeptDocuments) (documents : List Document
 
 -- what is left is all from where the search begins, in these columns, if the shard has them
 abbrev pub IsBegunIn : Option (List Steps) → Search → ShardView → Unread → Type 0
-IsBegunIn at s shard (left.Rows rows) = (columns : List Steps) × (at ≡ Some columns) × (rows ≡ beyond s.direction (begin_at s) (rows_of columns (docs_of shard.documents)))
-IsBegunIn at s shard (left.Documents documents) = (at ≡ Some id_columns) × AreBegun s shard.documents documents
-IsBegunIn at s shard left.Nothing = at ≡ None
+IsBegunIn at s shard (unread.Rows rows) = (columns : List Steps) × (at ≡ Some columns) × (rows ≡ beyond s.direction (begin_at s) (rows_of columns (docs_of shard.documents)))
+IsBegunIn at s shard (unread.Documents documents) = (at ≡ Some id_columns) × AreBegun s shard.documents documents
+IsBegunIn at s shard unread.Nothing = at ≡ None
 
 -- what is left is all from where the search begins in its target
 abbrev pub IsBegun : Search → ShardView → Unread → Type 0
 IsBegun s shard = IsBegunIn (target_columns s.target shard.definitions) s shard
 
 -- the second is what is left of the first after n rows of an index; of documents none is passed over, so n is 0
-abbrev pub IsLeftAfter : ℕ → Unread → Unread → Type 0
-IsLeftAfter n (left.Rows rows) l = l ≡ left.Rows (drop n rows)
-IsLeftAfter n (left.Documents documents) l = (n ≡ 0) × (l ≡ left.Documents documents)
-IsLeftAfter n left.Nothing l = l ≡ left.Nothing
+abbrev pub IsUnreadAfter : ℕ → Unread → Unread → Type 0
+IsUnreadAfter n (unread.Rows rows) l = l ≡ unread.Rows (drop n rows)
+IsUnreadAfter n (unread.Documents documents) l = (n ≡ 0) × (l ≡ unread.Documents documents)
+IsUnreadAfter n unread.Nothing l = l ≡ unread.Nothing

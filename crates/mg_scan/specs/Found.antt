@@ -7,7 +7,7 @@ use Rattle.mg_index.specs.Catalog.{definition_at}
 use Rattle.mg_index.specs.Definition.{IndexDefinition, Steps}
 use Rattle.mg_normal.specs.Normal.{NormalForm}
 use Rattle.mg_range.specs.Range.{Range}
-use Rattle.mg_scan.specs.Scan.{ScanInput, all_scanned, scanned}
+use Rattle.mg_scan.specs.Scan.{SearchInput, all_matches, first_matches}
 use Rattle.mg_scan.specs.declared.target.Target.{Target}
 use Rattle.mg_scan.specs.declared.target.Target.TheVariants.{AllDocs, Index}
 use Rattle.mg_shard.specs.Documents.{docs_of}
@@ -20,14 +20,14 @@ target_columns AllDocs definitions = Some id_columns
 target_columns (Index ddoc name) definitions = option_map (λ d. d.columns) (definition_at ddoc.now name.now definitions)
 
 -- what a scan is asked; the columns come last
-abbrev pub scan_input : NormalForm → Range → Option RowValue → ℕ → Direction → List Steps → ScanInput
-scan_input normal range after count direction columns =
+abbrev pub input_of_parts : NormalForm → Range → Option RowValue → ℕ → Direction → List Steps → SearchInput
+input_of_parts normal range after count direction columns =
     record { columns = columns; normal = normal; range = range; after = after; count = count; direction = direction }
 
 -- what a scan finds in a shard, by the columns of its target; nothing where the shard has no such index
-abbrev pub found_in : Target → (List Steps → ScanInput) → ShardView → List RowValue
-found_in target input s = option_map_or (λ columns. scanned (input columns) (docs_of s.documents)) (target_columns target s.definitions) []
+abbrev pub found_in : Target → (List Steps → SearchInput) → ShardView → List RowValue
+found_in target input s = option_map_or (λ columns. first_matches (input columns) (docs_of s.documents)) (target_columns target s.definitions) []
 
 -- all that a scan without a limit finds in a shard
-abbrev pub all_found_in : Target → (List Steps → ScanInput) → ShardView → List RowValue
-all_found_in target input s = option_map_or (λ columns. all_scanned (input columns) (docs_of s.documents)) (target_columns target s.definitions) []
+abbrev pub all_found_in : Target → (List Steps → SearchInput) → ShardView → List RowValue
+all_found_in target input s = option_map_or (λ columns. all_matches (input columns) (docs_of s.documents)) (target_columns target s.definitions) []

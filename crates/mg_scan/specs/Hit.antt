@@ -1,15 +1,11 @@
--- Hits: rows that a scan found, each with its document.
+-- Hits: rows that a search found, each with its document.
 use Rattle.std.specs.Prelude.{◌≡◌, ℕ, List, Some, map, slice_get}
 use Rattle.std.specs.FinMap.{get}
 use Rattle.std.specs.List.{AllByRecursion}
-use Rattle.std.specs.declared.cmp.Ordering.{Ordering}
-use Rattle.std.specs.Cmp.{IsTotalOrder, IsEquivalence, IsPartialEquivalence, IsPartialOrder, partial_equiv_from_equiv, partial_order_from_total}
-use Rattle.std.proofs.lemmas.Cmp.{on_total, eq_by_cmp_equiv}
-use Rattle.std.specs.Ordering.{on, eq_by_cmp, as_partial_cmp}
-use Rattle.mg_collate.specs.Row.{RowValue, row_value_order, row_value_order_total}
+use Rattle.mg_collate.specs.Row.{RowValue}
 use Rattle.mg_value.specs.Text.{compact}
 use Rattle.mg_value.specs.Value.{Value}
-use Rattle.mg_scan.specs.HitRow.{lent_row}
+use Rattle.mg_scan.specs.LentRow.{lent_row}
 use Rattle.mg_scan.specs.declared.hit.Hit.{Hit}
 use Rattle.mg_shard.specs.Documents.{KeptDocuments, form_of, kept_of}
 use Rattle.mg_shard.specs.Shard.{ShardView}
@@ -54,21 +50,3 @@ pub record IsHitIn (shards : List ShardView) (h : Hit) : Type 0 where
 -- each is such a hit
 abbrev pub AreHitsIn : List ShardView → List Hit → Type 0
 AreHitsIn shards hits = AllByRecursion (IsHitIn shards) hits
-
--- the order of hits is that of their rows: by key, and at one key by the bytes of the id
-abbrev pub hit_order : Hit → Hit → Ordering
-hit_order = on hit_row row_value_order
-
--- ---- the laws that Rust's traits of comparison ask for
-
-pub hit_order_total : IsTotalOrder hit_order
-hit_order_total = on_total hit_row row_value_order_total
-
-pub hit_equivalence : IsEquivalence (eq_by_cmp hit_order)
-hit_equivalence = eq_by_cmp_equiv hit_order_total
-
-pub hit_eq_laws : IsPartialEquivalence (eq_by_cmp hit_order)
-hit_eq_laws = partial_equiv_from_equiv hit_equivalence
-
-pub hit_partial_laws : IsPartialOrder (eq_by_cmp hit_order) (as_partial_cmp hit_order)
-hit_partial_laws = partial_order_from_total hit_order_total

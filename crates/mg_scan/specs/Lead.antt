@@ -3,14 +3,14 @@ use Rattle.std.specs.Prelude.{◌≡◌, ℕ, true, List, [], Some, drop, is_som
 use Rattle.std.specs.List.{AllByRecursion}
 use Rattle.mg_collate.specs.Row.{RowValue}
 use Rattle.mg_scan.specs.Decided.{everything}
-use Rattle.mg_scan.specs.HitRow.{lent_row}
+use Rattle.mg_scan.specs.LentRow.{lent_row}
 use Rattle.mg_scan.specs.Way.{all_found_by}
 use Rattle.mg_scan.specs.Sourced.{AreKept, walked_documents}
 use Rattle.mg_scan.specs.Walked.{is_late_row, walked_all}
 use Rattle.mg_scan.specs.declared.lead.Lead.{Lead}
 use Rattle.mg_scan.specs.declared.lead_source.LeadSource.{LeadSource}
-use Rattle.mg_scan.specs.declared.left.Unread.{Unread}
-use Rattle.mg_scan.specs.declared.left.Unread.TheVariants as left
+use Rattle.mg_scan.specs.declared.unread.Unread.{Unread}
+use Rattle.mg_scan.specs.declared.unread.Unread.TheVariants as unread
 use Rattle.mg_scan.specs.declared.search.Search.{Search}
 use Rattle.mg_shard.specs.Documents.{KeptDocuments, form_at}
 use Rattle.mg_shard.specs.Shard.{ShardView}
@@ -49,22 +49,22 @@ rows_on_way s rows = walked_all (is_late_row s.direction s.range.now) (λ r. tru
 
 -- the rows of the leads that are still to come
 abbrev pub lead_rows : Search → Unread → List RowValue
-lead_rows s (left.Rows rows) = rows_on_way s rows
-lead_rows s (left.Documents ds) = walked_documents (without_selector s) ds
-lead_rows s left.Nothing = []
+lead_rows s (unread.Rows rows) = rows_on_way s rows
+lead_rows s (unread.Documents ds) = walked_documents (without_selector s) ds
+lead_rows s unread.Nothing = []
 
 -- a lead that is still to come is of this shard, if the rows that are left are of documents that it serves, or the documents are its own
 abbrev pub IsLeadUnread : ShardView → Unread → Lead → Type 0
-IsLeadUnread shard (left.Rows rows) l = AreServed shard.documents rows → IsLeadOf shard l
-IsLeadUnread shard (left.Documents ds) l = AreKept shard.documents ds → IsLeadOf shard l
-IsLeadUnread shard left.Nothing l = IsLeadOf shard l
+IsLeadUnread shard (unread.Rows rows) l = AreServed shard.documents rows → IsLeadOf shard l
+IsLeadUnread shard (unread.Documents ds) l = AreKept shard.documents ds → IsLeadOf shard l
+IsLeadUnread shard unread.Nothing l = IsLeadOf shard l
 
 -- a source of all rows in the search's range, whatever their documents
 pub record IsLeadSourceOf (search : Search) (s : ShardView) (source : LeadSource) : Type 0 where
-  pub rows : lead_rows source.search source.left ≡ all_found_by (without_selector search) s
-  pub leads : (l : Lead) → IsLeadUnread source.shard.now source.left l → IsLeadOf s l
+  pub rows : lead_rows source.search source.unread ≡ all_found_by (without_selector search) s
+  pub leads : (l : Lead) → IsLeadUnread source.shard.now source.unread l → IsLeadOf s l
 
 -- a source of all rows in the search's range but the first n, whatever their documents
 pub record IsLeadSourceAfter (n : ℕ) (search : Search) (s : ShardView) (source : LeadSource) : Type 0 where
-  pub rows : lead_rows source.search source.left ≡ drop n (all_found_by (without_selector search) s)
-  pub leads : (l : Lead) → IsLeadUnread source.shard.now source.left l → IsLeadOf s l
+  pub rows : lead_rows source.search source.unread ≡ drop n (all_found_by (without_selector search) s)
+  pub leads : (l : Lead) → IsLeadUnread source.shard.now source.unread l → IsLeadOf s l

@@ -1,6 +1,6 @@
 pub mod Scan
 pub mod Found
-pub mod HitRow
+pub mod LentRow
 pub mod Hit
 pub mod Built
 pub mod Building

@@ -3,24 +3,24 @@ use Rattle.std.specs.Prelude.{◌≡◌, ℕ, ◌<◌, ◌≤◌, Bool, true, fa
 use Rattle.std.specs.Option.{option_map_or}
 use Rattle.mg_collate.specs.Row.{RowValue}
 use Rattle.mg_scan.specs.Walked.{is_late_row}
-use Rattle.mg_scan.specs.declared.left.Unread.{Unread}
-use Rattle.mg_scan.specs.declared.left.Unread.TheVariants as left
+use Rattle.mg_scan.specs.declared.unread.Unread.{Unread}
+use Rattle.mg_scan.specs.declared.unread.Unread.TheVariants as unread
 use Rattle.mg_scan.specs.declared.search.Search.{Search}
 
 -- the row at a place comes after the range; true also where there is no row
-abbrev pub is_past_at : Search → List RowValue → ℕ → Bool
-is_past_at s rows place = option_map_or (is_late_row s.direction s.range.now) (slice_get rows place) true
+abbrev pub is_late_at : Search → List RowValue → ℕ → Bool
+is_late_at s rows place = option_map_or (is_late_row s.direction s.range.now) (slice_get rows place) true
 
 -- each row after one that is past the range is past it too
 abbrev pub EndsOnce : Search → List RowValue → Type 0
-EndsOnce s rows = (i j : ℕ) → i ≤ j → is_past_at s rows i ≡ true → is_past_at s rows j ≡ true
+EndsOnce s rows = (i j : ℕ) → i ≤ j → is_late_at s rows i ≡ true → is_late_at s rows j ≡ true
 
 -- the first n rows come before the end of the range
 abbrev pub AreBeforeEnd : Search → List RowValue → ℕ → Type 0
-AreBeforeEnd s rows n = (i : ℕ) → i < n → is_past_at s rows i ≡ false
+AreBeforeEnd s rows n = (i : ℕ) → i < n → is_late_at s rows i ≡ false
 
 -- the rows of an index that are left
 abbrev pub index_rows : Unread → List RowValue
-index_rows (left.Rows rows) = rows
-index_rows (left.Documents documents) = []
-index_rows left.Nothing = []
+index_rows (unread.Rows rows) = rows
+index_rows (unread.Documents documents) = []
+index_rows unread.Nothing = []

@@ -16,7 +16,7 @@ use Rattle.mg_shard.specs.Histories.{ServedDocument}
 use Rattle.mg_shard.specs.Rows.{row_of}
 
 -- what a scan is asked: the columns of the index, which documents, which keys, after which row, how many rows, and in which direction
-pub record ScanInput : Type 0 where
+pub record SearchInput : Type 0 where
   pub columns : List Steps
   pub normal : NormalForm
   pub range : Range
@@ -29,17 +29,17 @@ abbrev pub comes_after : Direction → Option RowValue → RowValue → Bool
 comes_after direction after r = option_map_or (λ p. is_gt (directed_order direction r p)) after true
 
 -- the row's key is in the range, and the row comes after the one that is named
-abbrev pub is_wanted : ScanInput → RowValue → Bool
+abbrev pub is_wanted : SearchInput → RowValue → Bool
 is_wanted q r = has_key q.range (item_list r.0) && comes_after q.direction q.after r
 
 -- the documents that the selector holds of
-abbrev pub asked_documents : ScanInput → List ServedDocument → List ServedDocument
+abbrev pub asked_documents : SearchInput → List ServedDocument → List ServedDocument
 asked_documents q ds = filter (λ d. normal_holds q.normal (Some d.1)) ds
 
 -- all rows that match the input in a shard with these documents, without its limit
-abbrev pub all_scanned : ScanInput → List ServedDocument → List RowValue
-all_scanned q ds = filter (is_wanted q) (sorted_rows q.direction (filter_map (row_of q.columns) (asked_documents q ds)))
+abbrev pub all_matches : SearchInput → List ServedDocument → List RowValue
+all_matches q ds = filter (is_wanted q) (sorted_rows q.direction (filter_map (row_of q.columns) (asked_documents q ds)))
 
 -- what a scan of the shard finds
-abbrev pub scanned : ScanInput → List ServedDocument → List RowValue
-scanned q ds = take q.count (all_scanned q ds)
+abbrev pub first_matches : SearchInput → List ServedDocument → List RowValue
+first_matches q ds = take q.count (all_matches q ds)

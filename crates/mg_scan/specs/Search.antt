@@ -2,8 +2,8 @@
 use Rattle.std.specs.Prelude.{List, Option, option_map}
 use Rattle.mg_collate.specs.Row.{RowValue}
 use Rattle.mg_index.specs.Definition.{Steps}
-use Rattle.mg_scan.specs.Found.{scan_input, found_in}
-use Rattle.mg_scan.specs.Scan.{ScanInput}
+use Rattle.mg_scan.specs.Found.{input_of_parts, found_in}
+use Rattle.mg_scan.specs.Scan.{SearchInput}
 use Rattle.mg_scan.specs.declared.search.Search.{Search}
 use Rattle.mg_shard.specs.Shard.{ShardView}
 
@@ -12,8 +12,8 @@ abbrev pub after_of : Search → Option RowValue
 after_of s = option_map (λ r. r.now) s.after
 
 -- what it asks of an index with these columns
-abbrev pub search_input : Search → List Steps → ScanInput
-search_input s = scan_input s.normal.now s.range.now (after_of s) s.take s.direction
+abbrev pub search_input : Search → List Steps → SearchInput
+search_input s = input_of_parts s.normal.now s.range.now (after_of s) s.take s.direction
 
 -- what it finds in a shard
 abbrev pub found_by : Search → ShardView → List RowValue

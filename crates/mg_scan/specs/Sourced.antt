@@ -10,8 +10,8 @@ use Rattle.mg_scan.specs.Way.{all_found_by, walked_all_by}
 use Rattle.mg_scan.specs.Walked.{is_late_row}
 use Rattle.mg_scan.specs.declared.hit.Hit.{Hit}
 use Rattle.mg_scan.specs.declared.search.Search.{Search}
-use Rattle.mg_scan.specs.declared.left.Unread.{Unread}
-use Rattle.mg_scan.specs.declared.left.Unread.TheVariants as left
+use Rattle.mg_scan.specs.declared.unread.Unread.{Unread}
+use Rattle.mg_scan.specs.declared.unread.Unread.TheVariants as unread
 use Rattle.mg_scan.specs.declared.source.HitSource.{HitSource}
 use Rattle.mg_shard.specs.Documents.{KeptDocuments, form_of, id_bytes, kept_of}
 use Rattle.mg_shard.specs.Own.{id_columns}
@@ -42,18 +42,18 @@ abbrev pub AreKept : KeptDocuments → List Document → Type 0
 AreKept kept ds = AllByRecursion (λ d. get kept (id_bytes d) ≡ Some (kept_of d)) ds
 
 -- the rows of the hits that are still to come
-abbrev pub left_rows : Search → ShardView → Unread → List RowValue
-left_rows s shard (left.Rows rows) = walked_all_by s shard.documents rows
-left_rows s shard (left.Documents ds) = walked_documents s ds
-left_rows s shard left.Nothing = []
+abbrev pub unread_rows : Search → ShardView → Unread → List RowValue
+unread_rows s shard (unread.Rows rows) = walked_all_by s shard.documents rows
+unread_rows s shard (unread.Documents ds) = walked_documents s ds
+unread_rows s shard unread.Nothing = []
 
 -- a hit that is still to come is of this shard's documents, if the documents that are left are kept there
 abbrev pub IsUnread : ShardView → Unread → Hit → Type 0
-IsUnread shard (left.Rows rows) h = IsHitOf shard.documents h
-IsUnread shard (left.Documents ds) h = AreKept shard.documents ds → IsHitOf shard.documents h
-IsUnread shard left.Nothing h = IsHitOf shard.documents h
+IsUnread shard (unread.Rows rows) h = IsHitOf shard.documents h
+IsUnread shard (unread.Documents ds) h = AreKept shard.documents ds → IsHitOf shard.documents h
+IsUnread shard unread.Nothing h = IsHitOf shard.documents h
 
 -- a source of all that the search finds in a shard
 pub record IsSourceOf (search : Search) (s : ShardView) (source : HitSource) : Type 0 where
-  pub rows : left_rows source.search source.shard.now source.left ≡ all_found_by search s
-  pub hits : (h : Hit) → IsUnread source.shard.now source.left h → IsHitOf s.documents h
+  pub rows : unread_rows source.search source.shard.now source.unread ≡ all_found_by search s
+  pub hits : (h : Hit) → IsUnread source.shard.now source.unread h → IsHitOf s.documents h

@@ -1,4 +1,4 @@
--- How much a scan can read in a shard.
+-- How much a search can read in a shard.
 use Rattle.std.specs.Prelude.{ℕ, Option, length, option_map}
 use Rattle.std.specs.FinMap.{entries}
 use Rattle.std.specs.Option.{option_map_or}
@@ -14,11 +14,11 @@ use Rattle.mg_shard.specs.Walk.{beyond}
 use Rattle.mg_value.specs.Value.{item_list}
 use Rattle.std.specs.declared.cmp.Ordering.{Ordering}
 
--- the place where a scan begins, compared to a row
+-- the place where a search begins, compared to a row
 abbrev pub begins_at : Range → Option RowValue → Direction → RowValue → Ordering
 begins_at range after direction r = begin_order direction (side_of range (item_list r.0)) (option_map (row_value_order r) after)
 
--- how many documents, deleted ones too, or rows of the index come after the place where a scan begins; 0 if there is no such index
+-- how many documents, deleted ones too, or rows of the index come after the place where a search begins; 0 if there is no such index
 abbrev pub count_upcoming : Target → Range → Option RowValue → Direction → ShardView → ℕ
 count_upcoming AllDocs range after direction s = length (beyond direction (λ e. begins_at range after direction (id_row e.0)) (entries s.documents))
 count_upcoming (Index ddoc name) range after direction s = option_map_or (λ rows. length (beyond direction (begins_at range after direction) rows)) (rows_at ddoc.now name.now s) 0

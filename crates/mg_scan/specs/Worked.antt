@@ -16,13 +16,13 @@ pub record AreHitsFound (search : Search) (s : ShardView) (hits : List Hit) : Ty
   pub documents : AreHitsOf s.documents hits
 
 -- the hits are what the search finds in the i-th shard
-pub record HitsAnswer (search : Search) (shards : List ShardView) (i : ℕ) (hits : List Hit) : Type 0 where
+pub record AreHitsFoundAt (search : Search) (shards : List ShardView) (i : ℕ) (hits : List Hit) : Type 0 where
   pub gives : (s : ShardView) → slice_get shards i ≡ Some s → AreHitsFound search s hits
 
 -- each of these has the hits of the shard that it names
 abbrev pub AllShardHits : Search → List ShardView → List ShardHits → Type 0
-AllShardHits search shards ds = AllByRecursion (λ d. HitsAnswer search shards d.shard d.hits.items) ds
+AllShardHits search shards ds = AllByRecursion (λ d. AreHitsFoundAt search shards d.shard d.hits.items) ds
 
 -- a full slot has the hits of its shard
 abbrev pub AllSlots : Search → List ShardView → List (Option (Vec Hit Global)) → Type 0
-AllSlots search shards slots = (i : ℕ) (v : Vec Hit Global) → slice_get slots i ≡ Some (Some v) → HitsAnswer search shards i v.items
+AllSlots search shards slots = (i : ℕ) (v : Vec Hit Global) → slice_get slots i ≡ Some (Some v) → AreHitsFoundAt search shards i v.items

@@ -56,7 +56,7 @@ impl<'a, X: Identified> Probe<Shared<X>> for Begin<'a> {
 
 // The hint of the id at which the range is entered.
 fn id_hint(search: Search<'_>) -> u64 {
-    match search.range.keys().entered_at(search.direction) {
+    match search.range.key_range().entered_at(search.direction) {
         Some((Json::Text(id), _)) => text_hint(id.as_str()),
         _ if search.direction == Direction::Asc => 0,
         _ => u64::MAX,

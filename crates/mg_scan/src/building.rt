@@ -1,4 +1,4 @@
-//! Indexes built over shards, their keys extracted in parallel.
+//! Indexes built over shards, their rows extracted in parallel.
 ghost use Rattle.std.specs.Prelude.{◌≡◌, ◌+◌, ◌^◌, ◌<◌, ◌≤◌, List, Some, length, map, slice_get, vec_len, IfOk};
 ghost use Rattle.std.specs.Arc.{arc_value};
 ghost use Rattle.mg_scan.specs.Built.{with_index};
@@ -186,8 +186,8 @@ fn index_shards(
 
 /// Returns the shards, each with an index of this definition, which replaces one of the same design document and name, as
 /// `Shard::with_index` makes them. The result is the same for every number of workers, 1 to 32, and for every gate. One worker starts no
-/// thread. Several workers take a shard each; if there are at least twice as many workers as shards left, as many threads as there are
-/// processors extract the rows of a shard of 1,000 or more documents. The definition is copied once, and the shards share it.
+/// thread. Several workers take a shard each; if there are at least twice as many workers as shards left, up to two threads for each
+/// processor extract the rows of a shard of 1,000 or more documents. The definition is copied once, and the shards share it.
 ///
 /// The gate is passed before a shard's first document is read, and after its last row is made unless an allocation fails in that shard.
 /// Errors: `NoMemory` if an allocation fails. Cost: that of `Shard::rows_for` and of `Shard::with_rows` for each shard.

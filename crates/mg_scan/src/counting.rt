@@ -1,11 +1,11 @@
-//! How much a scan can read, by counts.
+//! How much a search can read, by counts.
 ghost use Rattle.std.specs.Prelude.{◌≡◌, length, nat_le};
 ghost use Rattle.std.specs.List.{sum_by};
 ghost use Rattle.std.specs.Option.{option_map_or};
 ghost use Rattle.mg_shard.specs.Shard.{rows_at, shards_seen};
 ghost use Rattle.mg_shard.specs.Walk.{beyond};
 ghost use Rattle.mg_scan.specs.Search.{after_of};
-ghost use Rattle.mg_scan.specs.Upcoming.{count_upcoming as count_upcoming_in};
+ghost use Rattle.mg_scan.specs.Upcoming.{count_upcoming};
 ghost use Rattle.mg_scan.specs.Way.{begin_at};
 
 use crate::begin::Begin;
@@ -21,7 +21,7 @@ use std::sync::Arc;
 pub fn reads_at_most(shards: &[Arc<Shard>], search: Search<'_>, most: usize) -> bool
     ensures { result
         ≡ nat_le (sum_by
-        (count_upcoming_in search.entry.target search.entry.range.now
+        (count_upcoming search.entry.target search.entry.range.now
         (after_of search.entry) search.entry.direction)
         (shards_seen shards.now)) most }
 {
@@ -40,7 +40,7 @@ pub fn reads_at_most(shards: &[Arc<Shard>], search: Search<'_>, most: usize) -> 
 // How many documents or rows come after where the search begins in a shard.
 pub(crate) fn count_upcoming(shard: &Shard, search: Search<'_>) -> usize
     ensures { result
-        ≡ count_upcoming_in search.entry.target search.entry.range.now
+        ≡ count_upcoming search.entry.target search.entry.range.now
         (after_of search.entry) search.entry.direction shard.now }
 {
     match search.target {

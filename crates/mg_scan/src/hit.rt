@@ -1,10 +1,10 @@
-//! Rows that a scan found, each with its document, all lent.
+//! Rows that a search found, each with its document, all lent.
 ghost use Rattle.std.specs.Prelude.{◌≡◌, IfOk};
 ghost use Rattle.mg_collate.specs.Row.{row_view};
 ghost use Rattle.mg_value.specs.View.{items_view};
 ghost use Rattle.mg_scan.specs.Hit.{hit_document, hit_form, hit_row, hit_text};
 
-use crate::hit_row::HitRow;
+use crate::lent_row::LentRow;
 use mg_collate::Row;
 use mg_merge::Ranked;
 use mg_packed::{Part, Written};
@@ -13,10 +13,10 @@ use mg_value::{Json, NoMemory};
 use std::alloc::Global;
 use std::cmp::Ordering;
 
-/// A row that a scan found, and its document, lent by a shard. Hits are ordered by key, and at one key by the bytes of the id.
+/// A row that a search found, and its document, lent by a shard. Hits are ranked by key, and at one key by the bytes of the id.
 #[derive(Clone, Copy, Drop)]
 pub struct Hit<'a> {
-    pub(crate) row: HitRow<'a>,
+    pub(crate) row: LentRow<'a>,
     pub(crate) document: &'a Document,
     pub(crate) form: &'a Written,
 }
@@ -65,59 +65,10 @@ impl<'a> Hit<'a> {
     }
 }
 
-impl<'a> PartialEq for Hit<'a> {
-    ghost use Rattle.std.specs.Ordering.{eq_by_cmp};
-    ghost use Rattle.mg_scan.specs.Hit.{hit_order, hit_eq_laws};
-
-    ghost eq = { eq_by_cmp hit_order };
-
-    ghost laws = { hit_eq_laws };
-
-    fn eq(&self, other: &Hit<'a>) -> bool {
-        self.cmp(other) == Ordering::Equal
-    }
-}
-
-impl<'a> Eq for Hit<'a> {
-    ghost use Rattle.mg_scan.specs.Hit.{hit_equivalence};
-
-    ghost laws = { hit_equivalence };
-}
-
-impl<'a> PartialOrd for Hit<'a> {
-    ghost use Rattle.std.specs.Ordering.{as_partial_cmp};
-    ghost use Rattle.mg_scan.specs.Hit.{hit_order, hit_partial_laws};
-
-    ghost partial_cmp = { as_partial_cmp hit_order };
-
-    ghost laws = { hit_partial_laws };
-
-    fn partial_cmp(&self, other: &Hit<'a>) -> Option<Ordering> {
-        Some(self.cmp(other))
-    }
-}
-
-impl<'a> Ord for Hit<'a> {
-    ghost use Rattle.std.proofs.Common.{refl};
-    ghost use Rattle.mg_scan.specs.Hit.{hit_order, hit_order_total};
-
-    ghost cmp = { hit_order };
-
-    ghost total = { hit_order_total };
-
-    ghost matches_partial_cmp = { λ _ _. refl };
-
-    ghost matches_eq = { λ _ _. refl };
-
-    fn cmp(&self, other: &Hit<'a>) -> Ordering {
-        self.row.compare(&other.row)
-    }
-}
-
 impl<'a> Ranked for Hit<'a> {
     ghost row_of = { hit_row };
 
     fn order(&self, other: &Hit<'a>) -> Ordering {
-        self.cmp(other)
+        self.row.compare(&other.row)
     }
 }

@@ -1,4 +1,4 @@
-//! Rows that a scan found, lent before their documents are looked up.
+//! Rows that a search found, lent before their documents are looked up.
 ghost use Rattle.std.specs.Prelude.{◌≡◌, List, Some, true, is_some, drop, map, option_map, IfOk, IfSome};
 ghost use Rattle.mg_scan.specs.Hit.{AreHitsIn, IsHitOf, hit_row, hit_rows};
 ghost use Rattle.mg_scan.specs.Lead.{AreLeadsIn, lead_row};
@@ -6,7 +6,7 @@ ghost use Rattle.mg_shard.specs.Documents.{form_at};
 ghost use Rattle.mg_shard.specs.Shard.{ShardView};
 
 use crate::hit::Hit;
-use crate::hit_row::HitRow;
+use crate::lent_row::LentRow;
 use crate::shard::push_if;
 use mg_merge::Ranked;
 use mg_shard::Shard;
@@ -19,7 +19,7 @@ use std::cmp::Ordering;
 #[derive(Clone, Copy, Drop)]
 pub(crate) struct Lead<'a> {
     pub(crate) shard: &'a Shard,
-    pub(crate) row: HitRow<'a>,
+    pub(crate) row: LentRow<'a>,
 }
 
 impl<'a> Ranked for Lead<'a> {

@@ -4,22 +4,22 @@ ghost use Rattle.mg_scan.specs.RangeEnd.{AreBeforeEnd, EndsOnce};
 ghost use Rattle.mg_scan.specs.Lead.{AreServed, IsLeadUnread, IsLeadOf, IsLeadSourceAfter, IsLeadSourceOf, lead_row, lead_rows, rows_on_way, without_selector};
 ghost use Rattle.mg_scan.specs.Sourced.{AreKept, walked_documents};
 
-use crate::hit_row::HitRow;
 use crate::lead::Lead;
 use crate::lead_source::LeadSource;
-use crate::left::{Unread, left_after, left_of};
+use crate::lent_row::LentRow;
 use crate::range_end::RangeEnd;
-use crate::search::{Search, is_past_id};
+use crate::search::{Search, is_late_id};
+use crate::unread::{Unread, unread_after, unread_of};
 use mg_merge::RowSource;
 use mg_shard::{Documents, Rows, Shard};
 
 impl<'a, 'b> RowSource<Lead<'a>> for LeadSource<'a, 'b> {
-    ghost rest = { λ s. lead_rows s.search s.left };
+    ghost rest = { λ s. lead_rows s.search s.unread };
 
-    ghost gives = { λ s. IsLeadUnread s.shard.now s.left };
+    ghost gives = { λ s. IsLeadUnread s.shard.now s.unread };
 
     fn next(&mut self) -> Option<Lead<'a>> {
-        match &mut self.left {
+        match &mut self.unread {
             Unread::Rows(rows) => lead_of_rows(self.shard, rows, self.search, &mut self.range_end),
             Unread::Documents(documents) => lead_of_documents(self.shard, documents, self.search),
             Unread::Nothing => None,
@@ -27,7 +27,7 @@ impl<'a, 'b> RowSource<Lead<'a>> for LeadSource<'a, 'b> {
     }
 }
 
-// The next row of an index that is in the range.
+// The next row of an index; `None` if there is none, or the range ends before it.
 #[inline(always)]
 fn lead_of_rows<'a>(
     shard: &'a Shard,
@@ -54,7 +54,7 @@ fn lead_of_rows<'a>(
     }
     Some(Lead {
         shard,
-        row: HitRow::Bytes(row),
+        row: LentRow::Bytes(row),
     })
 }
 
@@ -74,12 +74,12 @@ fn lead_of_documents<'a>(
         let Some(id) = document.id_key() else {
             continue;
         };
-        if is_past_id(search, id) {
+        if is_late_id(search, id) {
             return None;
         }
         return Some(Lead {
             shard,
-            row: HitRow::Id(id),
+            row: LentRow::Id(id),
         });
     }
     None
@@ -91,7 +91,7 @@ pub(crate) fn lead_source_of<'a, 'b>(shard: &'a Shard, search: Search<'b>) -> Le
 {
     LeadSource {
         shard,
-        left: left_of(shard, search),
+        unread: unread_of(shard, search),
         search,
         range_end: RangeEnd::unknown(),
     }
@@ -107,10 +107,10 @@ pub(crate) fn lead_source_after<'a, 'b>(
     ensures source { IsLeadSourceAfter result.1 search.entry shard.now result.0 }
     ensures within { result.1 ≤ count }
 {
-    let (left, passed) = left_after(left_of(shard, search), count);
+    let (unread, passed) = unread_after(unread_of(shard, search), count);
     let source = LeadSource {
         shard,
-        left,
+        unread,
         search,
         range_end: RangeEnd::unknown(),
     };

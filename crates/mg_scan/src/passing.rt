@@ -5,8 +5,8 @@ ghost use Rattle.mg_scan.specs.Passed.{HasPageOf, IsIndex, IsWithin, beyond_row,
 
 use crate::begin::Begin;
 use crate::counting::count_upcoming;
-use crate::scout::{Scout, enter, scout_of};
-use crate::search::{Search, is_past_row, is_reached};
+use crate::scout::{Scout, insert_scout, scout_of};
+use crate::search::{Search, is_late_row, is_reached};
 use crate::target::Target;
 use mg_rows::RowBytes;
 use mg_shard::Shard;
@@ -148,7 +148,7 @@ fn pass_to<'a>(shards: &[Arc<Shard>], passed: LongSkip<'a>, row: &'a RowBytes) -
         result.search result.skip }
     ensures upcoming { result.upcoming ≡ count_all_upcoming (shards_seen shards.now) result.search }
 {
-    if is_reached(passed.search, row) && !is_past_row(passed.search, row) {
+    if is_reached(passed.search, row) && !is_late_row(passed.search, row) {
         pass_counted(shards, passed, row)
     } else {
         passed
@@ -216,7 +216,7 @@ fn row_near<'a>(
         };
         last = Some(scout.row);
         if let Some(next) = scout_of(scout.rows, search, stride) {
-            enter(&mut scouts, next, search.direction)?;
+            insert_scout(&mut scouts, next, search.direction)?;
         }
     }
     Ok(last)
@@ -238,7 +238,7 @@ fn scouts_of<'a>(
         let shard: &Shard = &shards[i];
         if let Some(rows) = shard.rows_beyond(ddoc, name, &Begin { search }, search.direction) {
             if let Some(scout) = scout_of(rows, search, stride) {
-                enter(&mut scouts, scout, search.direction)?;
+                insert_scout(&mut scouts, scout, search.direction)?;
             }
         }
     }

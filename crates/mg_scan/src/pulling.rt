@@ -26,8 +26,8 @@ use std::sync::Arc;
 /// is in the range and whose document matches the selector. Also returns how many hits were pulled from the shards: at most `take`, and one
 /// more for each shard. All is done on the caller's thread.
 ///
-/// Errors: `NoMemory` if an allocation fails. Cost: in each shard one look-up of where to begin; then for each row that is
-/// read, until those hits are found, a look-up of its document and the selector on it; the merge.
+/// Errors: `NoMemory` if an allocation fails. Cost: in each shard one look-up of where to begin; then, until those hits are found, for
+/// each row of an index that is read a look-up of its document, and for each document the selector; the merge.
 pub fn pull_lent<'a>(
     alloc: Global,
     shards: &'a [Arc<Shard>],
@@ -44,14 +44,14 @@ pub fn pull_lent<'a>(
     Ok((hits, pulled))
 }
 
-/// The hits of `pull_lent` without the first `skip`, if the range decides: in each shard the key of a row decides whether the document
+/// The hits of `pull_lent` without the first `skip`. The range must decide: in each shard the key of a row decides whether the document
 /// matches the selector. Documents are looked up only for the hits that are returned, and the selector is not evaluated. Also returns how
 /// many rows were pulled from the shards: at most `take`, and one more for each shard. All is done on the caller's thread.
 ///
 /// Errors: `NoMemory` if an allocation fails. Cost: in each shard one look-up of where to begin; then a step for each row that is
 /// read, until `take` are found, and the merge; a look-up of a document for each hit that is returned. The first `skip` rows of an
-/// index are passed over by their counts: with one shard all at once; with several all but a few of each, by some ten look-ups in each
-/// shard for each factor of 8 in `skip`. With several, all are read if `skip` is below 16 times the number of shards.
+/// index are passed over by their counts: with one shard all at once; with several all but a few in each shard, by some ten look-ups
+/// in each for each factor of 8 in `skip`. With several, all are read if `skip` is below 16 times the number of shards.
 pub fn pull_rows<'a>(
     alloc: Global,
     shards: &'a [Arc<Shard>],

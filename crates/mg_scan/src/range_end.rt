@@ -3,7 +3,7 @@ ghost use Rattle.std.specs.Prelude.{◌≡◌, ◌∷◌};
 ghost use Rattle.mg_scan.specs.RangeEnd.{AreBeforeEnd, EndsOnce};
 ghost use Rattle.mg_scan.specs.Walked.{is_late_row};
 
-use crate::search::{Search, is_past_row};
+use crate::search::{Search, is_late_row};
 use mg_rows::RowBytes;
 use mg_shard::Rows;
 
@@ -48,7 +48,7 @@ impl RangeEnd {
             self.sure -= 1;
             return false;
         }
-        if is_past_row(search, row) {
+        if is_late_row(search, row) {
             return true;
         }
         self.look_ahead(search, rows);
@@ -71,7 +71,7 @@ impl RangeEnd {
         if place < FEW {
             return;
         }
-        if is_past_row(search, last) {
+        if is_late_row(search, last) {
             self.in_run = true;
             return;
         }

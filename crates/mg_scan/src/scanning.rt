@@ -2,7 +2,7 @@
 ghost use Rattle.std.specs.Prelude.{◌≡◌, ◌<◌, ◌≤◌, map, option_map, IfOk};
 ghost use Rattle.std.specs.List.{AllZip};
 ghost use Rattle.mg_collate.specs.Row.{row_view, rows_view};
-ghost use Rattle.mg_scan.specs.Found.{scan_input, found_in};
+ghost use Rattle.mg_scan.specs.Found.{input_of_parts, found_in};
 ghost use Rattle.mg_scan.specs.Search.{found_by};
 ghost use Rattle.mg_shard.specs.Shard.{shards_seen};
 ghost use Rattle.mg_scan.specs.Hit.{AreHitsOf, hit_rows};
@@ -12,6 +12,7 @@ use crate::hit::Hit;
 use crate::search::{Search, bytes_of};
 use crate::target::Target;
 use crate::threads::map_from_one_thread;
+use crate::worker_count::Workers;
 use crate::workers::{fill_slots, hits_in_order, search_claimed};
 use mg_collate::{Direction, Row};
 use mg_normal::Normal;
@@ -24,21 +25,20 @@ use std::sync::atomic::AtomicU64;
 use std::thread::Threads;
 
 /// Per shard, in the order of the shards, the first `take` hits in the search's direction: rows of the target after `after`, whose key is
-/// in the range and whose document matches the selector. They do not depend on the number of workers, 1 to 32, nor on the gate. One
-/// worker, or one shard, starts no thread.
+/// in the range and whose document matches the selector. They do not depend on the number of workers, nor on the gate. One worker, or one
+/// shard, starts no thread.
 ///
 /// The gate is passed before a shard's first row is read, and after its last row unless an allocation fails in that shard.
-/// Errors: `NoMemory` if an allocation fails. Cost: in each shard one look-up of where to begin, then for each row that is
-/// read a look-up of its document and the selector on it; memory for the lists of hits, which lend the documents.
+/// Errors: `NoMemory` if an allocation fails. Cost: in each shard one look-up of where to begin, then for each row of an index that is
+/// read a look-up of its document, and for each document the selector; memory for the lists of hits, which lend the documents.
 pub fn scan_lent<'a, R: Threads + Sync, G: Gate + Sync>(
     rt: &R,
     alloc: Global,
     shards: &'a [Arc<Shard>],
     search: Search<'_>,
-    workers: usize,
+    workers: Workers,
     gate: &G,
 ) -> Result<Vec<Vec<Hit<'a>>>, NoMemory>
-    requires { (0 < workers) × (workers ≤ 32) }
     ensures rows { IfOk result (λ lists. map (λ hits. hit_rows hits.items) lists.items
         ≡ map (found_by search.entry) (shards_seen shards.now)) }
     ensures hits { IfOk result
@@ -48,7 +48,7 @@ pub fn scan_lent<'a, R: Threads + Sync, G: Gate + Sync>(
     let given = map_from_one_thread(
         rt,
         alloc,
-        workers.min(shards.len()),
+        workers.count().min(shards.len()),
         &|_worker| search_claimed(alloc, shards, search, &next, gate),
     )?;
     let slots = fill_slots(alloc, given, shards, search)?;
@@ -75,7 +75,7 @@ pub fn scan<R: Threads + Sync, G: Gate + Sync>(
     requires { (0 < workers) × (workers ≤ 32) }
     ensures { IfOk result (λ lists. map (λ rows. rows_view rows.items) lists.items
         ≡ map (found_in target.entry
-        (scan_input normal.now range.now (option_map (λ r. row_view r.now) after.entry) take direction))
+        (input_of_parts normal.now range.now (option_map (λ r. row_view r.now) after.entry) take direction))
         (shards_seen shards.now)) }
 {
     let row_range = range.in_rows(alloc)?;
@@ -88,7 +88,7 @@ pub fn scan<R: Threads + Sync, G: Gate + Sync>(
         take,
         direction,
     };
-    let found = scan_lent(rt, alloc, shards, search, workers, gate)?;
+    let found = scan_lent(rt, alloc, shards, search, Workers::exactly(workers), gate)?;
     let lists = copy_row_lists(alloc, &found)?;
     Ok(lists)
 }

@@ -1,7 +1,7 @@
 //! Scouts: one in each shard, which steps over rows by counts.
 ghost use Rattle.std.specs.Prelude.{◌<◌, ◌≤◌, length};
 
-use crate::search::{Search, is_past_row};
+use crate::search::{Search, is_late_row};
 use mg_collate::Direction;
 use mg_rows::RowBytes;
 use mg_shard::Rows;
@@ -14,7 +14,7 @@ pub(crate) struct Scout<'a> {
     pub(crate) rows: Rows<'a>,
 }
 
-// The scout at the row that is `stride` rows further; `None` if the search's range ends before that row.
+// The scout at the row that is `stride` rows further; `None` if fewer rows are left, or the search's range ends before that row.
 pub(crate) fn scout_of<'a>(
     mut rows: Rows<'a>,
     search: Search<'_>,
@@ -24,14 +24,14 @@ pub(crate) fn scout_of<'a>(
 {
     rows.advance(stride - 1);
     let row = rows.next()?;
-    if is_past_row(search, row) {
+    if is_late_row(search, row) {
         return None;
     }
     Some(Scout { row, rows })
 }
 
 // Puts a scout into a list of scouts, which is in the reverse order of their rows: the one whose row comes first is at the end.
-pub(crate) fn enter<'a>(
+pub(crate) fn insert_scout<'a>(
     scouts: &mut Vec<Scout<'a>>,
     scout: Scout<'a>,
     direction: Direction,

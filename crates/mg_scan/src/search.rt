@@ -3,11 +3,11 @@ ghost use Rattle.std.specs.Prelude.{◌≡◌, option_map, IfOk, if◌then◌els
 ghost use Rattle.std.specs.declared.cmp.Ordering.TheVariants.{Less, Greater};
 ghost use Rattle.mg_collate.specs.Direction.{directed};
 ghost use Rattle.mg_collate.specs.Row.{row_value_order, row_view};
-ghost use Rattle.mg_range.specs.RangeSide.{is_early as stands_early, is_late as stands_late};
+ghost use Rattle.mg_range.specs.RangeSide.{is_early, is_late};
 ghost use Rattle.mg_scan.specs.Begins.{reached};
 ghost use Rattle.mg_scan.specs.Search.{after_of};
 ghost use Rattle.mg_scan.specs.Way.{begin_at};
-ghost use Rattle.mg_scan.specs.Walked.{id_row, is_beyond as stands_beyond, is_late_row};
+ghost use Rattle.mg_scan.specs.Walked.{id_row, is_beyond, is_late_row};
 
 use crate::target::Target;
 use mg_collate::{Direction, Row};
@@ -47,7 +47,7 @@ pub(crate) fn bytes_of(alloc: Global, after: Option<&Row>) -> Result<Option<RowB
 
 // Whether a key on this side of the range comes before the range in the direction.
 fn is_early(direction: Direction, side: RangeSide) -> bool
-    ensures { result ≡ stands_early direction side }
+    ensures { result ≡ is_early direction side }
 {
     match (direction, side) {
         (Direction::Asc, RangeSide::Before) => true,
@@ -58,7 +58,7 @@ fn is_early(direction: Direction, side: RangeSide) -> bool
 
 // Whether a key on this side of the range comes after the range in the direction.
 fn is_late(direction: Direction, side: RangeSide) -> bool
-    ensures { result ≡ stands_late direction side }
+    ensures { result ≡ is_late direction side }
 {
     match (direction, side) {
         (Direction::Asc, RangeSide::Past) => true,
@@ -70,7 +70,7 @@ fn is_late(direction: Direction, side: RangeSide) -> bool
 // Whether this ordering puts an item past the row after which the search begins; true without such a row.
 #[inline(always)]
 fn is_beyond(direction: Direction, order: Option<Ordering>) -> bool
-    ensures { result ≡ stands_beyond direction order }
+    ensures { result ≡ is_beyond direction order }
 {
     match order {
         Some(order) => direction.apply(order).is_gt(),
@@ -106,7 +106,7 @@ fn id_order(id: &str, after: Option<&RowBytes>) -> Option<Ordering>
     ensures { result ≡ option_map (row_value_order (id_row id.now)) (option_map (λ r. r.now) after.entry) }
 {
     match after {
-        Some(after) => Some(after.order_of_id(id).reverse()),
+        Some(after) => Some(after.compare_to_id(id).reverse()),
         None => None,
     }
 }
@@ -133,22 +133,22 @@ pub(crate) fn begin_at_row(search: Search<'_>, row: &RowBytes) -> Ordering
 pub(crate) fn begin_at_id(search: Search<'_>, id: &str) -> Ordering
     ensures { result ≡ begin_at search.entry (id_row id.now) }
 {
-    let is_early = is_early(search.direction, search.range.keys().side_at_text(id));
+    let is_early = is_early(search.direction, search.range.key_range().side_at_text(id));
     let is_reached = !is_early && is_beyond(search.direction, id_order(id, search.after));
     begin(search.direction, is_reached)
 }
 
 // Whether a search ends before a row. Cost: one comparison of bytes.
 #[inline(always)]
-pub(crate) fn is_past_row(search: Search<'_>, row: &RowBytes) -> bool
+pub(crate) fn is_late_row(search: Search<'_>, row: &RowBytes) -> bool
     ensures { result ≡ is_late_row search.entry.direction search.entry.range.now row.now }
 {
     search.range.is_late(search.direction, row)
 }
 
 // Whether a search ends before the row of an id among all documents.
-pub(crate) fn is_past_id(search: Search<'_>, id: &str) -> bool
+pub(crate) fn is_late_id(search: Search<'_>, id: &str) -> bool
     ensures { result ≡ is_late_row search.entry.direction search.entry.range.now (id_row id.now) }
 {
-    is_late(search.direction, search.range.keys().side_at_text(id))
+    is_late(search.direction, search.range.key_range().side_at_text(id))
 }

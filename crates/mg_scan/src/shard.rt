@@ -8,8 +8,8 @@ ghost use Rattle.mg_index.specs.Catalog.{definition_at};
 ghost use Rattle.mg_shard.specs.Documents.{KeptDocuments, docs_of, kept_entry, form_of, id_bytes, kept_of};
 ghost use Rattle.mg_shard.specs.Own.{id_columns};
 ghost use Rattle.mg_scan.specs.Hit.{AreHitsOf, IsHitOf, hit_row, hit_rows};
-ghost use Rattle.mg_scan.specs.HitRow.{lent_row};
-ghost use Rattle.mg_scan.specs.Scan.{scanned};
+ghost use Rattle.mg_scan.specs.LentRow.{lent_row};
+ghost use Rattle.mg_scan.specs.Scan.{first_matches};
 ghost use Rattle.mg_scan.specs.Search.{search_input};
 ghost use Rattle.mg_scan.specs.Walked.{holds_at, id_row, is_late_row, list_of_option};
 ghost use Rattle.mg_scan.specs.Way.{entry_rows, walked_by};
@@ -17,8 +17,8 @@ ghost use Rattle.mg_scan.specs.Worked.{AreHitsFound};
 
 use crate::begin::Begin;
 use crate::hit::Hit;
-use crate::hit_row::HitRow;
-use crate::search::{Search, is_past_id, is_past_row};
+use crate::lent_row::LentRow;
+use crate::search::{Search, is_late_id, is_late_row};
 use crate::target::Target;
 use mg_normal::Normal;
 use mg_rows::RowBytes;
@@ -31,7 +31,7 @@ const FIRST_ROOM: usize = 64;
 
 // The hit of a document at a row, if it is served and the selector holds of it.
 pub(crate) fn hit_of<'a>(
-    row: HitRow<'a>,
+    row: LentRow<'a>,
     document: &'a Document,
     normal: &Normal,
 ) -> Option<Hit<'a>>
@@ -60,7 +60,7 @@ pub(crate) fn hit_at<'a>(shard: &'a Shard, row: &'a RowBytes, normal: &Normal) -
     ensures lent { IfSome result (IsHitOf shard.now.documents) }
 {
     let document = shard.document(row.id())?;
-    hit_of(HitRow::Bytes(row), document, normal)
+    hit_of(LentRow::Bytes(row), document, normal)
 }
 
 // Whether a search that has found this many hits ends before this row.
@@ -68,7 +68,7 @@ fn is_over_at_row(search: Search<'_>, found: usize, row: &RowBytes) -> bool
     ensures { result ≡ (nat_le search.entry.take found
         || is_late_row search.entry.direction search.entry.range.now row.now) }
 {
-    found >= search.take || is_past_row(search, row)
+    found >= search.take || is_late_row(search, row)
 }
 
 // Whether a search that has found this many hits ends before the row of an id among all documents.
@@ -76,7 +76,7 @@ fn is_over_at_id(search: Search<'_>, found: usize, id: &str) -> bool
     ensures { result ≡ (nat_le search.entry.take found
         || is_late_row search.entry.direction search.entry.range.now (id_row id.now)) }
 {
-    found >= search.take || is_past_id(search, id)
+    found >= search.take || is_late_id(search, id)
 }
 
 // Appends a hit to the others, if there is one.
@@ -134,7 +134,7 @@ fn hits_of_documents<'a>(
         if is_over_at_id(search, hits.len(), id) {
             return Ok(hits);
         }
-        push_if(&mut hits, hit_of(HitRow::Id(id), document, search.normal))?;
+        push_if(&mut hits, hit_of(LentRow::Id(id), document, search.normal))?;
     }
     Ok(hits)
 }
@@ -147,7 +147,7 @@ fn hits_of_all<'a>(
 ) -> Result<Vec<Hit<'a>>, NoMemory>
     ensures rows { IfOk result
         (λ v. hit_rows v.items
-        ≡ scanned (search_input search.entry id_columns) (docs_of shard.now.documents)) }
+        ≡ first_matches (search_input search.entry id_columns) (docs_of shard.now.documents)) }
     ensures documents { IfOk result (λ v. AreHitsOf shard.now.documents v.items) }
 {
     shard.ids_are_own();
@@ -165,7 +165,7 @@ fn hits_of_index<'a>(
 ) -> Result<Vec<Hit<'a>>, NoMemory>
     ensures rows { IfOk result (λ v. hit_rows v.items
         ≡ option_map_or
-        (λ d. scanned (search_input search.entry d.columns) (docs_of shard.now.documents))
+        (λ d. first_matches (search_input search.entry d.columns) (docs_of shard.now.documents))
         (definition_at ddoc.now name.now shard.now.definitions) []) }
     ensures documents { IfOk result (λ v. AreHitsOf shard.now.documents v.items) }
 {
@@ -177,8 +177,8 @@ fn hits_of_index<'a>(
 
 /// What the search finds in a shard.
 ///
-/// Errors: `NoMemory` if an allocation fails. Cost: one look-up of where to begin, then for each row a look-up of its document, and
-/// the selector on it.
+/// Errors: `NoMemory` if an allocation fails. Cost: one look-up of where to begin, then for each row of an index a look-up of its
+/// document, and for each document the selector.
 pub(crate) fn hits_in<'a>(
     alloc: Global,
     shard: &'a Shard,

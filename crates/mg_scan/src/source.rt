@@ -3,13 +3,13 @@ ghost use Rattle.std.specs.Prelude.{◌≡◌, ◌∷◌, [], IfNone, IfSome};
 ghost use Rattle.mg_shard.specs.Documents.{KeptDocuments};
 ghost use Rattle.mg_scan.specs.Hit.{IsHitOf, hit_row};
 ghost use Rattle.mg_scan.specs.Way.{walked_all_by};
-ghost use Rattle.mg_scan.specs.Sourced.{AreKept, IsUnread, IsSourceOf, left_rows, walked_documents};
+ghost use Rattle.mg_scan.specs.Sourced.{AreKept, IsUnread, IsSourceOf, unread_rows, walked_documents};
 
 use crate::hit::Hit;
-use crate::hit_row::HitRow;
-use crate::left::{Unread, left_of};
-use crate::search::{Search, is_past_id, is_past_row};
+use crate::lent_row::LentRow;
+use crate::search::{Search, is_late_id, is_late_row};
 use crate::shard::{hit_at, hit_of};
+use crate::unread::{Unread, unread_of};
 use mg_merge::RowSource;
 use mg_shard::{Documents, Rows, Shard};
 
@@ -17,17 +17,17 @@ use mg_shard::{Documents, Rows, Shard};
 #[derive(Drop)]
 pub(crate) struct HitSource<'a, 'b> {
     pub(crate) shard: &'a Shard,
-    pub(crate) left: Unread<'a>,
+    pub(crate) unread: Unread<'a>,
     pub(crate) search: Search<'b>,
 }
 
 impl<'a, 'b> RowSource<Hit<'a>> for HitSource<'a, 'b> {
-    ghost rest = { λ s. left_rows s.search s.shard.now s.left };
+    ghost rest = { λ s. unread_rows s.search s.shard.now s.unread };
 
-    ghost gives = { λ s. IsUnread s.shard.now s.left };
+    ghost gives = { λ s. IsUnread s.shard.now s.unread };
 
     fn next(&mut self) -> Option<Hit<'a>> {
-        match &mut self.left {
+        match &mut self.unread {
             Unread::Rows(rows) => next_of_rows(self.shard, rows, self.search),
             Unread::Documents(documents) => next_of_documents(documents, self.search),
             Unread::Nothing => None,
@@ -43,7 +43,7 @@ fn next_of_rows<'a>(shard: &'a Shard, rows: &mut Rows<'a>, search: Search<'_>) -
     ensures lent { IfSome result (IsHitOf shard.now.documents) }
 {
     while let Some(row) = rows.next() {
-        if is_past_row(search, row) {
+        if is_late_row(search, row) {
             return None;
         }
         let hit = hit_at(shard, row, search.normal);
@@ -66,10 +66,10 @@ fn next_of_documents<'a>(documents: &mut Documents<'a>, search: Search<'_>) -> O
         let Some(id) = document.id_key() else {
             continue;
         };
-        if is_past_id(search, id) {
+        if is_late_id(search, id) {
             return None;
         }
-        let hit = hit_of(HitRow::Id(id), document, search.normal);
+        let hit = hit_of(LentRow::Id(id), document, search.normal);
         if hit.is_some() {
             return hit;
         }
@@ -83,7 +83,7 @@ pub(crate) fn source_of<'a, 'b>(shard: &'a Shard, search: Search<'b>) -> HitSour
 {
     HitSource {
         shard,
-        left: left_of(shard, search),
+        unread: unread_of(shard, search),
         search,
     }
 }

@@ -1,4 +1,4 @@
-/// What a scan reads in each shard.
+/// What a search reads in each shard.
 #[derive(Clone, Copy, Debug)]
 pub enum Target<'a> {
     /// All documents, each with its id as its key.

@@ -10,7 +10,7 @@ use std::thread;
 use std::thread::Threads;
 
 /// Calls `f(0)` to `f(n - 1)`, and returns the results in order. The caller's thread starts a thread for each call but the last. It makes
-/// the last call itself, and each call for which no thread can be started.
+/// the last call itself, and each call for which no thread can be started. Errors: `AllocError` if the room for the results is refused.
 ///
 /// `thread::map_indices` returns the same, but its threads start one another. Then Linux often puts two of them on one processor while
 /// another is idle (docs/DECISIONS.md, "Scans and builds").
@@ -30,7 +30,7 @@ pub(crate) fn map_from_one_thread<R: Threads + Sync, X: Send + Drop, F: Fn(usize
     calls_from(rt, alloc, 0, n, f)
 }
 
-// The results of `count` calls, the first of them `f(from)`, for which a thread is started.
+// The results of `count` calls, the first of them `f(from)`. A thread is started for each but the last.
 #[cycle(calls)]
 fn calls_from<R: Threads + Sync, X: Send + Drop, F: Fn(usize) -> X + Sync>(
     rt: &R,

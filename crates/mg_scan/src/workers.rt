@@ -2,7 +2,7 @@
 ghost use Rattle.std.specs.Prelude.{◌≡◌, ◌<◌, List, length, vec_len, All, IfOk, IfSome};
 ghost use Rattle.std.specs.List.{AllZip};
 ghost use Rattle.mg_shard.specs.Shard.{ShardView, shards_seen};
-ghost use Rattle.mg_scan.specs.Worked.{AllShardHits, AllSlots, HitsAnswer, AreHitsFound};
+ghost use Rattle.mg_scan.specs.Worked.{AllShardHits, AllSlots, AreHitsFoundAt, AreHitsFound};
 
 use crate::gate::{Gate, Place};
 use crate::hit::Hit;
@@ -30,7 +30,7 @@ fn search_shard<'a, G: Gate>(
     gate: &G,
 ) -> Result<Vec<Hit<'a>>, NoMemory>
     requires { i < length shards.now }
-    ensures { IfOk result (λ v. HitsAnswer search.entry (shards_seen shards.now) i v.items) }
+    ensures { IfOk result (λ v. AreHitsFoundAt search.entry (shards_seen shards.now) i v.items) }
 {
     gate.at(Place::ShardBegun(i));
     let shard: &Shard = &shards[i];
@@ -112,7 +112,7 @@ pub(crate) fn fill_slots<'a>(
 fn take_slot<'a>(slots: &mut Vec<Option<Vec<Hit<'a>>>>, i: usize) -> Option<Vec<Hit<'a>>>
     requires inside { i < vec_len slots.old }
     ensures hits { (search : Search) (shards : List ShardView) → AllSlots search shards slots.old.items
-        → IfSome result (λ v. HitsAnswer search shards i v.items) }
+        → IfSome result (λ v. AreHitsFoundAt search shards i v.items) }
     ensures slots { (search : Search) (shards : List ShardView) → AllSlots search shards slots.old.items
         → AllSlots search shards slots.new.items }
     ensures len { vec_len slots.new ≡ vec_len slots.old }
@@ -130,8 +130,8 @@ fn hits_or_search<'a, G: Gate>(
     gate: &G,
 ) -> Result<Vec<Hit<'a>>, NoMemory>
     requires inside { i < length shards.now }
-    requires found { IfSome found (λ v. HitsAnswer search (shards_seen shards.now) i v.items) }
-    ensures { IfOk result (λ v. HitsAnswer search.entry (shards_seen shards.now) i v.items) }
+    requires found { IfSome found (λ v. AreHitsFoundAt search (shards_seen shards.now) i v.items) }
+    ensures { IfOk result (λ v. AreHitsFoundAt search.entry (shards_seen shards.now) i v.items) }
 {
     match found {
         Some(hits) => Ok(hits),

@@ -9,8 +9,8 @@ use Rattle.mg_selector.specs.declared.error.SelError.{SelError}
 use Rattle.mg_selector.specs.declared.error.SelError.TheVariants.{BadArg}
 use Rattle.mg_selector.specs.declared.json_type.JsonType.{JsonType}
 use Rattle.mg_selector.specs.declared.json_type.JsonType.TheVariants as json_type
-use Rattle.mg_selector.specs.declared.word.Test.{Test}
-use Rattle.mg_selector.specs.declared.word.Test.TheVariants as test
+use Rattle.mg_selector.specs.declared.name_kind.ValueOperator.{ValueOperator}
+use Rattle.mg_selector.specs.declared.name_kind.ValueOperator.TheVariants as value_operator
 
 -- the type of this name
 abbrev pub type_named : List ℕ → Option JsonType
@@ -38,12 +38,12 @@ abbrev pub size_of : Value → Result Operator SelError
 size_of (whole (pos n)) = Ok (size n)
 size_of v = Err BadArg
 
--- the divisor and the remainder of `$mod`: whole numbers, the first not 0
+-- `$mod` with this divisor and this remainder: whole numbers, the first not 0
 abbrev pub modulo_by : Value → Value → Result Operator SelError
 modulo_by (whole d) (whole r) = if unsigned_abs d == 0 then Err BadArg else Ok (modulo d r)
 modulo_by d r = Err BadArg
 
--- `$mod` takes an array of the two
+-- `$mod` takes an array of the divisor and the remainder
 abbrev pub modulo_of : Value → Result Operator SelError
 modulo_of (list (item d (item r no_items))) = modulo_by d r
 modulo_of v = Err BadArg
@@ -54,17 +54,17 @@ array_of (list vs) = Ok vs
 array_of v = Err BadArg
 
 -- the operator with the value as its argument, or the fault of the value; a comparison takes any value
-abbrev pub operator_with : Test → Value → Result Operator SelError
-operator_with test.Lt v = Ok (less v)
-operator_with test.Lte v = Ok (at_most v)
-operator_with test.Eq v = Ok (equal v)
-operator_with test.Ne v = Ok (unequal v)
-operator_with test.Gte v = Ok (at_least v)
-operator_with test.Gt v = Ok (greater v)
-operator_with test.Exists v = exists_of v
-operator_with test.Type v = type_of v
-operator_with test.In v = fmap among (array_of v)
-operator_with test.Nin v = fmap not_among (array_of v)
-operator_with test.Size v = size_of v
-operator_with test.Mod v = modulo_of v
-operator_with test.All v = fmap containing (array_of v)
+abbrev pub operator_with : ValueOperator → Value → Result Operator SelError
+operator_with value_operator.Lt v = Ok (less v)
+operator_with value_operator.Lte v = Ok (at_most v)
+operator_with value_operator.Eq v = Ok (equal v)
+operator_with value_operator.Ne v = Ok (unequal v)
+operator_with value_operator.Gte v = Ok (at_least v)
+operator_with value_operator.Gt v = Ok (greater v)
+operator_with value_operator.Exists v = exists_of v
+operator_with value_operator.Type v = type_of v
+operator_with value_operator.In v = fmap among (array_of v)
+operator_with value_operator.Nin v = fmap not_among (array_of v)
+operator_with value_operator.Size v = size_of v
+operator_with value_operator.Mod v = modulo_of v
+operator_with value_operator.All v = fmap containing (array_of v)

@@ -64,7 +64,7 @@ abbrev pub equals_only : Items → Value → Bool
 equals_only (item w no_items) v = are_equal v w
 equals_only ws v = false
 
--- an array that has every argument as an element, or that equals the only argument; false without arguments
+-- an array that has every argument as an item, or that equals the only argument; false without arguments
 abbrev pub contains_all : Items → Value → Bool
 contains_all ws (list vs) = every_of_some (is_among vs) ws || equals_only ws (list vs)
 contains_all ws v = false

@@ -6,9 +6,9 @@ use Rattle.mg_selector.specs.declared.error.SelError.{SelError}
 use Rattle.mg_selector.specs.declared.error.SelError.TheVariants.{BadArg, NoMemory}
 
 -- the fault of a selector that has a path with this fault
-abbrev pub fault_of_path : PathError → SelError
-fault_of_path Empty = BadArg
-fault_of_path path_refused = NoMemory
+abbrev pub error_of_path : PathError → SelError
+error_of_path Empty = BadArg
+error_of_path path_refused = NoMemory
 
 -- the fault, or what f gives for the value
 infixl 10 ◌>>=◌

@@ -3,7 +3,7 @@ pub mod Code
 pub mod Entry
 pub mod Fault
 pub mod Meaning
+pub mod NameKind
 pub mod Reading
 pub mod Selector
 pub mod View
-pub mod Word

@@ -22,7 +22,7 @@ abbrev pub in_sense : Sense → Bool → Bool
 in_sense Plain b = b
 in_sense Negated b = not b
 
--- whether an operator holds of a part in a sense, if `entry` says of which values it holds in the plain one; false of a missing part
+-- whether an operator holds of a part in a sense, where `entry` says of which values it holds in the plain sense; false of a missing part
 abbrev pub on_part : (Value → Bool) → Sense → Option Value → Bool
 on_part entry sense None = false
 on_part entry sense (Some v) = in_sense sense (entry v)

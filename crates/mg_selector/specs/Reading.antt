@@ -7,11 +7,11 @@ use Rattle.mg_path.specs.Part.{steps_of}
 use Rattle.mg_selector.specs.Argument.{operator_with}
 use Rattle.mg_selector.specs.Fault.{◌>>=◌, fmap}
 use Rattle.mg_selector.specs.Selector.{Selector, members, every, some, none, opposite, at, asks, Arms, no_arms, arm, equal, some_element, each_element}
-use Rattle.mg_selector.specs.Word.{word_of}
+use Rattle.mg_selector.specs.NameKind.{kind_of_name}
 use Rattle.mg_selector.specs.declared.error.SelError.{SelError}
 use Rattle.mg_selector.specs.declared.error.SelError.TheVariants.{InvalidOperator, BadArg, Shape, NoMemory}
-use Rattle.mg_selector.specs.declared.word.Word.{Word}
-use Rattle.mg_selector.specs.declared.word.Word.TheVariants as word
+use Rattle.mg_selector.specs.declared.name_kind.NameKind.{NameKind}
+use Rattle.mg_selector.specs.declared.name_kind.NameKind.TheVariants as name_kind
 
 -- the result of the definition is the fault that a call returned; for `NoMemory` it may be anything
 abbrev pub Fails : {Y : Type 0} → SelError → Result Y SelError → Type 0
@@ -35,20 +35,20 @@ abbrev pub path_named : List ℕ → Value → Result Selector SelError → Resu
 path_named k v inner = option_map_or (λ steps. fmap (at steps) (argument v inner)) (steps_of k) (Err BadArg)
 
 -- a member by what its name asks for, where `inner` is the reading of its value as a selector, and `arms` as an array of selectors
-abbrev pub by_word : Word → List ℕ → Value → Result Selector SelError → Result Arms SelError → Result Selector SelError
-by_word word.And k v inner arms = fmap every arms
-by_word word.Or k v inner arms = fmap some arms
-by_word word.Nor k v inner arms = fmap none arms
-by_word word.Not k v inner arms = fmap opposite inner
-by_word word.ElemMatch k v inner arms = fmap (λ s. asks (some_element s)) inner
-by_word word.AllMatch k v inner arms = fmap (λ s. asks (each_element s)) inner
-by_word (word.Test o) k v inner arms = fmap asks (operator_with o v)
-by_word word.Unknown k v inner arms = Err InvalidOperator
-by_word word.Path k v inner arms = path_named k v inner
+abbrev pub by_kind : NameKind → List ℕ → Value → Result Selector SelError → Result Arms SelError → Result Selector SelError
+by_kind name_kind.And k v inner arms = fmap every arms
+by_kind name_kind.Or k v inner arms = fmap some arms
+by_kind name_kind.Nor k v inner arms = fmap none arms
+by_kind name_kind.Not k v inner arms = fmap opposite inner
+by_kind name_kind.ElemMatch k v inner arms = fmap (λ s. asks (some_element s)) inner
+by_kind name_kind.AllMatch k v inner arms = fmap (λ s. asks (each_element s)) inner
+by_kind (name_kind.Value o) k v inner arms = fmap asks (operator_with o v)
+by_kind name_kind.Unknown k v inner arms = Err InvalidOperator
+by_kind name_kind.Path k v inner arms = path_named k v inner
 
 -- a member by its name
 abbrev pub named : List ℕ → Value → Result Selector SelError → Result Arms SelError → Result Selector SelError
-named k v inner arms = by_word (word_of k) k v inner arms
+named k v inner arms = by_kind (kind_of_name k) k v inner arms
 
 abbrev mutual
   -- a selector inside another, which has to be an object

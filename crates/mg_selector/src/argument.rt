@@ -8,30 +8,34 @@ ghost use Rattle.mg_selector.specs.View.{operator_of};
 
 use crate::error::SelError;
 use crate::json_type::JsonType;
+use crate::name_kind::ValueOperator;
 use crate::operator::Op;
-use crate::word::Test;
 use mg_value::{Json, copy_items};
 use std::alloc::Global;
 use std::num::NonZeroI64;
 
 /// The operator with the value as its argument.
-pub(crate) fn read_operator(alloc: Global, test: Test, value: &Json) -> Result<Op, SelError>
-    ensures { ReadsAs operator_of result (operator_with test (view value.now)) }
+pub(crate) fn read_operator(
+    alloc: Global,
+    operator: ValueOperator,
+    value: &Json,
+) -> Result<Op, SelError>
+    ensures { ReadsAs operator_of result (operator_with operator (view value.now)) }
 {
-    match test {
-        Test::Lt => Ok(Op::Lt(value.copy(alloc)?)),
-        Test::Lte => Ok(Op::Lte(value.copy(alloc)?)),
-        Test::Eq => Ok(Op::Eq(value.copy(alloc)?)),
-        Test::Ne => Ok(Op::Ne(value.copy(alloc)?)),
-        Test::Gte => Ok(Op::Gte(value.copy(alloc)?)),
-        Test::Gt => Ok(Op::Gt(value.copy(alloc)?)),
-        Test::Exists => read_exists(value),
-        Test::Type => read_type(value),
-        Test::In => Ok(Op::In(read_array(alloc, value)?)),
-        Test::Nin => Ok(Op::Nin(read_array(alloc, value)?)),
-        Test::Size => read_size(value),
-        Test::Mod => read_mod(value),
-        Test::All => Ok(Op::All(read_array(alloc, value)?)),
+    match operator {
+        ValueOperator::Lt => Ok(Op::Lt(value.copy(alloc)?)),
+        ValueOperator::Lte => Ok(Op::Lte(value.copy(alloc)?)),
+        ValueOperator::Eq => Ok(Op::Eq(value.copy(alloc)?)),
+        ValueOperator::Ne => Ok(Op::Ne(value.copy(alloc)?)),
+        ValueOperator::Gte => Ok(Op::Gte(value.copy(alloc)?)),
+        ValueOperator::Gt => Ok(Op::Gt(value.copy(alloc)?)),
+        ValueOperator::Exists => read_exists(value),
+        ValueOperator::Type => read_type(value),
+        ValueOperator::In => Ok(Op::In(read_array(alloc, value)?)),
+        ValueOperator::Nin => Ok(Op::Nin(read_array(alloc, value)?)),
+        ValueOperator::Size => read_size(value),
+        ValueOperator::Mod => read_mod(value),
+        ValueOperator::All => Ok(Op::All(read_array(alloc, value)?)),
     }
 }
 

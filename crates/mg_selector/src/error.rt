@@ -54,10 +54,10 @@ impl From<NoMemory> for SelError {
 }
 
 impl From<PathError> for SelError {
-    ghost use Rattle.mg_selector.specs.Fault.{fault_of_path};
+    ghost use Rattle.mg_selector.specs.Fault.{error_of_path};
     ghost use Rattle.std.specs.Prelude.{◌≡◌};
 
-    ghost from_gives = { λ fault error. error ≡ fault_of_path fault };
+    ghost from_gives = { λ fault error. error ≡ error_of_path fault };
 
     fn from(fault: PathError) -> SelError {
         match fault {

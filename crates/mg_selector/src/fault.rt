@@ -2,11 +2,11 @@ ghost use Rattle.std.specs.Prelude.{◌≡◌};
 ghost use Rattle.std.specs.Result.{result_err};
 ghost use Rattle.mg_value.specs.View.{view, items_view, members_view};
 ghost use Rattle.mg_selector.specs.Argument.{array_of, operator_with};
-ghost use Rattle.mg_selector.specs.Reading.{reading, of_object, of_arms, of_items, of_members, by_word, named, path_named, argument};
+ghost use Rattle.mg_selector.specs.Reading.{reading, of_object, of_arms, of_items, of_members, by_kind, named, path_named, argument};
 
 use crate::argument::{read_exists, read_mod, read_size, read_type};
 use crate::error::SelError;
-use crate::word::{Test, Word, word_of};
+use crate::name_kind::{NameKind, ValueOperator, kind_of_name};
 use mg_path::is_path;
 use mg_value::Json;
 use std::collections::BTreeMap;
@@ -73,24 +73,24 @@ fn member_fault(name: &str, value: &Json) -> Option<SelError>
     ensures { result ≡ result_err
         (named name.now (view value.now) (of_object (view value.now)) (of_arms (view value.now))) }
 {
-    word_fault(word_of(name), name, value)
+    fault_by_kind(kind_of_name(name), name, value)
 }
 
 #[cycle(faults)]
-fn word_fault(word: Word, name: &str, value: &Json) -> Option<SelError>
-    ensures { result ≡ result_err (by_word word name.now
+fn fault_by_kind(kind: NameKind, name: &str, value: &Json) -> Option<SelError>
+    ensures { result ≡ result_err (by_kind kind name.now
         (view value.now) (of_object (view value.now)) (of_arms (view value.now))) }
 {
-    match word {
-        Word::And => arms_fault(value),
-        Word::Or => arms_fault(value),
-        Word::Nor => arms_fault(value),
-        Word::Not => object_fault(value),
-        Word::ElemMatch => object_fault(value),
-        Word::AllMatch => object_fault(value),
-        Word::Test(test) => operator_fault(test, value),
-        Word::Unknown => Some(SelError::InvalidOperator),
-        Word::Path => path_fault(name, value),
+    match kind {
+        NameKind::And => arms_fault(value),
+        NameKind::Or => arms_fault(value),
+        NameKind::Nor => arms_fault(value),
+        NameKind::Not => object_fault(value),
+        NameKind::ElemMatch => object_fault(value),
+        NameKind::AllMatch => object_fault(value),
+        NameKind::Value(operator) => operator_fault(operator, value),
+        NameKind::Unknown => Some(SelError::InvalidOperator),
+        NameKind::Path => path_fault(name, value),
     }
 }
 
@@ -120,17 +120,17 @@ fn argument_fault(value: &Json) -> Option<SelError>
     }
 }
 
-fn operator_fault(test: Test, value: &Json) -> Option<SelError>
-    ensures { result ≡ result_err (operator_with test (view value.now)) }
+fn operator_fault(operator: ValueOperator, value: &Json) -> Option<SelError>
+    ensures { result ≡ result_err (operator_with operator (view value.now)) }
 {
-    match test {
-        Test::Exists => read_exists(value).err(),
-        Test::Type => read_type(value).err(),
-        Test::Size => read_size(value).err(),
-        Test::Mod => read_mod(value).err(),
-        Test::In => array_fault(value),
-        Test::Nin => array_fault(value),
-        Test::All => array_fault(value),
+    match operator {
+        ValueOperator::Exists => read_exists(value).err(),
+        ValueOperator::Type => read_type(value).err(),
+        ValueOperator::Size => read_size(value).err(),
+        ValueOperator::Mod => read_mod(value).err(),
+        ValueOperator::In => array_fault(value),
+        ValueOperator::Nin => array_fault(value),
+        ValueOperator::All => array_fault(value),
         _ => None,
     }
 }

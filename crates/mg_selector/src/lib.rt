@@ -8,11 +8,11 @@ mod error;
 mod fault;
 mod json_type;
 mod meaning;
+mod name_kind;
 mod operator;
 mod reader;
 mod selector;
 mod sense;
-mod word;
 
 pub use error::SelError;
 pub use fault::fault_of;

@@ -52,7 +52,7 @@ impl Op {
     ghost use Rattle.mg_selector.specs.Meaning.{operator_holds};
     ghost use Rattle.mg_selector.specs.View.{operator_of};
 
-    /// Whether the operator holds of the part in the sense. On a missing part only `$exists` can hold,
+    /// Whether the operator holds of the part in the sense. On a missing part (`None`) only `$exists` can hold,
     /// in either sense.
     ///
     /// Takes no memory. Cost: a comparison with each argument; for `$in`, `$nin` and `$all` on an array, with each

@@ -1,14 +1,14 @@
 ghost use Rattle.std.specs.Prelude.{◌≡◌, Ok, Err};
 ghost use Rattle.mg_value.specs.View.{view, items_view, members_view};
-ghost use Rattle.mg_selector.specs.Reading.{ReadsAs, IsObject, reading, of_object, of_arms, of_items, of_members, by_word, named, path_named, argument};
+ghost use Rattle.mg_selector.specs.Reading.{ReadsAs, IsObject, reading, of_object, of_arms, of_items, of_members, by_kind, named, path_named, argument};
 ghost use Rattle.mg_selector.specs.Selector.{asks, equal};
 ghost use Rattle.mg_selector.specs.View.{selector_of, arms_view};
 
 use crate::argument::read_operator;
 use crate::error::SelError;
+use crate::name_kind::{NameKind, kind_of_name};
 use crate::operator::Op;
 use crate::selector::Sel;
-use crate::word::{Word, word_of};
 use mg_path::Path;
 use mg_value::Json;
 use std::alloc::Global;
@@ -74,24 +74,24 @@ fn read_member(alloc: Global, name: &str, value: &Json) -> Result<Sel, SelError>
     ensures { ReadsAs selector_of result
         (named name.now (view value.now) (of_object (view value.now)) (of_arms (view value.now))) }
 {
-    read_by_word(alloc, word_of(name), name, value)
+    read_by_kind(alloc, kind_of_name(name), name, value)
 }
 
 #[cycle(reading)]
-fn read_by_word(alloc: Global, word: Word, name: &str, value: &Json) -> Result<Sel, SelError>
-    ensures { ReadsAs selector_of result (by_word word name.now
+fn read_by_kind(alloc: Global, kind: NameKind, name: &str, value: &Json) -> Result<Sel, SelError>
+    ensures { ReadsAs selector_of result (by_kind kind name.now
         (view value.now) (of_object (view value.now)) (of_arms (view value.now))) }
 {
-    match word {
-        Word::And => Ok(Sel::And(read_arms(alloc, value)?)),
-        Word::Or => Ok(Sel::Or(read_arms(alloc, value)?)),
-        Word::Nor => Ok(Sel::Nor(read_arms(alloc, value)?)),
-        Word::Not => Ok(Sel::Not(read_inner(alloc, value)?)),
-        Word::ElemMatch => Ok(Sel::Ask(Op::ElemMatch(read_inner(alloc, value)?))),
-        Word::AllMatch => Ok(Sel::Ask(Op::AllMatch(read_inner(alloc, value)?))),
-        Word::Test(test) => Ok(Sel::Ask(read_operator(alloc, test, value)?)),
-        Word::Unknown => Err(SelError::InvalidOperator),
-        Word::Path => read_path(alloc, name, value),
+    match kind {
+        NameKind::And => Ok(Sel::And(read_arms(alloc, value)?)),
+        NameKind::Or => Ok(Sel::Or(read_arms(alloc, value)?)),
+        NameKind::Nor => Ok(Sel::Nor(read_arms(alloc, value)?)),
+        NameKind::Not => Ok(Sel::Not(read_inner(alloc, value)?)),
+        NameKind::ElemMatch => Ok(Sel::Ask(Op::ElemMatch(read_inner(alloc, value)?))),
+        NameKind::AllMatch => Ok(Sel::Ask(Op::AllMatch(read_inner(alloc, value)?))),
+        NameKind::Value(operator) => Ok(Sel::Ask(read_operator(alloc, operator, value)?)),
+        NameKind::Unknown => Err(SelError::InvalidOperator),
+        NameKind::Path => read_path(alloc, name, value),
     }
 }
 

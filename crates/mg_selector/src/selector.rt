@@ -41,8 +41,8 @@ impl Sel {
     /// the current part. Any other name is a path, and its value is a selector on the part there, or a
     /// value that the part has to equal.
     ///
-    /// Errors: `Shape` for a value that is not an object; else the first fault, members in the order
-    /// of their names, each with all that is inside it: `InvalidOperator` for an unknown operator,
+    /// Errors: `Shape` for a value that is not an object; else the first fault, reading the members in the
+    /// order of their names, each whole before the next: `InvalidOperator` for an unknown operator,
     /// `BadArg` for an argument that its operator does not take, or for a path with an empty step.
     /// `NoMemory` if an allocation fails and the value has no fault.
     /// Cost: the size of the value. Source: the selector syntax of CouchDB's `_find`.

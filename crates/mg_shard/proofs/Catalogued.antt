@@ -6,7 +6,7 @@ use Rattle.std.specs.List.{AllByRecursion, filter, find}
 use Rattle.std.specs.Cmp.Lexicographic.{slice_cmp}
 use Rattle.std.specs.Ordering.{match_ordering, nat_cmp, ordering_then}
 use Rattle.std.specs.Str.{bytes_eq}
-use Rattle.mg_index.specs.Catalog.{IsCatalog, definition_at, definition_order, is_at, with_definition, without_definition}
+use Rattle.mg_index.specs.Catalog.{IsCatalog, definition_at, definition_order, is_named, with_definition, without_definition}
 use Rattle.mg_index.specs.Definition.{IndexDefinition}
 use Rattle.mg_index.proofs.Catalogs.{IsCatalog-with, IsCatalog-without}
 use Rattle.mg_pages.specs.Order.{Ascends, IsProbe, above, below, first_of_list, found, inserted, removed}
@@ -174,7 +174,7 @@ tied_names : (d e : IndexDefinition) → d.ddoc ≡ e.ddoc → d.name ≡ e.name
 tied_names d e p q =
     ap₂ ordering_then (ap (slice_cmp nat_cmp d.ddoc) (sym p) ∙ tied_itself nat_list_cmp_total d.ddoc) (ap (slice_cmp nat_cmp d.name) (sym q) ∙ tied_itself nat_list_cmp_total d.name)
 
-not_both : (ddoc name : List ℕ) (d e : IndexDefinition) (b : Bool) → is_at ddoc name e ≡ b → is_at ddoc name d ≡ true → definition_order d e ≡ Less → b ≡ false
+not_both : (ddoc name : List ℕ) (d e : IndexDefinition) (b : Bool) → is_named ddoc name e ≡ b → is_named ddoc name d ≡ true → definition_order d e ≡ Less → b ≡ false
 not_both ddoc name d e true at is less =
     let here = both_true (bytes_eq ddoc d.ddoc) (bytes_eq name d.name) is in
     let there = both_true (bytes_eq ddoc e.ddoc) (bytes_eq name e.name) at in
@@ -182,29 +182,29 @@ not_both ddoc name d e true at is less =
     let wrong : Equal ≡ Less = sym tie ∙ less in absurd cc
 not_both ddoc name d e false at is less = refl
 
-none_other : (ddoc name : List ℕ) (d : IndexDefinition) (es : List IndexDefinition) → is_at ddoc name d ≡ true → AllAbove d es → filter (λ e. not (is_at ddoc name e)) es ≡ es
+none_other : (ddoc name : List ℕ) (d : IndexDefinition) (es : List IndexDefinition) → is_named ddoc name d ≡ true → AllAbove d es → filter (λ e. not (is_named ddoc name e)) es ≡ es
 none_other ddoc name d [] is h = refl
 none_other ddoc name d (e ∷ es) is h =
-    ap (λ b. cond (not b) (e ∷ filter (λ x. not (is_at ddoc name x)) es) (filter (λ x. not (is_at ddoc name x)) es)) (not_both ddoc name d e (is_at ddoc name e) refl is h.0)
+    ap (λ b. cond (not b) (e ∷ filter (λ x. not (is_named ddoc name x)) es) (filter (λ x. not (is_named ddoc name x)) es)) (not_both ddoc name d e (is_named ddoc name e) refl is h.0)
     ∙ ap (λ xs. e ∷ xs) (none_other ddoc name d es is h.1)
 
-without_step : (ddoc name : List ℕ) (d : IndexDefinition) (ds : List IndexDefinition) (b : Bool) → is_at ddoc name d ≡ b → AllAbove d ds → filter (λ e. not (is_at ddoc name e)) ds ≡ without_definition ddoc name ds
-    → cond (not b) (d ∷ filter (λ e. not (is_at ddoc name e)) ds) (filter (λ e. not (is_at ddoc name e)) ds) ≡ cond b ds (d ∷ without_definition ddoc name ds)
+without_step : (ddoc name : List ℕ) (d : IndexDefinition) (ds : List IndexDefinition) (b : Bool) → is_named ddoc name d ≡ b → AllAbove d ds → filter (λ e. not (is_named ddoc name e)) ds ≡ without_definition ddoc name ds
+    → cond (not b) (d ∷ filter (λ e. not (is_named ddoc name e)) ds) (filter (λ e. not (is_named ddoc name e)) ds) ≡ cond b ds (d ∷ without_definition ddoc name ds)
 without_step ddoc name d ds true is h rest = none_other ddoc name d ds is h
 without_step ddoc name d ds false is h rest = ap (λ xs. d ∷ xs) rest
 
-left_out : (ddoc name : List ℕ) (ds : List IndexDefinition) → IsCatalog ds → filter (λ e. not (is_at ddoc name e)) ds ≡ without_definition ddoc name ds
+left_out : (ddoc name : List ℕ) (ds : List IndexDefinition) → IsCatalog ds → filter (λ e. not (is_named ddoc name e)) ds ≡ without_definition ddoc name ds
 left_out ddoc name [] c = refl
-left_out ddoc name (d ∷ ds) c = without_step ddoc name d ds (is_at ddoc name d) refl c.0 (left_out ddoc name ds c.1)
+left_out ddoc name (d ∷ ds) c = without_step ddoc name d ds (is_named ddoc name d) refl c.0 (left_out ddoc name ds c.1)
 
 -- the definitions are those of a catalog without one
-pub definitions-without : (ddoc name : List ℕ) (xs : List Index) → IsCatalog (definitions_of xs) → definitions_of (filter (λ x. not (is_at ddoc name x.0)) xs) ≡ without_definition ddoc name (definitions_of xs)
-definitions-without ddoc name xs c = definitions-where (λ d. not (is_at ddoc name d)) xs ∙ left_out ddoc name (definitions_of xs) c
+pub definitions-without : (ddoc name : List ℕ) (xs : List Index) → IsCatalog (definitions_of xs) → definitions_of (filter (λ x. not (is_named ddoc name x.0)) xs) ≡ without_definition ddoc name (definitions_of xs)
+definitions-without ddoc name xs c = definitions-where (λ d. not (is_named ddoc name d)) xs ∙ left_out ddoc name (definitions_of xs) c
 
-pub without_index_sound : (ds : KeptDocuments) (ddoc name : List ℕ) (xs : List Index) → AreIndexes ds xs → AreIndexes ds (filter (λ x. not (is_at ddoc name x.0)) xs)
+pub without_index_sound : (ds : KeptDocuments) (ddoc name : List ℕ) (xs : List Index) → AreIndexes ds xs → AreIndexes ds (filter (λ x. not (is_named ddoc name x.0)) xs)
 without_index_sound ds ddoc name xs a = record {
   catalog = subst (λ cs. IsCatalog cs) (sym (definitions-without ddoc name xs a.catalog)) (IsCatalog-without ddoc name (definitions_of xs) a.catalog);
-  rows = all_where (HasRows ds) (λ x. not (is_at ddoc name x.0)) xs a.rows;
+  rows = all_where (HasRows ds) (λ x. not (is_named ddoc name x.0)) xs a.rows;
 }
 
 -- ---- looked up by name
@@ -217,9 +217,9 @@ found_here ds false x o p has e = e
 
 -- the rows that are kept of the index of a name are those from scratch
 pub rows_found : (ds : KeptDocuments) (ddoc name : List ℕ) (xs : List Index) → AllByRecursion (HasRows ds) xs
-    → option_map (λ x. x.1) (find (λ x. is_at ddoc name x.0) xs) ≡ option_map (λ d. rows_of d.columns (docs_of ds)) (definition_at ddoc name (definitions_of xs))
+    → option_map (λ x. x.1) (find (λ x. is_named ddoc name x.0) xs) ≡ option_map (λ d. rows_of d.columns (docs_of ds)) (definition_at ddoc name (definitions_of xs))
 rows_found ds ddoc name [] h = refl
-rows_found ds ddoc name (x ∷ xs) h = found_here ds (is_at ddoc name x.0) x _ _ h.0 (rows_found ds ddoc name xs h.1)
+rows_found ds ddoc name (x ∷ xs) h = found_here ds (is_named ddoc name x.0) x _ _ h.0 (rows_found ds ddoc name xs h.1)
 
 tied_then : (a b : Ordering) → is_eq (ordering_then a b) ≡ (is_eq a && is_eq b)
 tied_then Less b = refl
@@ -227,7 +227,7 @@ tied_then Equal b = refl
 tied_then Greater b = refl
 
 -- a design document and a name tie with an index where it has both
-pub ties-named : (ddoc name : List ℕ) (x : Index) → is_eq (name_against ddoc name x) ≡ is_at ddoc name x.0
+pub ties-named : (ddoc name : List ℕ) (x : Index) → is_eq (name_against ddoc name x) ≡ is_named ddoc name x.0
 ties-named ddoc name x =
     tied_then (slice_cmp nat_cmp ddoc x.0.ddoc) (slice_cmp nat_cmp name x.0.name) ∙ ap₂ (λ a b. a && b) (is_eq-slice_cmp ddoc x.0.ddoc) (is_eq-slice_cmp name x.0.name)
 
@@ -240,7 +240,7 @@ first_found p [] = refl
 first_found p (x ∷ xs) = first_where (p x) x (filter p xs) (find p xs) (first_found p xs)
 
 -- what ties with a design document and a name is the index that has both
-pub found-named : (ddoc name : List ℕ) (xs : List Index) → found (name_against ddoc name) xs ≡ find (λ x. is_at ddoc name x.0) xs
+pub found-named : (ddoc name : List ℕ) (xs : List Index) → found (name_against ddoc name) xs ≡ find (λ x. is_named ddoc name x.0) xs
 found-named ddoc name xs = first_found (λ x. is_eq (name_against ddoc name x)) xs ∙ (λ i. find (λ x. ties-named ddoc name x i) xs)
 
 -- ---- taken out
@@ -260,7 +260,7 @@ removed_where against (x ∷ xs) p a =
     (λ n. all_weaker (λ y. index_order x y ≡ Less) (λ y. against y ≡ Less) (λ y l. p x y l n) xs a.0) (removed_where against xs p a.1)
 
 -- without what ties with a design document and a name, the indexes that do not have both are left
-pub removed-named : (ddoc name : List ℕ) (xs : List Index) → Ascends index_order xs → removed (name_against ddoc name) xs ≡ filter (λ x. not (is_at ddoc name x.0)) xs
+pub removed-named : (ddoc name : List ℕ) (xs : List Index) → Ascends index_order xs → removed (name_against ddoc name) xs ≡ filter (λ x. not (is_named ddoc name x.0)) xs
 removed-named ddoc name xs a = removed_where (name_against ddoc name) xs (name_probes ddoc name) a ∙ (λ i. filter (λ x. not (ties-named ddoc name x i)) xs)
 
 -- ---- in order

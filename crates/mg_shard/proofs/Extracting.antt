@@ -56,10 +56,10 @@ pub lists_together : (columns : List Steps) (runs : List Run) (xs : List (Bor Ru
     → map (λ (x : Bor Run). x.now) xs ≡ runs → AllZip (λ (x : Bor Run) r. IfOk r (λ v. v.items ≡ rows_in columns x.now.now)) xs rs
     → MatchResult together (λ v. (lists : List (Vec RowValue Global)) × (rs ≡ map Ok lists) × (v.items ≡ lists)) (λ e. Contains rs (Err e))
     → IfOk together (λ v. flat_map (λ (list : Vec RowValue Global). list.items) v.items ≡ filter_map (row_of columns) (served_docs (lent_elements runs)))
-lists_together columns runs xs rs (Err e) shown each all = tt
-lists_together columns runs xs rs (Ok v) shown each all =
+lists_together columns runs xs rs (Err e) kept_documents each all = tt
+lists_together columns runs xs rs (Ok v) kept_documents each all =
     ap (flat_map (λ (list : Vec RowValue Global). list.items)) all.2
-    ∙ rows_given columns runs rs all.0 (slice-AllZip xs runs shown (λ (run : Run) r. IfOk r (λ v. v.items ≡ rows_in columns run.now)) rs each) all.1
+    ∙ rows_given columns runs rs all.0 (slice-AllZip xs runs kept_documents (λ (run : Run) r. IfOk r (λ v. v.items ≡ rows_in columns run.now)) rs each) all.1
     ∙ rows_served columns (lent_elements runs)
 
 abbrev pub Made : Type 0
@@ -93,22 +93,22 @@ chunks_some (suc n) size (r ∷ rows) some =
 module _ (size : ℕ) (rows : List RowValue) (xs : List Chunk) (rs : List Made) where
   pages_are : (v : Vec (List RowValue) Global) → map (λ (x : Chunk). x.now) xs ≡ chunks_of size rows → AllZip (λ (x : Chunk) r. IfOk r (λ p. p ≡ x.now)) xs rs
       → (pages : List (List RowValue)) × (rs ≡ map Ok pages) × (v.items ≡ pages) → v.items ≡ chunks_of size rows
-  pages_are v shown each all =
-      all.2 ∙ pages_given (chunks_of size rows) rs all.0 (slice-AllZip xs (chunks_of size rows) shown (λ (c : List RowValue) r. IfOk r (λ p. p ≡ c)) rs each) all.1
+  pages_are v kept_documents each all =
+      all.2 ∙ pages_given (chunks_of size rows) rs all.0 (slice-AllZip xs (chunks_of size rows) kept_documents (λ (c : List RowValue) r. IfOk r (λ p. p ≡ c)) rs each) all.1
 
   -- what threads put together is either all pages, which hold the rows in their order, or a refusal
   pub pages_together : (together : Result (Vec (List RowValue) Global) NoMemory) → 0 < size
       → map (λ (x : Chunk). x.now) xs ≡ chunks_of size rows → AllZip (λ (x : Chunk) r. IfOk r (λ p. p ≡ x.now)) xs rs
       → MatchResult together (λ v. (pages : List (List RowValue)) × (rs ≡ map Ok pages) × (v.items ≡ pages)) (λ e. Contains rs (Err e))
       → IfOk together (λ v. flat_map (λ (p : List RowValue). p) v.items ≡ rows)
-  pages_together (Err e) some shown each all = tt
-  pages_together (Ok v) some shown each all = ap (flat_map (λ (p : List RowValue). p)) (pages_are v shown each all) ∙ chunks_of-concat size rows some
+  pages_together (Err e) some kept_documents each all = tt
+  pages_together (Ok v) some kept_documents each all = ap (flat_map (λ (p : List RowValue). p)) (pages_are v kept_documents each all) ∙ chunks_of-concat size rows some
 
   -- and none of them is empty
   pub pages_some : (together : Result (Vec (List RowValue) Global) NoMemory) → 0 < size
       → map (λ (x : Chunk). x.now) xs ≡ chunks_of size rows → AllZip (λ (x : Chunk) r. IfOk r (λ p. p ≡ x.now)) xs rs
       → MatchResult together (λ v. (pages : List (List RowValue)) × (rs ≡ map Ok pages) × (v.items ≡ pages)) (λ e. Contains rs (Err e))
       → IfOk together (λ v. AllByRecursion (λ (p : List RowValue). 0 < length p) v.items)
-  pages_some (Err e) some shown each all = tt
-  pages_some (Ok v) some shown each all =
-      subst (λ (ps : List (List RowValue)). AllByRecursion (λ (p : List RowValue). 0 < length p) ps) (sym (pages_are v shown each all)) (chunks_some (length rows) size rows some)
+  pages_some (Err e) some kept_documents each all = tt
+  pages_some (Ok v) some kept_documents each all =
+      subst (λ (ps : List (List RowValue)). AllByRecursion (λ (p : List RowValue). 0 < length p) ps) (sym (pages_are v kept_documents each all)) (chunks_some (length rows) size rows some)

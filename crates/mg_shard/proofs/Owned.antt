@@ -14,7 +14,7 @@ use Rattle.mg_revtree.specs.History.{Leaf}
 use Rattle.mg_revtree.specs.Revision.{revision_text}
 use Rattle.mg_value.specs.Value.{Value, null, flag, whole, text, list, object, Members, no_members, member, no_items, item, get_member, member_of, put, with_member}
 use Rattle.mg_value.specs.View.{items_of}
-use Rattle.mg_shard.specs.Documents.{KeptDocument, kept_entry, form_at, form_of, id_bytes, kept_of, shown}
+use Rattle.mg_shard.specs.Documents.{KeptDocument, kept_entry, form_at, form_of, id_bytes, kept_of, kept_documents}
 use Rattle.mg_shard.specs.Own.{HasOwnId, IsServedOwn, id_columns, form_in, has_own_id}
 use Rattle.mg_shard.specs.Rows.{row_key}
 use Rattle.mg_shard.specs.declared.document.Document.{Document}
@@ -151,7 +151,7 @@ own_found q [] form e = absurd cc
 own_found q (d ∷ ds) form e = own_step q d form (find bytes_cmp q (map kept_entry ds)) (is_eq (bytes_cmp q (id_bytes d))) refl (own_found q ds form) e
 
 -- a document that is served with an `_id` is served with its own
-pub own_shown : (q : List ℕ) (ds : List Document) (form : Value) → form_at (shown ds) q ≡ Some form → HasOwnId q form
+pub own_shown : (q : List ℕ) (ds : List Document) (form : Value) → form_at (kept_documents ds) q ≡ Some form → HasOwnId q form
 own_shown q ds form e = own_found q ds form (ap (option_and_then (λ (k : KeptDocument). k.1)) (sym (get-from_entries nat_list_cmp_total (map kept_entry ds) q)) ∙ e)
 
 -- ---- what is found under an id has it

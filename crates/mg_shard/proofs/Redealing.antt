@@ -17,13 +17,13 @@ use Rattle.mg_pages.specs.Identified.{id_order}
 use Rattle.mg_pages.specs.Order.{Ascends, inserted}
 use Rattle.mg_revtree.specs.History.{Paths}
 use Rattle.mg_shard.specs.Dealt.{Placing, ShardsStandFor, histories_on}
-use Rattle.mg_shard.specs.Documents.{KeptDocument, KeptDocuments, StandsAt, kept_entry, id_bytes, kept_of, shown}
+use Rattle.mg_shard.specs.Documents.{KeptDocument, KeptDocuments, StandsAt, kept_entry, id_bytes, kept_of, kept_documents}
 use Rattle.mg_shard.specs.Histories.{Histories}
 use Rattle.mg_shard.specs.Redealt.{AreMade, ArePlaces, AreRedealt, IsMade, IsPlace, KeepsThose, documents_in, kept_in, last_kept}
 use Rattle.mg_shard.specs.Shard.{ShardView, shards_seen}
 use Rattle.mg_shard.specs.declared.document.Document.{Document}
 use Rattle.mg_shard.proofs.Dealing.{get-kept, not_there, same_some, stands_at}
-use Rattle.mg_shard.proofs.Shown.{bytes_cmp, shown-inserted}
+use Rattle.mg_shard.proofs.Shown.{bytes_cmp, kept_documents-inserted}
 use Rattle.mg_shard.proofs.Standing.{same_id}
 
 -- ---- what several shards keep
@@ -62,12 +62,12 @@ left_step : (e : Bool) (v : KeptDocument) (o p : Option KeptDocument) → (e ≡
 left_step true v o p none = ap (λ x. option_or x (Some v)) (none refl)
 left_step false v o p none = refl
 
-shown_get : (ds : List Document) (q : List ℕ) → get (shown ds) q ≡ find bytes_cmp q (map kept_entry ds)
+shown_get : (ds : List Document) (q : List ℕ) → get (kept_documents ds) q ≡ find bytes_cmp q (map kept_entry ds)
 shown_get ds q = get-from_entries nat_list_cmp_total (map kept_entry ds) q
 
 -- a document that is lent is no longer left
 pub left_less : (d : Document) (rest all : List Document) (q : List ℕ) → Ascends (id_order id_bytes) (d ∷ rest)
-    → option_or (get (shown rest) q) (last_kept (all ++ d ∷ []) q) ≡ option_or (get (shown (d ∷ rest)) q) (last_kept all q)
+    → option_or (get (kept_documents rest) q) (last_kept (all ++ d ∷ []) q) ≡ option_or (get (kept_documents (d ∷ rest)) q) (last_kept all q)
 left_less d rest all q h =
     let e = eq_by_cmp bytes_cmp q (id_bytes d) in
     let o = find bytes_cmp q (map kept_entry rest) in
@@ -77,8 +77,8 @@ left_less d rest all q h =
     ∙ ap (λ x. option_or x (last_kept all q)) (sym (shown_get (d ∷ rest) q))
 
 -- where none is left, all are lent
-pub none_left : (rest : List Document) (o : Option KeptDocument) (q : List ℕ) → rest ≡ [] → option_or (get (shown rest) q) o ≡ o
-none_left rest o q none = ap (λ (ds : List Document). option_or (get (shown ds) q) o) none ∙ ap (λ k. option_or k o) (get-empty bytes_cmp q)
+pub none_left : (rest : List Document) (o : Option KeptDocument) (q : List ℕ) → rest ≡ [] → option_or (get (kept_documents rest) q) o ≡ o
+none_left rest o q none = ap (λ (ds : List Document). option_or (get (kept_documents ds) q) o) none ∙ ap (λ k. option_or k o) (get-empty bytes_cmp q)
 
 -- the documents of one more shard
 pub one_shard : (from : List KeptDocuments) (ds : KeptDocuments) (q : List ℕ) (before after : Option KeptDocument)
@@ -152,27 +152,27 @@ cond_none : (b : Bool) → ◌≡◌ {A = Option KeptDocument} (cond b None None
 cond_none true = refl
 cond_none false = refl
 
-pub none_kept : (ds : List Document) (places : List ℕ) (i : ℕ) (there : List Document) → there ≡ [] → KeepsSoFar ds places i 0 (shown there)
-none_kept ds places i there none place n h id = ap (λ (xs : List Document). get (shown xs) id) none ∙ get-empty bytes_cmp id ∙ sym (cond_none (eqb (place id n) i))
+pub none_kept : (ds : List Document) (places : List ℕ) (i : ℕ) (there : List Document) → there ≡ [] → KeepsSoFar ds places i 0 (kept_documents there)
+none_kept ds places i there none place n h id = ap (λ (xs : List Document). get (kept_documents xs) id) none ∙ get-empty bytes_cmp id ∙ sym (cond_none (eqb (place id n) i))
 
 module _ (ds : List Document) (places : List ℕ) (i k : ℕ) (d : Document) (p : ℕ) (l : k < length ds) (is : d ≡ get_or ds k d) (at : p ≡ get_or places k p) where
   taken : (q : List ℕ) → last_kept (take (suc k) ds) q ≡ cond (eq_by_cmp bytes_cmp q (id_bytes d)) (Some (kept_of d)) (last_kept (take k ds) q)
   taken q = ap (λ (xs : List Document). last_kept xs q) (take_one ds k d l is) ∙ last_more (take k ds) d q
 
   -- one that is placed there
-  pub keeps_more : (there new : List Document) → p ≡ i → new ≡ inserted (id_order id_bytes) d there → KeepsSoFar ds places i k (shown there) → KeepsSoFar ds places i (suc k) (shown new)
+  pub keeps_more : (there new : List Document) → p ≡ i → new ≡ inserted (id_order id_bytes) d there → KeepsSoFar ds places i k (kept_documents there) → KeepsSoFar ds places i (suc k) (kept_documents new)
   keeps_more there new here put h place n are q =
       let e = eq_by_cmp bytes_cmp q (id_bytes d) in
       let b = eqb (place q n) i in
-      ap (λ (xs : List Document). get (shown xs) q) put ∙ ap (λ m. get m q) (shown-inserted d there)
-      ∙ get-insert nat_list_cmp_total (shown there) (id_bytes d) (kept_of d) q
+      ap (λ (xs : List Document). get (kept_documents xs) q) put ∙ ap (λ m. get m q) (kept_documents-inserted d there)
+      ∙ get-insert nat_list_cmp_total (kept_documents there) (id_bytes d) (kept_of d) q
       ∙ ap (cond e (Some (kept_of d))) (h place n are q)
       ∙ here_step e b (kept_of d) (last_kept (take k ds) q)
       (λ tie. eq-eqb (place q n) i (ap (λ z. place z n) (same_id q (id_bytes d) tie) ∙ sym (place_at place n ds places k d p l is at are) ∙ here))
       ∙ ap (λ o. cond b o None) (sym (taken q))
 
   -- one that is placed elsewhere
-  pub keeps_on : (there : List Document) → (p ≡ i → ⊥) → KeepsSoFar ds places i k (shown there) → KeepsSoFar ds places i (suc k) (shown there)
+  pub keeps_on : (there : List Document) → (p ≡ i → ⊥) → KeepsSoFar ds places i k (kept_documents there) → KeepsSoFar ds places i (suc k) (kept_documents there)
   keeps_on there apart h place n are q =
       let e = eq_by_cmp bytes_cmp q (id_bytes d) in
       let b = eqb (place q n) i in
@@ -184,12 +184,12 @@ module _ (ds : List Document) (places : List ℕ) (i k : ℕ) (d : Document) (p 
 -- one more that is read
 pub one_read : (ds : List Document) (places : List ℕ) (i k : ℕ) (d : Document) (p : ℕ) → k < length ds → d ≡ get_or ds k d → p ≡ get_or places k p
     → (there new : List Document) → (eqb p i ≡ true → new ≡ inserted (id_order id_bytes) d there) → (eqb p i ≡ false → new ≡ there)
-    → KeepsSoFar ds places i k (shown there) → KeepsSoFar ds places i (k + 1) (shown new)
-one_read ds places i k d p l is at there new here elsewhere h = subst (λ m. KeepsSoFar ds places i m (shown new)) (sym (add-one k)) (go (eqb p i) refl)
+    → KeepsSoFar ds places i k (kept_documents there) → KeepsSoFar ds places i (k + 1) (kept_documents new)
+one_read ds places i k d p l is at there new here elsewhere h = subst (λ m. KeepsSoFar ds places i m (kept_documents new)) (sym (add-one k)) (go (eqb p i) refl)
   where
-    go : (b : Bool) → eqb p i ≡ b → KeepsSoFar ds places i (suc k) (shown new)
+    go : (b : Bool) → eqb p i ≡ b → KeepsSoFar ds places i (suc k) (kept_documents new)
     go true e = keeps_more ds places i k d p l is at there new (eqb-true p i e) (here e) h
-    go false e = subst (λ (xs : List Document). KeepsSoFar ds places i (suc k) (shown xs)) (sym (elsewhere e))
+    go false e = subst (λ (xs : List Document). KeepsSoFar ds places i (suc k) (kept_documents xs)) (sym (elsewhere e))
         (keeps_on ds places i k d p l is at there (λ a. true≢false (sym (eq-eqb p i a) ∙ e)) h)
 
 -- where all are read

@@ -10,7 +10,7 @@ use Rattle.std.specs.FinMap.Entries.{below_all, where_key, find-where_key}
 use Rattle.std.specs.FinMap.{IsAntisymmetric, entries, entries-from_sorted, find, from_sorted, get, get-from_entries, get-from_sorted, get-insert, insert, is_sorted, nat_cmp-IsAntisymmetric, same_map, slice_cmp-IsAntisymmetric}
 use Rattle.mg_pages.specs.Identified.{id_against, id_order}
 use Rattle.mg_pages.specs.Order.{Ascends, above, below, first_of_list, found, inserted}
-use Rattle.mg_shard.specs.Documents.{KeptDocument, doc_entry, docs_of, kept_entry, id_bytes, kept_of, served_docs, shown}
+use Rattle.mg_shard.specs.Documents.{KeptDocument, doc_entry, docs_of, kept_entry, id_bytes, kept_of, served_docs, kept_documents}
 use Rattle.mg_shard.specs.declared.document.Document.{Document}
 
 abbrev pub bytes_cmp : List ℕ → List ℕ → Ordering
@@ -31,8 +31,8 @@ find-found q [] = refl
 find-found q (d ∷ ds) = found_step (is_eq (bytes_cmp q (id_bytes d))) d (filter (λ x. is_eq (id_against id_bytes q x)) ds) (find bytes_cmp q (map kept_entry ds)) (find-found q ds)
 
 -- what is found among the documents is what the map has
-pub get-shown : (q : List ℕ) (ds : List Document) → option_map kept_of (found (id_against id_bytes q) ds) ≡ get (shown ds) q
-get-shown q ds = find-found q ds ∙ sym (get-from_entries nat_list_cmp_total (map kept_entry ds) q)
+pub get-kept_documents : (q : List ℕ) (ds : List Document) → option_map kept_of (found (id_against id_bytes q) ds) ≡ get (kept_documents ds) q
+get-kept_documents q ds = find-found q ds ∙ sym (get-from_entries nat_list_cmp_total (map kept_entry ds) q)
 
 -- ---- insertions
 
@@ -77,10 +77,10 @@ find-inserted q d ds =
     ∙ ap (λ r. cond (is_eq r) (Some (kept_of d)) o) (sym turned)
 
 -- a document that is put among the others is inserted under its id
-pub shown-inserted : (d : Document) (ds : List Document) → shown (inserted (id_order id_bytes) d ds) ≡ insert (shown ds) (id_bytes d) (kept_of d)
-shown-inserted d ds = same_map nat_list_cmp_total bytes_exact _ _ (λ q.
+pub kept_documents-inserted : (d : Document) (ds : List Document) → kept_documents (inserted (id_order id_bytes) d ds) ≡ insert (kept_documents ds) (id_bytes d) (kept_of d)
+kept_documents-inserted d ds = same_map nat_list_cmp_total bytes_exact _ _ (λ q.
     get-from_entries nat_list_cmp_total (map kept_entry (inserted (id_order id_bytes) d ds)) q ∙ find-inserted q d ds
-    ∙ sym (get-insert nat_list_cmp_total (shown ds) (id_bytes d) (kept_of d) q ∙ ap (cond (eq_by_cmp bytes_cmp q (id_bytes d)) (Some (kept_of d))) (get-from_entries nat_list_cmp_total (map kept_entry ds) q)))
+    ∙ sym (get-insert nat_list_cmp_total (kept_documents ds) (id_bytes d) (kept_of d) q ∙ ap (cond (eq_by_cmp bytes_cmp q (id_bytes d)) (Some (kept_of d))) (get-from_entries nat_list_cmp_total (map kept_entry ds) q)))
 
 -- ---- all of them
 
@@ -97,10 +97,10 @@ sorted_shown [] h = tt
 sorted_shown (d ∷ ds) h = both _ _ (below_shown d ds h.0) (sorted_shown ds h.1)
 
 -- the entries of the map are the documents, in order
-pub entries-shown : (ds : List Document) → Ascends (id_order id_bytes) ds → entries (shown ds) ≡ map kept_entry ds
-entries-shown ds h =
+pub entries-kept_documents : (ds : List Document) → Ascends (id_order id_bytes) ds → entries (kept_documents ds) ≡ map kept_entry ds
+entries-kept_documents ds h =
     let sorted = sorted_shown ds h in
-    ap entries (same_map nat_list_cmp_total bytes_exact (shown ds) (from_sorted (map kept_entry ds)) (λ q.
+    ap entries (same_map nat_list_cmp_total bytes_exact (kept_documents ds) (from_sorted (map kept_entry ds)) (λ q.
     get-from_entries nat_list_cmp_total _ q ∙ sym (get-from_sorted bytes_cmp (map kept_entry ds) q sorted)))
     ∙ entries-from_sorted bytes_cmp (map kept_entry ds) sorted
 
@@ -109,5 +109,5 @@ served_all [] = refl
 served_all (d ∷ ds) = rw (served_all ds)
 
 -- the served ones among the documents, in order, are those of the map
-pub docs-shown : (ds : List Document) → Ascends (id_order id_bytes) ds → served_docs ds ≡ docs_of (shown ds)
-docs-shown ds h = sym (served_all ds) ∙ ap (filter_map doc_entry) (sym (entries-shown ds h))
+pub docs-kept_documents : (ds : List Document) → Ascends (id_order id_bytes) ds → served_docs ds ≡ docs_of (kept_documents ds)
+docs-kept_documents ds h = sym (served_all ds) ∙ ap (filter_map doc_entry) (sym (entries-kept_documents ds h))

@@ -21,7 +21,7 @@ pub record AreDealt {X : Type 0} (Stands : X → Histories → Type 0) (place : 
   pub placed : (id : List ℕ) (h : Paths) → get hs id ≡ Some h → place id (length xs) < length xs
   pub each : (i : ℕ) (x : X) → slice_get xs i ≡ Some x → Stands x (histories_on place (length xs) i hs)
 
--- a shard stands for histories where its documents do
+-- a shard stands for histories if its documents do
 abbrev pub ShardStandsFor : ShardView → Histories → Type 0
 ShardStandsFor s hs = StandFor s.documents hs
 

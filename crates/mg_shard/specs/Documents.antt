@@ -67,13 +67,13 @@ abbrev pub kept_entry : Document → List ℕ × KeptDocument
 kept_entry d = (d.id, kept_of d)
 
 -- documents by their ids
-abbrev pub shown : List Document → KeptDocuments
-shown ds = from_entries (map kept_entry ds)
+abbrev pub kept_documents : List Document → KeptDocuments
+kept_documents ds = from_entries (map kept_entry ds)
 
 -- the served ones among these documents, in their order
 abbrev pub served_docs : List Document → List ServedDocument
 served_docs ds = filter_map (λ d. doc_entry (kept_entry d)) ds
 
--- the served document of an id that is lent, and its form
+-- a lent id with a form, as a served document
 abbrev pub lent_document : Bor (List ℕ) × Value → ServedDocument
 lent_document p = (p.0.now, p.1)

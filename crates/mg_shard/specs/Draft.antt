@@ -32,7 +32,7 @@ draft_code =
     code_by (ShardView × Trees) (coded× shard_code (finite.code (coded_list coded_ℕ) tree_code))
     (λ d. (d.shard, d.touched)) (λ p. record { shard = p.0; touched = p.1 }) (λ _. refl)
 
--- the trees of the code by their ids
+-- trees as the code keeps them, by the ids of their documents
 abbrev pub touched_of : List (String Global × Tree) → Trees
 touched_of es = from_entries (map (λ e. (string_bytes e.0, e.1)) es)
 

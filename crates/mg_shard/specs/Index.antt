@@ -27,7 +27,7 @@ index_code = coded× definition_code (coded_list row_code)
 abbrev pub definitions_of : List Index → List IndexDefinition
 definitions_of xs = map (λ x. x.0) xs
 
--- the rows that are kept are the rows from scratch of the served documents
+-- the rows that are kept are those of an index made from scratch of the served documents
 abbrev pub HasRows : KeptDocuments → Index → Type 0
 HasRows ds x = x.1 ≡ rows_of x.0.columns (docs_of ds)
 
@@ -59,6 +59,6 @@ names_order = then_cmp (on (λ p. p.0) (slice_cmp nat_cmp)) (on (λ p. p.1) (sli
 names_order_total : IsTotalOrder names_order
 names_order_total = then_total (on_total (λ (p : List ℕ × List ℕ). p.0) nat_list_cmp_total) (on_total (λ (p : List ℕ × List ℕ). p.1) nat_list_cmp_total)
 
--- a design document and a name are a key
+-- an index can be looked up by its design document and name
 pub name_probes : (ddoc name : List ℕ) → IsProbe index_order (name_against ddoc name)
 name_probes ddoc name = probe_through names_order_total (λ (x : Index). (x.0.ddoc, x.0.name)) (ddoc, name)

@@ -25,7 +25,7 @@ EachIdHasItsShard =
     (place : Placing) (shards : List ShardView) (hs : Histories) (id : List ℕ) → ShardsStandFor place shards hs
     → StandsAt id (kept_at place shards id) (get hs id)
 
--- the draft of its shard decides the outcome of an edit
+-- the outcome of an edit depends only on the draft of its shard
 abbrev pub EachEditIsDecidedThere : Type 0
 EachEditIsDecidedThere =
     (place : Placing) (drafts : List DraftView) (hs : Histories) (e : Edit) (d : DraftView) → slice_get drafts (place (id_in e) (length drafts)) ≡ Some d

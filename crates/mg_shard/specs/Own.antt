@@ -30,7 +30,7 @@ has_own_id Deleted = false
 has_own_id (WithId form) = true
 has_own_id (WithoutId form) = false
 
--- a document that is served with an `_id` is served with this one
+-- the case says rightly whether the form has an `_id`; if it has one, the `_id` is this id
 abbrev pub IsServedOwn : List ℕ → Served → Type 0
 IsServedOwn id Deleted = ⊤
 IsServedOwn id (WithId form) = member_of (codes "_id") form ≡ Some (text id)

@@ -1,5 +1,5 @@
--- Rows of an index from scratch, after the JSON indexes of the CouchDB 3.x API reference: they hold the documents that have every
--- column.
+-- The rows of an index made from scratch, after the JSON indexes of the CouchDB 3.x API reference: those of the documents that have
+-- every column.
 use Rattle.std.specs.Prelude.{List, Option, option_map}
 use Rattle.std.specs.List.{filter_map}
 use Rattle.mg_value.specs.Value.{Value, Items}

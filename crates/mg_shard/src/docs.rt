@@ -8,8 +8,8 @@ use crate::walk::Documents;
 use mg_packed::Part;
 use std::marker::Model;
 
-/// The served documents that are left, each as its id and the form in which it is served, in the order of the ids or from the last.
-/// Deleted documents are skipped. Takes no memory.
+/// The served documents that are left, each as its id and the form in which it is served, in the order of the ids or in the reverse
+/// order. Deleted documents are skipped. Takes no memory.
 #[derive(Drop)]
 pub struct Docs<'a> {
     documents: Documents<'a>,

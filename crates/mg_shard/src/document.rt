@@ -61,7 +61,8 @@ impl Document {
     /// The document with this id and this revision tree. The winner's body moves into the block of the form in which the document
     /// is served, as for `serve_form`.
     ///
-    /// Errors: `NoMemory` if an allocation fails. Cost: that of `serve_form`, and the length of the form's text.
+    /// Errors: those of `serve_form`, or `NoMemory` if an allocation fails. Cost: that of `serve_form`, and a look-up of the form's member
+    /// `_id`.
     pub(crate) fn of(alloc: Global, id: String, mut tree: RevTree) -> Result<Document, NoMemory>
         ensures id { IfOk result (λ d. d.id ≡ string_bytes id) }
         ensures tree { IfOk result (λ d. d.tree ≡ tree) }

@@ -6,7 +6,7 @@ ghost use Rattle.mg_revtree.specs.History.{Paths};
 ghost use Rattle.mg_revtree.specs.Tree.{StandsFor, Tree};
 ghost use Rattle.mg_doc.specs.Applied.{IsReady, refusal_in};
 ghost use Rattle.mg_doc.specs.Edit.{edited, outcome_of};
-ghost use Rattle.mg_shard.specs.Documents.{StandFor, shown, tree_at};
+ghost use Rattle.mg_shard.specs.Documents.{StandFor, kept_documents, tree_at};
 ghost use Rattle.mg_shard.specs.Draft.{DraftStandsFor, TouchedStandFor, Touches, touched_of};
 ghost use Rattle.std.specs.List.{AllByRecursion};
 ghost use Rattle.mg_shard.specs.Index.{HasRows, definitions_of};
@@ -70,7 +70,7 @@ impl<'a> Draft<'a> {
     /// known whole, touches no document.
     ///
     /// Errors: `NoMemory` if an allocation fails. The draft then stands for nothing, and is only good to drop.
-    /// Cost: that of `Edit::look` and `ReadyEdit::bring`, and a copy of the document's tree if the draft has not touched the
+    /// Cost: that of `Edit::look` and `ReadyEdit::apply`, and a copy of the document's tree if the draft has not touched the
     /// document yet. No copy of the body.
     pub fn apply(&mut self, alloc: Global, edit: Edit) -> Result<EditReply, NoMemory>
         ensures outcome { IfOk result
@@ -137,7 +137,7 @@ fn reply_of(error: EditError) -> Result<EditReply, NoMemory>
 
 // Applies an edit that was looked at on this tree, or on the tree of which this one is a copy. Returns what became of the edit, and
 // the tree after it, into which its body moved.
-fn bring_edit(
+fn apply_ready(
     alloc: Global,
     ready: ReadyEdit,
     mut tree: RevTree,
@@ -147,7 +147,7 @@ fn bring_edit(
         (λ r. (h : Paths) → StandsFor tree h → (outcome_seen r.0 ≡ outcome_of h ready)
         × StandsFor r.1 (edited h ready)) }
 {
-    match ready.bring(alloc, &mut tree) {
+    match ready.apply(alloc, &mut tree) {
         Ok(rev) => Ok((EditReply::Done(rev), tree)),
         Err(error) => Ok((reply_of(error)?, tree)),
     }
@@ -161,7 +161,7 @@ fn apply_edit(alloc: Global, edit: Edit, tree: RevTree) -> Result<(EditReply, Re
 {
     match edit.look(&tree) {
         Ok(Look::Known(rev)) => Ok((EditReply::Done(rev), tree)),
-        Ok(Look::Ready(ready)) => Ok(bring_edit(alloc, ready, tree)?),
+        Ok(Look::Ready(ready)) => Ok(apply_ready(alloc, ready, tree)?),
         Err(error) => Ok((reply_of(error)?, tree)),
     }
 }
@@ -238,7 +238,7 @@ fn touch(
 {
     let key = String::from_str(alloc, id_in(ready.edit()))?;
     let tree = before.copy(alloc)?;
-    let (reply, tree) = bring_edit(alloc, ready, tree)?;
+    let (reply, tree) = apply_ready(alloc, ready, tree)?;
     if !reply.is_done() {
         return Ok(reply);
     }
@@ -272,12 +272,12 @@ fn keep_all(
     mut touched: BTreeMap<String, RevTree>,
 ) -> Result<(Pages<Shared<Document>>, Vec<IndexEntry>), NoMemory>
     ensures stands { IfOk result
-        (λ r. (hs : Histories) → TouchedStandFor (shown documents) (touched_of touched.entries) hs
-        → StandFor (shown r.0) hs) }
+        (λ r. (hs : Histories) → TouchedStandFor (kept_documents documents) (touched_of touched.entries) hs
+        → StandFor (kept_documents r.0) hs) }
     ensures definitions { IfOk result (λ r. definitions_of r.1.items ≡ definitions_of indexes.items) }
     ensures rows { IfOk result
-        (λ r. AllByRecursion (HasRows (shown documents)) indexes.items
-        → AllByRecursion (HasRows (shown r.0)) r.1.items) }
+        (λ r. AllByRecursion (HasRows (kept_documents documents)) indexes.items
+        → AllByRecursion (HasRows (kept_documents r.0)) r.1.items) }
 {
     let mut scratch = KeyBytes::new(alloc);
     while let Some((id, tree)) = touched.pop_first() {

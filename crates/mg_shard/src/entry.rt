@@ -78,7 +78,7 @@ impl IndexEntry {
     ghost use Rattle.std.specs.Prelude.{◌≡◌, IfOk, OnOk, option_map};
     ghost use Rattle.std.specs.Arc.{arc_value};
     ghost use Rattle.std.specs.FinMap.{insert};
-    ghost use Rattle.mg_index.specs.Catalog.{is_at};
+    ghost use Rattle.mg_index.specs.Catalog.{is_named};
     ghost use Rattle.mg_shard.specs.Documents.{KeptDocument, KeptDocuments, form_at};
     ghost use Rattle.mg_shard.specs.Index.{HasRows};
 
@@ -104,10 +104,10 @@ impl IndexEntry {
     }
 
     /// Whether it has this design document and name. Takes no memory. Cost: a comparison of both texts.
-    pub(crate) fn is_at(&self, ddoc: &str, name: &str) -> bool
-        ensures { result ≡ is_at ddoc.now name.now self.now.0 }
+    pub(crate) fn is_named(&self, ddoc: &str, name: &str) -> bool
+        ensures { result ≡ is_named ddoc.now name.now self.now.0 }
     {
-        self.definition.is_at(ddoc, name)
+        self.definition.is_named(ddoc, name)
     }
 
     /// Its rows. Takes no memory.

@@ -11,7 +11,7 @@ ghost use Rattle.mg_shard.specs.Rows.{row_of};
 
 use crate::document::Document;
 use crate::index::row_in;
-use mg_pages::{ELEMENTS, NewPage, Pages, Shared};
+use mg_pages::{NewPage, PAGE_FILL, Pages, Shared};
 use mg_path::Path;
 use mg_rows::{KeyBytes, RowBytes};
 use mg_value::NoMemory;
@@ -109,7 +109,7 @@ fn lists_by_threads<R: Threads + Sync>(
 /// Extracts, by several threads, the rows of those documents of these pages that are served and have every column, in the order of the
 /// documents, into a list with room for `count` rows.
 ///
-/// Errors: `NoMemory` if an allocation fails. Cost: the bytes of each row, shared among as many threads as there are processors.
+/// Errors: `NoMemory` if an allocation fails. Cost: the bytes of each row, shared among up to two threads for each processor.
 pub(crate) fn rows_by_threads<R: Threads + Sync>(
     rt: &R,
     alloc: Global,
@@ -125,8 +125,8 @@ pub(crate) fn rows_by_threads<R: Threads + Sync>(
     Ok(rows)
 }
 
-/// The rows sorted by key and id, by several threads. Takes no memory. Cost: that of a sort, shared among as many threads as there are
-/// processors.
+/// The rows sorted by key and id, by several threads. Takes no memory. Cost: that of a sort, shared among up to two threads for each
+/// processor.
 pub(crate) fn sorted_by_threads<R: Threads + Sync>(rt: &R, mut rows: Vec<RowBytes>) -> Vec<RowBytes>
     ensures permutation { IsPermutation rows.items result.items }
     ensures sorted { IsSorted row_value_order result.items }
@@ -135,7 +135,7 @@ pub(crate) fn sorted_by_threads<R: Threads + Sync>(rt: &R, mut rows: Vec<RowByte
     rows
 }
 
-// The pages of these rows, made by several threads. All but the last have `ELEMENTS` rows.
+// The pages of these rows, made by several threads. All but the last have `PAGE_FILL` rows.
 fn new_pages<R: Threads + Sync>(
     rt: &R,
     alloc: Global,
@@ -145,7 +145,7 @@ fn new_pages<R: Threads + Sync>(
     ensures rows { IfOk result (λ v. flat_map (λ p. p) v.items ≡ rows.now) }
 {
     let pages: Result<Vec<NewPage<RowBytes>>, NoMemory> = rows
-        .par_chunks(ELEMENTS)
+        .par_chunks(PAGE_FILL)
         .map(
             |chunk: &[RowBytes]| -> Result<NewPage<RowBytes>, NoMemory>
                 ensures { IfOk result (λ p. p ≡ chunk.now) }
@@ -155,9 +155,9 @@ fn new_pages<R: Threads + Sync>(
     pages
 }
 
-/// Pages of rows that ascend, made by several threads. All but the last have `ELEMENTS` rows.
+/// Pages of rows that ascend, made by several threads. All but the last have `PAGE_FILL` rows.
 ///
-/// Errors: `NoMemory` if an allocation fails. Cost: a step a row, shared among as many threads as there are processors, and a step a page.
+/// Errors: `NoMemory` if an allocation fails. Cost: a step a row, shared among up to two threads for each processor, and a step a page.
 pub(crate) fn pages_by_threads<R: Threads + Sync>(
     rt: &R,
     alloc: Global,

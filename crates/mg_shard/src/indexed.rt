@@ -63,8 +63,8 @@ impl Shard {
     }
 
     /// The rows that an index of this definition has in this shard, ordered by key and id, as `with_rows` takes them. They are the same
-    /// for every number of workers. With one worker, or fewer than 1,000 documents, no thread is started; otherwise as many threads as
-    /// there are processors extract the rows, sort them and put them into pages.
+    /// for every number of workers. With one worker, or fewer than 1,000 documents, no thread is started; otherwise up to two threads for
+    /// each processor extract the rows, sort them and put them into pages.
     ///
     /// Errors: `NoMemory` if an allocation fails. Cost: a step for each document, the bytes of its row, a sort of the rows, and a step
     /// for each of them. A row takes a block of memory only if it is too long to be stored in the `RowBytes` itself.

@@ -2,8 +2,8 @@
 ghost use Rattle.std.specs.Prelude.{◌≡◌, not, IfOk, OnOk, option_map};
 ghost use Rattle.std.specs.FinMap.{insert};
 ghost use Rattle.std.specs.List.{filter, find, AllByRecursion};
-ghost use Rattle.mg_index.specs.Catalog.{IsCatalog, is_at};
-ghost use Rattle.mg_shard.specs.Documents.{form_at, id_bytes, kept_of, shown};
+ghost use Rattle.mg_index.specs.Catalog.{IsCatalog, is_named};
+ghost use Rattle.mg_shard.specs.Documents.{form_at, id_bytes, kept_of, kept_documents};
 ghost use Rattle.mg_shard.specs.Index.{HasRows, definitions_of, index_order};
 ghost use Rattle.mg_pages.specs.Order.{inserted};
 
@@ -48,10 +48,10 @@ pub(crate) fn list_in_pages(
 // since a look-up takes longer.
 #[inline(always)]
 fn index_there<'a>(indexes: &'a Pages<IndexEntry>, ddoc: &str, name: &str) -> Option<&'a IndexEntry>
-    ensures { option_map (λ x. x.now) result ≡ find (λ x. is_at ddoc.now name.now x.0) indexes.now }
+    ensures { option_map (λ x. x.now) result ≡ find (λ x. is_named ddoc.now name.now x.0) indexes.now }
 {
     match indexes.in_one_page() {
-        Some(page) => page.iter().find(|index| index.is_at(ddoc, name)),
+        Some(page) => page.iter().find(|index| index.is_named(ddoc, name)),
         None => indexes.get(&IndexName { ddoc, name }),
     }
 }
@@ -65,7 +65,7 @@ pub(crate) fn rows_there<'a>(
     name: &str,
 ) -> Option<&'a Pages<RowBytes>>
     ensures { option_map (λ rows. rows.now) result
-        ≡ option_map (λ x. x.1) (find (λ x. is_at ddoc.now name.now x.0) indexes.now) }
+        ≡ option_map (λ x. x.1) (find (λ x. is_named ddoc.now name.now x.0) indexes.now) }
 {
     match index_there(indexes, ddoc, name) {
         Some(index) => Some(index.rows()),
@@ -98,7 +98,7 @@ pub(crate) fn remove_index(
     ddoc: &str,
     name: &str,
 ) -> Result<Pages<IndexEntry>, NoMemory>
-    ensures { IfOk result (λ v. v ≡ filter (λ x. not (is_at ddoc.now name.now x.0)) indexes.now) }
+    ensures { IfOk result (λ v. v ≡ filter (λ x. not (is_named ddoc.now name.now x.0)) indexes.now) }
 {
     indexes.ascends();
     let mut left = indexes.share(alloc)?;
@@ -107,8 +107,8 @@ pub(crate) fn remove_index(
 }
 
 // The form in which the document with this id is served; `None` if there is no such document, or it is deleted.
-fn form_in<'a>(documents: &'a Pages<Shared<Document>>, id: &str) -> Option<&'a Written>
-    ensures { option_map (λ v. v.now) result ≡ form_at (shown documents.now) id.now }
+fn form_at<'a>(documents: &'a Pages<Shared<Document>>, id: &str) -> Option<&'a Written>
+    ensures { option_map (λ v. v.now) result ≡ form_at (kept_documents documents.now) id.now }
 {
     match documents.get(&id) {
         Some(document) => document.get().written(),
@@ -129,12 +129,12 @@ pub(crate) fn mend_all(
     document: &Document,
 ) -> Result<(), NoMemory>
     ensures definitions { OnOk result (definitions_of indexes.new ≡ definitions_of indexes.old) }
-    ensures rows { OnOk result (AllByRecursion (HasRows (shown documents.now)) indexes.old
+    ensures rows { OnOk result (AllByRecursion (HasRows (kept_documents documents.now)) indexes.old
         → AllByRecursion
-        (HasRows (insert (shown documents.now) (id_bytes document.now)
+        (HasRows (insert (kept_documents documents.now) (id_bytes document.now)
         (kept_of document.now))) indexes.new) }
 {
-    let before = form_in(documents, document.id());
+    let before = form_at(documents, document.id());
     let after = document.written();
     for i in 0..indexes.len() {
         let index = &mut indexes[i];

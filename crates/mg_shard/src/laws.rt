@@ -1,4 +1,4 @@
-//! Laws of what shards stand for, each the contract of a function that does nothing.
+//! Laws of what shards stand for, each the contract of a function that changes nothing.
 ghost use Rattle.std.specs.Prelude.{All};
 ghost use Rattle.mg_index.specs.Catalog.{IsCatalog};
 ghost use Rattle.mg_shard.specs.Laws.{DraftsBecomeShards, EachEditIsDecidedThere, EachEditIsMadeThere, EachIdHasItsShard, NothingIsDealt, ShardsBecomeDrafts, TheServedAreKept};
@@ -22,7 +22,7 @@ pub fn each_id_has_its_shard()
     ensures { EachIdHasItsShard }
 {}
 
-/// The draft of its shard decides the outcome of an edit.
+/// The outcome of an edit depends only on the draft of its shard.
 pub fn each_edit_is_decided_there()
     ensures { EachEditIsDecidedThere }
 {}
@@ -42,12 +42,13 @@ pub fn drafts_become_shards()
     ensures { DraftsBecomeShards }
 {}
 
-/// The definitions of each shard are a catalog: no two of them have the same design document and name.
+/// The definitions of each shard are a catalog: no two of them have the same design document and name. Cost: the number of shards.
 pub fn definitions_are_catalogs(shards: &[Arc<Shard>])
     ensures { All (λ s. IsCatalog s.definitions) (shards_seen shards.now) }
 {
     for i in 0..shards.len() {
         let shard: &Shard = &shards[i];
+        // only for its contract, which says it of one shard
         let _ = shard.indexes();
     }
 }

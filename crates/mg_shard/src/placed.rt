@@ -4,7 +4,7 @@ ghost use Rattle.std.specs.FinMap.{get};
 ghost use Rattle.std.specs.Option.{option_or};
 ghost use Rattle.mg_pages.specs.Identified.{id_order};
 ghost use Rattle.mg_pages.specs.Order.{inserted};
-ghost use Rattle.mg_shard.specs.Documents.{id_bytes, shown};
+ghost use Rattle.mg_shard.specs.Documents.{id_bytes, kept_documents};
 ghost use Rattle.mg_shard.specs.Redealt.{ArePlaces, KeepsThose, documents_in, documents_seen, kept_in, last_kept};
 ghost use Rattle.mg_shard.specs.Shard.{shards_seen};
 
@@ -67,7 +67,7 @@ pub(crate) fn places_of<P: Placement>(
     Ok(places)
 }
 
-// Inserts a document, whose shard is `own`, among those of the shard `place`, if this is its shard.
+// Inserts a document into `there`, the documents of the shard `place`, if its own shard, `own`, is that one.
 fn put_if(
     alloc: Global,
     there: &mut Pages<Shared<Document>>,
@@ -95,7 +95,7 @@ pub(crate) fn documents_at(
     place: usize,
 ) -> Result<Pages<Shared<Document>>, NoMemory>
     requires { length places.now ≡ length documents.now }
-    ensures { IfOk result (λ ds. KeepsThose (documents_seen documents.now) places.now place (shown ds)) }
+    ensures { IfOk result (λ ds. KeepsThose (documents_seen documents.now) places.now place (kept_documents ds)) }
 {
     let mut there = Pages::new(alloc);
     for k in 0..documents.len() {

@@ -6,7 +6,7 @@ ghost use Rattle.std.specs.Thread.{IsSync};
 ghost use Rattle.mg_index.specs.Catalog.{IsCatalog};
 ghost use Rattle.mg_index.specs.Definition.{IndexDefinition};
 ghost use Rattle.mg_shard.specs.Dealt.{Placing, ShardsStandFor};
-ghost use Rattle.mg_shard.specs.Documents.{shown};
+ghost use Rattle.mg_shard.specs.Documents.{kept_documents};
 ghost use Rattle.mg_shard.specs.Histories.{Histories};
 ghost use Rattle.mg_shard.specs.Index.{HasRows, definitions_of};
 ghost use Rattle.mg_shard.specs.Redealt.{AreMade, AreRedealt, IsMade, documents_in, documents_seen};
@@ -130,7 +130,7 @@ fn index_documents<R: Threads + Sync>(
     workers: usize,
 ) -> Result<Shard, NoMemory>
     requires { IsCatalog (definitions_of indexes.now) }
-    ensures documents { IfOk result (λ s. s.documents ≡ shown documents) }
+    ensures documents { IfOk result (λ s. s.documents ≡ kept_documents documents) }
     ensures definitions { IfOk result (λ s. s.definitions ≡ definitions_of indexes.now) }
 {
     let unindexed = Shard {

@@ -50,12 +50,12 @@ impl Model for Shard {
 
     ghost coded = { shard_code };
 
-    ghost use Rattle.mg_shard.specs.Documents.{shown};
+    ghost use Rattle.mg_shard.specs.Documents.{kept_documents};
     ghost use Rattle.mg_shard.specs.Index.{AreIndexes, definitions_of};
 
-    ghost view = { λ s. record { documents = shown s.documents; definitions = definitions_of s.indexes } };
+    ghost view = { λ s. record { documents = kept_documents s.documents; definitions = definitions_of s.indexes } };
 
-    ghost invariant = { λ s. AreIndexes (shown s.documents) s.indexes };
+    ghost invariant = { λ s. AreIndexes (kept_documents s.documents) s.indexes };
 }
 
 impl Shard {
@@ -148,7 +148,7 @@ impl Shard {
     }
 
     /// How many documents, deleted ones too, `documents_beyond` lists after a place in a direction. They are not read one by one.
-    /// Takes no memory. Cost: one look-up, and a read of the count of each part before the place, at most 64 a level.
+    /// Takes no memory. Cost: one look-up, and a read of the count of each part before the place, at most 64 for each level below the top.
     pub fn count_documents_beyond<Q: Probe<Shared<Document>>>(
         &self,
         place: &Q,
@@ -167,6 +167,7 @@ impl Shard {
         ensures { (id : List ℕ) (form : Value) → form_at self.now.documents id ≡ Some form
             → HasOwnId id form }
     {
+        // only for the invariant of the shard
         let _ = &self.documents;
     }
 
@@ -192,7 +193,7 @@ impl Shard {
     ///
     /// Errors: `NoMemory` if an allocation fails. Cost: a copy of each edit, whose body is moved into its document's tree; and for
     /// each document that they touch a copy of its tree, its form and text, and the pages on the way to it and to its rows. If they
-    /// touch none, only the top levels are copied. `Draft::edit` takes an edit by value, and does not copy it.
+    /// touch none, only the top levels are copied. `Draft::apply` takes an edit by value, and does not copy it.
     pub fn apply(&self, alloc: Global, edits: &[Edit]) -> Result<(Shard, Vec<EditReply>), NoMemory>
         ensures stands { IfOk result
             (λ r. (hs : Histories) → StandFor self.now.documents hs
@@ -253,7 +254,7 @@ impl Shard {
 
     /// How many rows `rows_beyond` lists after a place in a direction; `None` if there is no such index. The rows are not read one by
     /// one. Takes no memory. Cost: that of finding the index, as for `rows`, one look-up of the place, and a read of the count of each
-    /// part before it, at most 64 a level.
+    /// part before it, at most 64 for each level below the top.
     pub fn count_rows_beyond<Q: Probe<RowBytes>>(
         &self,
         ddoc: &str,

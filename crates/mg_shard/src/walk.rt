@@ -64,8 +64,8 @@ impl<'a, T: Keyed> Walk<'a, T> {
         Walk { way }
     }
 
-    /// Skips `count` elements, or all that are left if there are fewer. Cost: constant within a page of 64; otherwise one look-up, and
-    /// a read of the count of each part before the place, at most 64 a level. Takes no memory.
+    /// Skips `count` elements, or all that are left if there are fewer. Cost: constant within a page; otherwise one look-up, and a read
+    /// of the count of each part before the place, at most 64 for each level below the top. Takes no memory.
     pub fn advance(&mut self, count: usize)
         ensures { self.new ≡ drop count self.old }
     {

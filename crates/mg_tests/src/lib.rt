@@ -1,9 +1,11 @@
-//! Tests of the libraries that need Rust and no threads: states that share pages, a placement of the tests' own, lists of events, calls of
+//! Tests of the libraries up to mg_machine that need Rust: states that share pages, a placement of the tests' own, lists of events, calls of
 //! `run` that are refused memory, and public calls that the program does not make. Whole conversations are data, in the folder tests/
-//! at the top; tests with threads are in mg_thread_tests. A failing test ends the process, and so does a call that is refused memory. So no
-//! function needs an exit for such a call, which keeps the proofs of the tests small.
+//! at the top; tests of threads and seats are in mg_thread_tests. A failing test ends the process, and so does a call that is refused memory.
+//! So no function needs an exit for such a call, which keeps the proofs of the tests small.
 #![tactic(auto)]
 
+#[cfg(test)]
+mod bookmark_tests;
 #[cfg(test)]
 mod given;
 #[cfg(test)]
@@ -11,7 +13,7 @@ mod machine_tests;
 #[cfg(test)]
 mod merge_tests;
 #[cfg(test)]
-mod packed_front_tests;
+mod packed_read_tests;
 #[cfg(test)]
 mod packed_tests;
 #[cfg(test)]

@@ -1,23 +1,10 @@
-//! The text, the order and a copy of a packed value.
-use crate::given::{check, json};
+//! The text and a copy of a packed value.
+use crate::given::json;
 use crate::packed_tests::{COMPACT, block, is_part};
 use mg_packed::{Packed, Part, Written};
 use mg_value::Json;
 use std::alloc::Global;
-use std::cmp::Ordering;
 use std::process::Abort;
-
-// Other values, and how the packed value compares with each.
-const OTHERS: &[(&str, Ordering)] = &[
-    (COMPACT, Ordering::Equal),
-    ("[9]", Ordering::Greater),
-    (r#""z""#, Ordering::Greater),
-    (r#"{"a":[],"ab":{}}"#, Ordering::Greater),
-    (r#"{"a":[],"b":0}"#, Ordering::Less),
-    (r#"{"a":[0],"ab":{}}"#, Ordering::Less),
-    (r#"{"a":[],"ab":{},"list":[-8]}"#, Ordering::Greater),
-    (r#"{"a":[],"ab":{},"list":[-7,"r"]}"#, Ordering::Less),
-];
 
 // Whether the text of the part is appended to a given text.
 fn is_added<R: Abort>(rt: &R, alloc: Global, whole: &Part<'_>) -> bool {
@@ -31,23 +18,12 @@ fn left_over<R: Abort>(rt: &R, alloc: Global, gone: Packed) -> Json {
     gone.part().copy(alloc).expect(rt, "memory")
 }
 
-fn order_with<R: Abort>(rt: &R, alloc: Global, whole: &Part<'_>, other: &str) -> Ordering {
-    whole.compare(&json(rt, alloc, other))
-}
-
 #[test]
-fn a_block_has_the_text_and_the_order_of_its_value(rt: HostRuntime) {
+fn a_block_has_the_text_of_its_value(rt: HostRuntime) {
     let packed = block(&rt, rt.alloc());
     let whole = packed.part();
     assert!(rt; is_part(&rt, rt.alloc(), Some(whole.lend()), Some(COMPACT)));
     assert!(rt; is_added(&rt, rt.alloc(), &whole));
-    for (other, order) in OTHERS {
-        check(
-            &rt,
-            order_with(&rt, rt.alloc(), &whole, other) == *order,
-            other,
-        );
-    }
 }
 
 #[test]

@@ -1,6 +1,7 @@
-//! The list of leaves. The program itself shows only the winner and the conflicts. Other tests of trees are in tests/trees.py and
-//! tests/conversations/revisions.txt.
-use crate::given::string;
+//! The list of leaves, and the served document as a `Json`. The program itself shows only the winner, from its block, and the conflicts.
+//! Other tests of trees are in tests/trees.py and tests/conversations/revisions.txt.
+use crate::given::{json, packed, string};
+use mg_doc::served;
 use mg_packed::Packed;
 use mg_revtree::{History, RevTree};
 use mg_value::Json;
@@ -42,4 +43,29 @@ fn are_best_first<R: Abort>(rt: &R, tree: &RevTree) -> bool {
 fn leaves_best_first(rt: HostRuntime) {
     let tree = tree_of_roots(&rt, rt.alloc());
     assert!(rt; are_best_first(&rt, &tree));
+}
+
+// A tree of one revision, 1-x.
+fn tree_of_one<R: Abort>(rt: &R, alloc: Global, deleted: bool, body: &str) -> RevTree {
+    let mut tree = RevTree::new(alloc);
+    let path = path_of(rt, alloc, "x");
+    let merged = tree.merge(&path, deleted, packed(rt, alloc, body));
+    assert!(rt; merged.is_ok());
+    tree
+}
+
+#[test]
+fn a_served_document_has_its_id_and_revision(rt: HostRuntime) {
+    let alloc = rt.alloc();
+    let tree = tree_of_one(&rt, alloc, false, r#"{"price":3}"#);
+    let form = served(alloc, "pear", &tree).expect(&rt, "memory");
+    assert!(rt; form == Some(json(&rt, alloc, r#"{"_id":"pear","_rev":"1-x","price":3}"#)));
+}
+
+#[test]
+fn a_deleted_document_is_not_served(rt: HostRuntime) {
+    let alloc = rt.alloc();
+    let tree = tree_of_one(&rt, alloc, true, "{}");
+    let form = served(alloc, "pear", &tree).expect(&rt, "memory");
+    assert!(rt; form.is_none());
 }

@@ -182,8 +182,8 @@ fn parts_by_id(rows: &[RowBytes], id: &str, below: usize) -> bool {
         } else {
             Ordering::Greater
         };
-        let tied = row.id() == id && row.order_of_id(id) == Ordering::Equal;
-        if row.order_of_id(id) != wanted && !tied {
+        let tied = row.id() == id && row.compare_to_id(id) == Ordering::Equal;
+        if row.compare_to_id(id) != wanted && !tied {
             return false;
         }
     }

@@ -1,6 +1,7 @@
-//! Selectors evaluated directly, on a document and on a packed document. The program evaluates only their normal form. Other tests of
-//! selectors are in tests/conversations/selectors.txt.
+//! Selectors evaluated directly, on a document and on a packed document, and their normal form on a document. The program evaluates only
+//! the normal form, on packed documents. Other tests of selectors are in tests/conversations/selectors.txt.
 use crate::given::{check, json};
+use mg_normal::Normal;
 use mg_packed::Packed;
 use mg_selector::Sel;
 use std::alloc::Global;
@@ -74,6 +75,22 @@ fn selections_of_documents_in_one_block(rt: HostRuntime) {
     let alloc = rt.alloc();
     for (selector, document, wanted) in SELECTIONS {
         let found = holds_in_a_block(&rt, alloc, selector, document);
+        check(&rt, found == *wanted, selector);
+    }
+}
+
+// Whether the normal form of a selector matches a document.
+fn holds_in_normal_form<R: Abort>(rt: &R, alloc: Global, selector: &str, document: &str) -> bool {
+    let selector = selector_of(rt, alloc, selector);
+    let normal = Normal::of(alloc, &selector).expect(rt, "memory");
+    normal.holds(&json(rt, alloc, document))
+}
+
+#[test]
+fn selections_by_the_normal_form(rt: HostRuntime) {
+    let alloc = rt.alloc();
+    for (selector, document, wanted) in SELECTIONS {
+        let found = holds_in_normal_form(&rt, alloc, selector, document);
         check(&rt, found == *wanted, selector);
     }
 }

@@ -3,7 +3,7 @@ ghost use Rattle.std.specs.Prelude.{◌≡◌, string_bytes};
 
 use crate::given::{check, string};
 use mg_engine::Reply;
-use mg_live::{CloseError, CommitLog, Database, Ends, Live, Seat, Waiting};
+use mg_live::{CloseError, CommitLog, Database, EndsWriter, Live, Seat, WaitForReaders};
 use mg_shard::Md5Placement;
 use mg_value::{Json, read};
 use std::alloc::Global;
@@ -15,7 +15,7 @@ use std::thread;
 use std::thread::Threads;
 
 // Writes 25 bulks of one document at a seat.
-fn write_25<D: Database, C: Ends, R: Wait + Threads + Sync>(
+fn write_25<D: Database, C: EndsWriter, R: Wait + Threads + Sync>(
     rt: &R,
     alloc: Global,
     seat: Seat<D, C>,
@@ -44,8 +44,8 @@ fn run_four<D: Database + Send + Sync, R: Threads + Wait + Abort + Sync + Send +
     requires parts { blank.parts ≡ 4 }
     requires opened { 3 ≡ D.shards }
 {
-    let Ok((live, seats)) = Live::<D, Waiting<R>>::open(
-        Waiting(rt),
+    let Ok((live, seats)) = Live::<D, WaitForReaders<R>>::open(
+        WaitForReaders(rt),
         alloc,
         blank,
         commit_log,
@@ -159,7 +159,7 @@ const RESHARDED: &[Call] = &[
     Call(0, Ask::Find, ALL, 200, BOTH),
 ];
 
-fn reply_with<D: Database, C: Ends, R: Wait + Threads + Sync>(
+fn reply_with<D: Database, C: EndsWriter, R: Wait + Threads + Sync>(
     rt: &R,
     seat: &mut Seat<D, C>,
     ask: Ask,
@@ -174,7 +174,7 @@ fn reply_with<D: Database, C: Ends, R: Wait + Threads + Sync>(
     }
 }
 
-fn reply_to<D: Database, C: Ends, R: Wait + Threads + Sync>(
+fn reply_to<D: Database, C: EndsWriter, R: Wait + Threads + Sync>(
     rt: &R,
     alloc: Global,
     seat: &mut Seat<D, C>,
@@ -192,7 +192,7 @@ fn reply_to<D: Database, C: Ends, R: Wait + Threads + Sync>(
 }
 
 // Whether the seat gives the expected reply. If it is refused memory, the call is made once more, since the first had no effect.
-fn is_answered<D: Database, C: Ends, R: Wait + Threads + Sync>(
+fn is_answered<D: Database, C: EndsWriter, R: Wait + Threads + Sync>(
     rt: &R,
     alloc: Global,
     seat: &mut Seat<D, C>,
@@ -207,7 +207,7 @@ fn is_answered<D: Database, C: Ends, R: Wait + Threads + Sync>(
     reply.status() == call.3 && reply.body() == call.4.as_bytes()
 }
 
-fn are_answered<D: Database, C: Ends, R: Wait + Threads + Sync>(
+fn are_answered<D: Database, C: EndsWriter, R: Wait + Threads + Sync>(
     rt: &R,
     alloc: Global,
     a: &mut Seat<D, C>,
@@ -229,7 +229,7 @@ fn are_answered<D: Database, C: Ends, R: Wait + Threads + Sync>(
 }
 
 // Lets the second seat learn what the first has seen; false if that was refused memory.
-fn teach<D: Database, C: Ends, R: Wait>(
+fn teach<D: Database, C: EndsWriter, R: Wait>(
     rt: &R,
     a: &mut Seat<D, C>,
     b: &mut Seat<D, C>,
@@ -248,7 +248,7 @@ fn teach<D: Database, C: Ends, R: Wait>(
 }
 
 // Whether the seat's snapshot has no index and one shard; false also if it was refused memory.
-fn is_bare<D: Database, C: Ends>(seat: &mut Seat<D, C>, refused: &mut u32) -> bool {
+fn is_bare<D: Database, C: EndsWriter>(seat: &mut Seat<D, C>, refused: &mut u32) -> bool {
     match seat.snapshot() {
         Ok(snapshot) => snapshot.catalog().list().is_empty() && snapshot.shards().len() == 1,
         Err(_) => {
@@ -259,7 +259,7 @@ fn is_bare<D: Database, C: Ends>(seat: &mut Seat<D, C>, refused: &mut u32) -> bo
 }
 
 // Whether the two seats give all expected replies.
-fn both_answer<D: Database, C: Ends, R: Wait + Threads + Sync>(
+fn both_answer<D: Database, C: EndsWriter, R: Wait + Threads + Sync>(
     rt: &R,
     alloc: Global,
     a: &mut Seat<D, C>,
@@ -275,7 +275,7 @@ fn both_answer<D: Database, C: Ends, R: Wait + Threads + Sync>(
 }
 
 // Closes the database and returns the number of its commits. A first try, without one of the seats, must be refused.
-fn close<D: Database, C: Ends, R: Wait + Abort>(
+fn close<D: Database, C: EndsWriter, R: Wait + Abort>(
     rt: &R,
     live: Live<D, C>,
     seats: Vec<Seat<D, C>>,
@@ -310,8 +310,8 @@ fn run_two<D: Database + Send + Sync, R: Threads + Wait + Abort + Sync + Send + 
     requires parts { blank.parts ≡ 2 }
     requires opened { 1 ≡ D.shards }
 {
-    let Ok((live, mut seats)) = Live::<D, Waiting<R>>::open(
-        Waiting(rt),
+    let Ok((live, mut seats)) = Live::<D, WaitForReaders<R>>::open(
+        WaitForReaders(rt),
         alloc,
         blank,
         commit_log,

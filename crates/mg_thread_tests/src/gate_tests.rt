@@ -2,7 +2,7 @@
 ghost use Rattle.std.specs.Prelude.{◌≡◌, string_bytes};
 
 use crate::given::string;
-use mg_live::{CommitLog, Database, Ends, Live, Seat, Waiting};
+use mg_live::{CommitLog, Database, EndsWriter, Live, Seat, WaitForReaders};
 use mg_scan::{Gate, Place};
 use mg_shard::Md5Placement;
 use mg_value::read;
@@ -103,7 +103,7 @@ impl During {
 }
 
 // Queries the ids of all documents, and is held.
-fn ask<D: Database, C: Ends, R: Wait + Threads + Sync>(
+fn ask<D: Database, C: EndsWriter, R: Wait + Threads + Sync>(
     rt: &R,
     alloc: Global,
     seat: Seat<D, C>,
@@ -122,7 +122,7 @@ fn ask<D: Database, C: Ends, R: Wait + Threads + Sync>(
 }
 
 // Writes while the query is held.
-fn write<D: Database, C: Ends, R: Wait + Threads + Sync>(
+fn write<D: Database, C: EndsWriter, R: Wait + Threads + Sync>(
     rt: &R,
     alloc: Global,
     seat: Seat<D, C>,
@@ -154,7 +154,7 @@ fn write<D: Database, C: Ends, R: Wait + Threads + Sync>(
     seat
 }
 
-fn act<D: Database, C: Ends, R: Wait + Threads + Sync>(
+fn act<D: Database, C: EndsWriter, R: Wait + Threads + Sync>(
     rt: &R,
     alloc: Global,
     seat: Seat<D, C>,
@@ -178,8 +178,8 @@ fn write_during_query<
     requires parts { blank.parts ≡ 2 }
     requires opened { 1 ≡ D.shards }
 {
-    let ends = Waiting(rt);
-    let Ok((_live, seats)) = Live::<D, Waiting<R>>::open(
+    let ends = WaitForReaders(rt);
+    let Ok((_live, seats)) = Live::<D, WaitForReaders<R>>::open(
         ends,
         alloc,
         blank,

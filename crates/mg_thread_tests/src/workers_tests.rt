@@ -1,12 +1,11 @@
 //! A scan reads as many shards at a time as there are workers, never more, and each shard once.
-ghost use Rattle.std.specs.Prelude.{◌<◌, ◌≤◌};
 
 use crate::engine_tests::DOCUMENTS;
 use crate::given::packed;
 use crate::scan_tests::{above_one, ids_of};
 use mg_collate::Direction;
 use mg_engine::{Command, Engine};
-use mg_scan::{Gate, Place, Target, scan};
+use mg_scan::{Gate, Place, Target, Workers, scan};
 use mg_shard::{Md5Placement, Shard};
 use std::alloc::Global;
 use std::process::Abort;
@@ -110,17 +109,25 @@ fn count_rows<R: Threads + Sync + Abort>(
     rt: &R,
     alloc: Global,
     shards: &[Arc<Shard>],
-    workers: usize,
+    workers: Workers,
     gate: &AtOnce,
-) -> usize
-    requires { (0 < workers) × (workers ≤ 32) }
-{
+) -> usize {
     let normal = above_one(rt, alloc);
     let range = ids_of(rt, alloc, &normal);
     let all = Target::AllDocs;
     let up = Direction::Asc;
     let lists = scan(
-        rt, alloc, shards, all, &normal, &range, None, 25, up, workers, gate,
+        rt,
+        alloc,
+        shards,
+        all,
+        &normal,
+        &range,
+        None,
+        25,
+        up,
+        workers.count(),
+        gate,
     )
     .expect(rt, "memory");
     let mut found = 0usize;
@@ -135,17 +142,15 @@ fn is_scanned<R: Threads + Sync + Abort>(
     rt: &R,
     alloc: Global,
     shards: &[Arc<Shard>],
-    workers: usize,
-) -> bool
-    requires { (0 < workers) × (workers ≤ 32) }
-{
-    let gate = AtOnce::new(workers as u64);
+    workers: Workers,
+) -> bool {
+    let gate = AtOnce::new(workers.count() as u64);
     count_rows(rt, alloc, shards, workers, &gate) == 3 && gate.is_passed()
 }
 
 #[test]
 fn four_shards_read_by_one_worker_and_by_two(rt: HostRuntime) {
     let engine = four_shards(&rt, rt.alloc());
-    assert!(rt; is_scanned(&rt, rt.alloc(), engine.shards(), 1));
-    assert!(rt; is_scanned(&rt, rt.alloc(), engine.shards(), 2));
+    assert!(rt; is_scanned(&rt, rt.alloc(), engine.shards(), Workers::exactly(1)));
+    assert!(rt; is_scanned(&rt, rt.alloc(), engine.shards(), Workers::exactly(2)));
 }

@@ -12,13 +12,13 @@ abbrev pub whole_number_of : List ℕ → Option ℤ
 whole_number_of s = option_and_then as_i64 (number_of s)
 
 -- the tree stands for parsed data whose value is v
-abbrev pub IsWhole : json.Json → Value → Type 0
-IsWhole j v = (d : parsed.Data) × (of_json j ≡ Some d) × (whole_of d ≡ Some v)
+abbrev pub IsTreeOf : json.Json → Value → Type 0
+IsTreeOf j v = (d : parsed.Data) × (of_json j ≡ Some d) × (whole_of d ≡ Some v)
 
 -- the items of an array in the tree stand for the items vs
-abbrev pub AreWholeItems : json.Items → Items → Type 0
-AreWholeItems js vs = (ds : parsed.Items) × (of_items js ≡ Some ds) × (whole_items ds ≡ Some vs)
+abbrev pub AreItemTreesOf : json.Items → Items → Type 0
+AreItemTreesOf js vs = (ds : parsed.Items) × (of_items js ≡ Some ds) × (whole_items ds ≡ Some vs)
 
 -- the members of an object in the tree stand for the members ms; the last of a repeated name counts
-abbrev pub AreWholeMembers : json.Members → Members → Type 0
-AreWholeMembers js ms = (ds : parsed.Members) × (of_members js parsed.no_members ≡ Some ds) × (whole_members ds ≡ Some ms)
+abbrev pub AreMemberTreesOf : json.Members → Members → Type 0
+AreMemberTreesOf js ms = (ds : parsed.Members) × (of_members js parsed.no_members ≡ Some ds) × (whole_members ds ≡ Some ms)

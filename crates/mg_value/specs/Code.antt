@@ -4,7 +4,7 @@ use Rattle.std.proofs.Common.{inl, inr, ap, sym, ◌∙◌, append_assoc, append
 use Rattle.std.specs.Coded.{Coded, code_by, coded⊎, coded_ℕ, coded_ℤ, coded_bool, coded_list}
 use Rattle.mg_value.specs.Value.{Value, null, flag, whole, text, list, object, Items, no_items, item, Members, no_members, member}
 
--- a leaf, the name of a member, or one of null and the joining steps
+-- a step: a flag or a number; a text, or the name at which a member is joined; or the tag of one of the other steps (see `build`)
 abbrev pub Step : Type 0
 Step = (Bool ⊎ ℤ) ⊎ ((List ℕ ⊎ List ℕ) ⊎ ℕ)
 
@@ -38,7 +38,7 @@ abbrev join_object : List Value → List Items → List Members → Stacks
 join_object a b (ms ∷ c) = (object ms ∷ a, b, c)
 join_object a b [] = (a, b, [])
 
--- the stacks after one step
+-- the stacks after one step; the tags: 0 null, 1 a new array, 2 joins an item, 3 ends an array, 4 a new object, 5 ends an object
 abbrev build : Step → Stacks → Stacks
 build (inl (inl b)) s = push (flag b) s
 build (inl (inr z)) s = push (whole z) s
@@ -107,7 +107,7 @@ mutual
 pub from_steps-steps : (v : Value) → from_steps (steps v) ≡ v
 from_steps-steps v = ap (λ xs. top (built xs ([], [], [])).0) (sym (append-nil (steps v))) ∙ ap (λ s. top s.0) (run_value v [] ([], [], []))
 
--- the code that a `Model` over values takes
+-- the encoding that a `Model` of values needs
 abbrev pub value_code : Coded Value
 value_code = code_by (List Step) (coded_list (coded⊎ (coded⊎ coded_bool coded_ℤ) (coded⊎ (coded⊎ (coded_list coded_ℕ) (coded_list coded_ℕ)) coded_ℕ))) steps from_steps from_steps-steps
 
@@ -123,10 +123,10 @@ abbrev pub members_of_value : Value → Members
 members_of_value (object ms) = ms
 members_of_value v = no_members
 
--- the code that a `Model` over items takes
+-- the encoding that a `Model` of items needs
 abbrev pub items_code : Coded Items
 items_code = code_by Value value_code (λ vs. list vs) items_of_value (λ _. refl)
 
--- the code that a `Model` over members takes
+-- the encoding that a `Model` of members needs
 abbrev pub members_code : Coded Members
 members_code = code_by Value value_code (λ ms. object ms) members_of_value (λ _. refl)

@@ -1,5 +1,6 @@
 -- JSON values by RFC 8259, in the profile of this project: every number is whole, and an object has each name once,
 -- its members in the order of their names. Texts and names are lists of UTF-8 bytes, whose order is that of the code points.
+-- The types below do not require this of objects and bytes; `IsStored` does.
 use Rattle.std.specs.Prelude.{ℕ, suc, max, ℤ, List, [], ◌∷◌, Bool, Option, Some, None}
 use Rattle.std.specs.Ordering.{nat_cmp, match_ordering}
 use Rattle.std.specs.Cmp.Lexicographic.{slice_cmp}

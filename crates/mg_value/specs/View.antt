@@ -15,7 +15,7 @@ abbrev pub members_of : List (String Global × Value) → Members
 members_of [] = no_members
 members_of (m ∷ ms) = member (string_bytes m.0) m.1 (members_of ms)
 
--- one level of the view, where each value inside is already its view
+-- one level of the view, from the views of the values inside
 abbrev pub view_step : Json-F Value → Value
 view_step Json-F.Null = null
 view_step (Json-F.Flag b) = flag b

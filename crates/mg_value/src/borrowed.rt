@@ -4,7 +4,7 @@ ghost use Rattle.std.specs.Prelude.{◌≡◌, ◌<◌, ◌==◌, true, false, l
 ghost use Rattle.json.specs.Value.{value_view, items_view as tree_items, members_view as tree_members};
 ghost use Rattle.serde_json.specs.Find.{as_i64};
 ghost use Rattle.serde_json.specs.Read.{number_from};
-ghost use Rattle.mg_value.specs.Borrowed.{whole_number_of, IsWhole, AreWholeItems, AreWholeMembers};
+ghost use Rattle.mg_value.specs.Borrowed.{whole_number_of, IsTreeOf, AreItemTreesOf, AreMemberTreesOf};
 ghost use Rattle.mg_value.specs.Text.{Reads};
 ghost use Rattle.mg_value.specs.Value.{Value};
 ghost use Rattle.mg_value.specs.View.{view, items_view, members_view};
@@ -23,8 +23,8 @@ pub const MAX_DEPTH: usize = 127;
 pub const LONGEST_KEPT: usize = 65_536;
 
 /// Memory that reading needs besides the value, kept from one text to the next: a table of 16 KiB, which is cleared
-/// when the buffer is made, and room for as many bytes as the longest text so far of at most `LONGEST_KEPT` bytes has.
-/// The room grows by doubling, so it takes less than 128 KiB.
+/// when the buffer is made, and room for as many bytes as the longest text that was read with it, at most
+/// `LONGEST_KEPT`. The room grows by doubling, so it takes less than 128 KiB.
 #[derive(Drop)]
 pub struct ReadBuffer {
     scratch: Scratch,
@@ -46,18 +46,18 @@ impl ReadBuffer {
 }
 
 // The value of the text; `None` if it is not JSON, any of its numbers is not an `i64`, or memory ran out.
-pub(crate) fn read_whole(alloc: Global, text: &str, buffer: &mut ReadBuffer) -> Option<Json>
+pub(crate) fn read_fast(alloc: Global, text: &str, buffer: &mut ReadBuffer) -> Option<Json>
     ensures { IfSome result (λ v. Reads text.now (view v)) }
 {
     if text.len() > LONGEST_KEPT {
         let mut scratch = Scratch::new(alloc);
-        return whole_in(alloc, text, &mut scratch);
+        return read_with(alloc, text, &mut scratch);
     }
-    whole_in(alloc, text, &mut buffer.scratch)
+    read_with(alloc, text, &mut buffer.scratch)
 }
 
-// The value of the text, read with this scratch; `None` as for `read_whole`.
-fn whole_in(alloc: Global, text: &str, scratch: &mut Scratch) -> Option<Json>
+// The value of the text, read with this scratch; `None` as for `read_fast`.
+fn read_with(alloc: Global, text: &str, scratch: &mut Scratch) -> Option<Json>
     ensures { IfSome result (λ v. Reads text.now (view v)) }
 {
     let tree = read_tree(alloc, text, scratch)?;
@@ -69,7 +69,7 @@ fn whole_in(alloc: Global, text: &str, scratch: &mut Scratch) -> Option<Json>
 ///
 /// Cost: the length of the text. `scratch` grows to hold as many bytes as the text has.
 pub fn read_tree<'a>(alloc: Global, text: &'a str, scratch: &'a mut Scratch) -> Option<Tree<'a>>
-    ensures { IfSome result (λ tree. (v : Value) → IsWhole (value_view tree) v → Reads text.now v) }
+    ensures { IfSome result (λ tree. (v : Value) → IsTreeOf (value_view tree) v → Reads text.now v) }
 {
     let Ok(mut reader) = Reader::new(text, scratch) else {
         return None;
@@ -86,7 +86,7 @@ pub fn read_tree<'a>(alloc: Global, text: &'a str, scratch: &'a mut Scratch) -> 
 #[cycle(whole)]
 #[inline(always)]
 fn whole(alloc: Global, tree: &Tree<'_>) -> Option<Json>
-    ensures { IfSome result (λ v. IsWhole (value_view tree.now) (view v)) }
+    ensures { IfSome result (λ v. IsTreeOf (value_view tree.now) (view v)) }
 {
     match tree {
         Tree::Null => Some(Json::Null),
@@ -101,7 +101,7 @@ fn whole(alloc: Global, tree: &Tree<'_>) -> Option<Json>
 #[cycle(whole)]
 #[inline(never)]
 fn whole_items(alloc: Global, items: &[Tree<'_>]) -> Option<Vec<Json>>
-    ensures { IfSome result (λ vs. AreWholeItems (tree_items items.now) (items_view vs.items)) }
+    ensures { IfSome result (λ vs. AreItemTreesOf (tree_items items.now) (items_view vs.items)) }
 {
     let mut values = Vec::with_capacity(alloc, items.len()).ok()?;
     for item in items {
@@ -114,7 +114,7 @@ fn whole_items(alloc: Global, items: &[Tree<'_>]) -> Option<Vec<Json>>
 #[inline(never)]
 fn whole_members(alloc: Global, members: &[(&str, Tree<'_>)]) -> Option<BTreeMap<String, Json>>
     ensures { IfSome result
-        (λ m. AreWholeMembers (tree_members members.now) (members_view m.entries)) }
+        (λ m. AreMemberTreesOf (tree_members members.now) (members_view m.entries)) }
 {
     let mut copies = BTreeMap::new(alloc);
     for member in members {
@@ -126,7 +126,7 @@ fn whole_members(alloc: Global, members: &[(&str, Tree<'_>)]) -> Option<BTreeMap
 }
 
 /// The number that a JSON numeral stands for; `None` if it is not an `i64`: `1.0`, `1e2` and `-0` are not. The text must
-/// be a numeral and nothing more: bytes after the numeral are ignored. Cost: the length of the text.
+/// be a numeral; this is not checked, and bytes after the numeral are ignored. Cost: the length of the text.
 pub fn whole_number(text: &str) -> Option<i64>
     ensures { IfSome result (λ z. whole_number_of text.now ≡ Some z) }
 {

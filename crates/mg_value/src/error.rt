@@ -1,7 +1,7 @@
 use std::alloc::{AllocError, AllocFailed};
 use thiserror::Error;
 
-/// An allocation failed: the allocator did not give the memory that was asked for.
+/// An allocation failed, or would have been over a limit on its size.
 #[derive(Clone, Copy, PartialEq, Eq, Debug, Drop, Error)]
 #[error("out of memory")]
 pub struct NoMemory;

@@ -1,5 +1,5 @@
-//! JSON values whose numbers are whole: reading, writing, copying and lending them, and the members of
-//! objects.
+//! JSON values whose numbers are whole: reading, writing, copying and lending them, and access to the
+//! members of objects.
 #![tactic(auto)]
 
 mod borrowed;

@@ -4,7 +4,7 @@ ghost use Rattle.serde_json.specs.View.{view as data_view, items_view as data_it
 ghost use Rattle.mg_value.specs.Text.{Reads, IsText, whole_of, whole_items, whole_members};
 ghost use Rattle.mg_value.specs.View.{view, items_view, members_view};
 
-use crate::borrowed::{ReadBuffer, read_whole};
+use crate::borrowed::{ReadBuffer, read_fast};
 use crate::error::ReadError;
 use crate::value::Json;
 use serde_json::{Map, Value};
@@ -21,7 +21,7 @@ use std::collections::BTreeMap;
 /// `-0` and `9223372036854775808` are not); `NoMemory` if an allocation fails. Bytes that are not UTF-8,
 /// and the empty text, are `NotJson` even where there is no memory.
 /// Cost: the length of the text, and for each object its members times the logarithm of their count. A
-/// text in UTF-8 that is refused is read twice.
+/// text in UTF-8 is read twice if it is refused, or has a number that is not an `i64`.
 pub fn read(alloc: Global, bytes: &[u8]) -> Result<Json, ReadError>
     ensures ok { IfOk result (λ v. Reads bytes.now (view v)) }
     ensures not_json { result ≡ Err ReadError.NotJson → (d : Data) → ¬ IsText bytes.now d }
@@ -59,7 +59,7 @@ fn read_text(alloc: Global, text: &str, buffer: &mut ReadBuffer) -> Result<Json,
         → (d : Data) × IsText text.now d × (whole_of d ≡ None) }
     ensures no_memory { result ≡ Err ReadError.NoMemory → 0 < length text.now }
 {
-    match read_whole(alloc, text, buffer) {
+    match read_fast(alloc, text, buffer) {
         Some(value) => Ok(value),
         None => read_again(alloc, text),
     }

@@ -24,7 +24,7 @@ use std::marker::Model;
 pub enum Look {
     /// The newest revision of a replica's path that is known whole. Such an edit changes nothing.
     Known(Rev),
-    /// Any other edit that is not refused. `ReadyEdit::bring` can still refuse it, if the revision that it makes is already known.
+    /// Any other edit that is not refused. `ReadyEdit::apply` can still refuse it, if the revision that it makes is already known.
     Ready(ReadyEdit),
 }
 
@@ -48,8 +48,8 @@ impl Model for ReadyEdit {
 impl Edit {
     /// Foresees what the edit does to the tree of its document, without changing the tree.
     ///
-    /// Errors: those of `apply`, except the `Conflict` of a made revision that is already known, which only `ReadyEdit::bring`
-    /// finds. No refusal needs memory. Cost: the look-ups of a path, or one look-up among the leaves.
+    /// Errors: those of `apply`, except the `Conflict` of a made revision that is already known, which only `ReadyEdit::apply`
+    /// finds. No refusal needs memory. Cost: for a path that of `RevTree::knows_whole` and `fits`; else one look-up among the leaves.
     pub fn look(self, tree: &RevTree) -> Result<Look, EditError>
         ensures foreseen { (h : Paths) → StandsFor tree.now h → Foreseen h self result tree.now }
         ensures edit { IfOk result (GivesBack self) }
@@ -70,7 +70,7 @@ impl Edit {
     /// deleted, or if the made revision is already known; `BadHistory` if the extended leaf has the
     /// last position, 4,294,967,295, or if a replica's path does not fit; else `NoMemory` if an allocation fails. No refusal needs
     /// memory, except that of a made revision that is already known. An error leaves the tree as it was.
-    /// Cost: that of `look`; and, unless a path is known whole, a copy of the edit and the cost of `ReadyEdit::bring`.
+    /// Cost: that of `look`; and, unless a path is known whole, a copy of the edit and the cost of `ReadyEdit::apply`.
     /// Source: CouchDB's `_bulk_docs` with `new_edits` true and false.
     pub fn apply(&self, alloc: Global, tree: &mut RevTree) -> Result<Rev, EditError>
         ensures applied { (h : Paths) → StandsFor tree.old h → Applied h self.now result tree.new }
@@ -80,7 +80,7 @@ impl Edit {
             return Ok(rev);
         }
         let edit = self.copy(alloc)?;
-        ReadyEdit { edit }.bring(alloc, tree)
+        ReadyEdit { edit }.apply(alloc, tree)
     }
 
     // What `look` finds: the newest revision of a path that is known whole; `None` if the edit is ready.
@@ -113,7 +113,7 @@ impl ReadyEdit {
     /// here, lack of memory for it hides the `Conflict`. An error leaves the tree as it was. Cost: that of `RevTree::extend` or
     /// `RevTree::merge`, and the length of the body's text if the id has to be made here: it was not made ahead, or it was made for a
     /// first revision and a deleted winner is extended.
-    pub fn bring(self, alloc: Global, tree: &mut RevTree) -> Result<Rev, EditError>
+    pub fn apply(self, alloc: Global, tree: &mut RevTree) -> Result<Rev, EditError>
         requires { (h : Paths) → StandsFor tree.old h → IsReady h self }
         ensures applied { (h : Paths) → StandsFor tree.old h → Applied h self result tree.new }
         ensures unchanged { OnErr result (tree.new ≡ tree.old) }

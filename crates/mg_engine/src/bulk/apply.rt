@@ -5,7 +5,7 @@ ghost use Rattle.mg_shard.specs.Edits.{after_edit, after_edits, id_in, outcome_i
 ghost use Rattle.mg_shard.specs.Histories.{Histories};
 ghost use Rattle.mg_engine.specs.Outcomes.{reply_in, id_seen};
 ghost use Rattle.mg_engine.specs.Stands.{definitions_of};
-ghost use Rattle.mg_engine.specs.StateView.{AllLeave, Leaves, before, fresh};
+ghost use Rattle.mg_engine.specs.StateView.{AllFinishAs, FinishesAs, before, fresh};
 ghost use Rattle.mg_shard.specs.Shard.{shards_seen};
 ghost use Rattle.std.specs.Arc.{arc_value};
 
@@ -28,7 +28,7 @@ pub(crate) struct EditOutcome {
 /// Applies edits that have ids, in order, and moves their bodies into the shards. Returns what became of each edit, and the shards
 /// after all of them.
 ///
-/// Errors: `NoMemory` if an allocation fails. Cost: that of `Draft::edit` for each edit, and of `Draft::finish` for each shard.
+/// Errors: `NoMemory` if an allocation fails. Cost: that of `Draft::apply` for each edit, and of `Draft::finish` for each shard.
 pub(crate) fn apply_edits<P: Placement>(
     alloc: Global,
     placement: &P,
@@ -119,7 +119,7 @@ fn finish_drafts(
     shards: &[Arc<Shard>],
 ) -> Result<Vec<Arc<Shard>>, NoMemory>
     requires { before drafts.items ≡ shards_seen shards.now }
-    ensures { IfOk result (λ v. AllLeave drafts.entry.items (shards_seen v.items)) }
+    ensures { IfOk result (λ v. AllFinishAs drafts.entry.items (shards_seen v.items)) }
 {
     let mut next_shards = Vec::with_capacity(alloc, shards.len())?;
     for draft in drafts {
@@ -132,7 +132,7 @@ fn finish_drafts(
 // Finishes the draft of a shard. If it touched no document, the shard is shared as it is.
 fn finish_draft(alloc: Global, draft: Draft<'_>, shard: &Arc<Shard>) -> Result<Arc<Shard>, NoMemory>
     requires { draft.shard ≡ arc_value shard.now }
-    ensures { IfOk result (λ s. Leaves draft.entry (arc_value s)) }
+    ensures { IfOk result (λ s. FinishesAs draft.entry (arc_value s)) }
 {
     match draft.finish(alloc)? {
         Some(next) => Ok(Arc::new(alloc, next)?),

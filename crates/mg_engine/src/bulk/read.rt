@@ -17,7 +17,7 @@ use std::alloc::Global;
 
 /// What the body of a bulk says: its edits and whether they are new, or why it is refused.
 #[derive(Drop)]
-pub(crate) enum ReadBulk {
+pub(crate) enum PreparedBulk {
     Edits { new_edits: bool, edits: Vec<Edit> },
     Refused(Refusal),
 }
@@ -29,25 +29,25 @@ struct Bulk<'a> {
     documents: Array<'a>,
 }
 
-impl ReadBulk {
+impl PreparedBulk {
     /// Reads the body of a bulk: first its shape, and then its documents in order, up to the first fault.
     ///
     /// The documents are read in place. Only what `Edit::read` keeps of them is copied.
     ///
     /// Errors: `NoMemory` if an allocation fails. Cost: a step for each document, and then that of `Edit::read` for each.
-    pub(crate) fn of(alloc: Global, body: &Packed) -> Result<ReadBulk, NoMemory>
+    pub(crate) fn of(alloc: Global, body: &Packed) -> Result<PreparedBulk, NoMemory>
         ensures { IfOk result (λ read. Determines read (bulk body.now)) }
     {
         let Some(bulk) = read_bulk(body.part()) else {
-            return Ok(ReadBulk::Refused(Refusal::WrongShape));
+            return Ok(PreparedBulk::Refused(Refusal::WrongShape));
         };
         let Bulk {
             new_edits,
             documents,
         } = bulk;
         match read_edits(alloc, new_edits, documents) {
-            Ok(edits) => Ok(ReadBulk::Edits { new_edits, edits }),
-            Err(Fault::Refused(refusal)) => Ok(ReadBulk::Refused(refusal)),
+            Ok(edits) => Ok(PreparedBulk::Edits { new_edits, edits }),
+            Err(Fault::Refused(refusal)) => Ok(PreparedBulk::Refused(refusal)),
             Err(Fault::NoMemory) => Err(NoMemory),
         }
     }

@@ -33,7 +33,7 @@ fn same_name(a: &[u8], b: &[u8]) -> bool
     a.eq_ignore_ascii_case(b)
 }
 
-/// Whether some field has the name, in any case.
+/// Whether some field has the name, whatever the case of its letters.
 pub(crate) fn has_field(bytes: &[u8], fields: &[HeaderSpan], name: &[u8]) -> bool
     requires { All (IsHeaderWithin (length bytes.now)) fields.now }
     ensures { result ≡ has_field name.now (map (header_bytes bytes.now) fields.now) }
@@ -144,7 +144,7 @@ pub(crate) fn length_in(bytes: &[u8], fields: &[HeaderSpan]) -> Length
     }
 }
 
-/// Whether some item of the comma-separated value is `close`, in any case.
+/// Whether some item of the comma-separated value is `close`, whatever the case of its letters.
 fn has_close(value: &[u8]) -> bool
     ensures { result ≡ list_any is_close (items_of value.now) }
 {

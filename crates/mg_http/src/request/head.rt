@@ -4,11 +4,11 @@ ghost use Rattle.std.specs.List.{list_any};
 ghost use Rattle.httparse.specs.Grammar.{RequestHead, NeverHasRequest};
 ghost use Rattle.httparse.specs.Spans.{IsHeaderWithin, header_bytes, IsRequestWithin, IsRequestAt};
 ghost use Rattle.mg_http.specs.Fields.{asks_close};
-ghost use Rattle.mg_http.specs.Head.{framed_by, refusal_before, parts_ask};
+ghost use Rattle.mg_http.specs.Head.{framed_by, refusal_before, framing_by_parts};
 ghost use Rattle.mg_http.specs.Steps.{IsHeadRead, request_in, IsBodyFramed, IsFramedBy};
 
 use crate::request::fields::{Length, asks_close, has_field, length_in};
-use crate::request::table::Table;
+use crate::request::second_literals::SecondLiterals;
 use crate::request::target::{RequestTarget, read_target};
 use crate::request::unfinished::ends_in_target;
 use httparse::spans::{HeaderSpan, RequestSpans, parse_request};
@@ -25,9 +25,9 @@ pub struct Framed {
     /// What the head asks for.
     pub target: RequestTarget,
     /// The number of bytes of the head.
-    pub len: usize,
+    pub head_len: usize,
     /// The number of bytes of the body.
-    pub body: u64,
+    pub body_len: u64,
     /// Whether the reply leaves out the bytes of its body.
     pub omits_body: bool,
     /// Whether the session ends after the reply.
@@ -84,20 +84,20 @@ fn frame_body(
 fn read_framing(
     alloc: Global,
     db: &str,
-    table: &Table,
+    literals: &SecondLiterals,
     method: &[u8],
     target: &[u8],
     bytes: &[u8],
     fields: &[HeaderSpan],
 ) -> Result<(RequestTarget, u64), Refusal>
     requires { All (IsHeaderWithin (length bytes.now)) fields.now }
-    ensures { IsFramedBy (parts_ask db.now method.now target.now
+    ensures { IsFramedBy (framing_by_parts db.now method.now target.now
         (map (header_bytes bytes.now) fields.now)) result }
 {
     if fields.len() > MAX_FIELDS {
         return Err(Refusal::HeadTooLarge);
     }
-    let target = match read_target(alloc, db, table, method, target) {
+    let target = match read_target(alloc, db, literals, method, target) {
         Ok(target) => target,
         Err(AllocError) => return Err(Refusal::OutOfMemory),
     };
@@ -149,7 +149,7 @@ fn read_rejected(bytes: &[u8]) -> Pending
 fn read_whole(
     alloc: Global,
     db: &str,
-    table: &Table,
+    literals: &SecondLiterals,
     bytes: &[u8],
     spans: &[HeaderSpan],
     head: RequestSpans,
@@ -161,12 +161,20 @@ fn read_whole(
     let method = head.method.of(bytes);
     let fields = front_of(spans, head.headers);
     let omits_body = is_head_method(method);
-    match read_framing(alloc, db, table, method, head.path.of(bytes), bytes, fields) {
+    match read_framing(
+        alloc,
+        db,
+        literals,
+        method,
+        head.path.of(bytes),
+        bytes,
+        fields,
+    ) {
         Err(refusal) => Pending::Refused(refusal, omits_body),
-        Ok((target, body)) => Pending::Message(Framed {
+        Ok((target, body_len)) => Pending::Message(Framed {
             target,
-            len: head.len,
-            body,
+            head_len: head.len,
+            body_len,
             omits_body,
             closes: closes_after(head.version, bytes, fields),
         }),
@@ -177,7 +185,7 @@ fn read_whole(
 pub(crate) fn read_head(
     alloc: Global,
     db: &str,
-    table: &Table,
+    literals: &SecondLiterals,
     bytes: &[u8],
     spans: &mut [HeaderSpan],
 ) -> Pending
@@ -186,7 +194,7 @@ pub(crate) fn read_head(
     ensures { IsHeadRead db.now bytes.now result }
 {
     match parse_request(bytes, spans) {
-        Ok(Status::Complete(head)) => read_whole(alloc, db, table, bytes, spans, head),
+        Ok(Status::Complete(head)) => read_whole(alloc, db, literals, bytes, spans, head),
         Ok(Status::Partial) => Pending::Waiting,
         Err(Error::TooManyHeaders) => unreachable!(),
         Err(_) => read_rejected(bytes),

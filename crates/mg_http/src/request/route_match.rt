@@ -8,11 +8,11 @@ ghost use Rattle.std.specs.Cow.{cow_slice_items};
 ghost use Rattle.mg_http.specs.RouteViews.{part_seen, route_of, match_in};
 ghost use Rattle.mg_http.specs.Routes.{literal, routes, same_part, segments_of};
 ghost use Rattle.mg_http.specs.Segments.{segments_left};
-ghost use Rattle.mg_http.specs.Walk.{route_behind, behind, begins_with, goes_on, enter, match_of, ends_here, ends_with};
+ghost use Rattle.mg_http.specs.Walk.{route_after, routes_after, begins_with, any_begins_with, enter, match_of, ends_here, ends_with_method};
 
 use crate::request::decode::decode_segment;
 use crate::request::routes::{Action, Route, RouteSegment, all_routes};
-use crate::request::table::Table;
+use crate::request::second_literals::SecondLiterals;
 use std::alloc::{AllocError, Global};
 use std::borrow::CowSlice;
 
@@ -76,8 +76,8 @@ fn same_part(a: RouteSegment<'_>, b: RouteSegment<'_>) -> bool
 }
 
 /// The rest of the route after the part; `None`: its path does not begin with the part.
-fn route_behind(route: &Route, part: RouteSegment<'_>) -> Option<Route>
-    ensures { option_map route_of result ≡ route_behind (part_seen part.entry) (route_of route.now) }
+fn route_after(route: &Route, part: RouteSegment<'_>) -> Option<Route>
+    ensures { option_map route_of result ≡ route_after (part_seen part.entry) (route_of route.now) }
 {
     let (first, rest) = route.path.split_first()?;
     if same_part(*first, part) {
@@ -106,15 +106,19 @@ fn push_some(routes: &mut Vec<Route>, left: Option<Route>) -> Result<(), AllocEr
 }
 
 /// The rests of the routes whose paths begin with the part.
-fn behind(alloc: Global, routes: &[Route], part: RouteSegment<'_>) -> Result<Vec<Route>, AllocError>
+fn routes_after(
+    alloc: Global,
+    routes: &[Route],
+    part: RouteSegment<'_>,
+) -> Result<Vec<Route>, AllocError>
     ensures { IfOk result
-        (λ v. map route_of v.items ≡ behind (part_seen part.entry) (map route_of routes.now)) }
+        (λ v. map route_of v.items ≡ routes_after (part_seen part.entry) (map route_of routes.now)) }
 {
-    let mut behind = Vec::new(alloc);
+    let mut routes_after = Vec::new(alloc);
     for route in routes {
-        push_some(&mut behind, route_behind(route, part))?;
+        push_some(&mut routes_after, route_after(route, part))?;
     }
-    Ok(behind)
+    Ok(routes_after)
 }
 
 /// Whether the route's path begins with the segment as a literal.
@@ -128,8 +132,8 @@ fn begins_with(route: &Route, segment: &[u8]) -> bool
 }
 
 /// Whether one of the routes begins with the segment as a literal.
-fn goes_on(routes: &[Route], segment: &[u8]) -> bool
-    ensures { result ≡ goes_on (literal segment.now) (map route_of routes.now) }
+fn any_begins_with(routes: &[Route], segment: &[u8]) -> bool
+    ensures { result ≡ any_begins_with (literal segment.now) (map route_of routes.now) }
 {
     routes.iter().any(|route| begins_with(route, segment))
 }
@@ -142,19 +146,19 @@ fn ends_here(route: &Route) -> bool
 }
 
 /// Whether nothing of the route's path is left, and it has the method.
-fn ends_with(route: &Route, method: &[u8]) -> bool
-    ensures { result ≡ ends_with method.now (route_of route.now) }
+fn ends_with_method(route: &Route, method: &[u8]) -> bool
+    ensures { result ≡ ends_with_method method.now (route_of route.now) }
 {
     ends_here(route) && route.method == method
 }
 
 /// Whether some route has the segment as a literal second segment.
-fn is_literal(table: &Table, segment: &[u8]) -> bool
-    ensures { result ≡ goes_on (literal segment.now) routes }
+fn is_second_literal(literals: &SecondLiterals, segment: &[u8]) -> bool
+    ensures { result ≡ any_begins_with (literal segment.now) routes }
 {
     match str::from_utf8(segment) {
-        Ok(text) => table.has(text),
-        Err(_) => goes_on(all_routes(), segment),
+        Ok(text) => literals.has(text),
+        Err(_) => any_begins_with(all_routes(), segment),
     }
 }
 
@@ -184,15 +188,15 @@ impl RouteMatch {
     }
 
     /// Whether some route that is left has the second segment as a literal. Called right after the database's name.
-    fn has_second(&self, table: &Table, segment: &[u8]) -> bool
+    fn has_second(&self, literals: &SecondLiterals, segment: &[u8]) -> bool
         requires { (map route_of (cow_slice_items self.now.routes) ≡ [])
             ⊎ (map route_of (cow_slice_items self.now.routes) ≡ routes) }
-        ensures { result ≡ goes_on (literal segment.now) (map route_of (cow_slice_items self.now.routes)) }
+        ensures { result ≡ any_begins_with (literal segment.now) (map route_of (cow_slice_items self.now.routes)) }
     {
         if self.routes.is_empty() {
             return false;
         }
-        is_literal(table, segment)
+        is_second_literal(literals, segment)
     }
 
     /// Matches one more segment: as a literal if some route that is left has it (`is_literal`), else as a parameter.
@@ -202,11 +206,11 @@ impl RouteMatch {
         segment: &[u8],
         is_literal: bool,
     ) -> Result<RouteMatch, AllocError>
-        requires { is_literal ≡ goes_on (literal segment.now) (map route_of (cow_slice_items self.routes)) }
+        requires { is_literal ≡ any_begins_with (literal segment.now) (map route_of (cow_slice_items self.routes)) }
         ensures { IfOk result (λ p. match_in p ≡ enter (match_in self) segment.now) }
     {
         if is_literal {
-            self.routes = CowSlice::Owned(behind(
+            self.routes = CowSlice::Owned(routes_after(
                 alloc,
                 &self.routes,
                 RouteSegment::Literal(segment),
@@ -217,7 +221,7 @@ impl RouteMatch {
         self.routes = if segment.is_empty() {
             CowSlice::Borrowed(&[])
         } else {
-            CowSlice::Owned(behind(alloc, &self.routes, RouteSegment::Parameter)?)
+            CowSlice::Owned(routes_after(alloc, &self.routes, RouteSegment::Parameter)?)
         };
         Ok(self)
     }
@@ -225,7 +229,11 @@ impl RouteMatch {
     /// Matches the whole path.
     ///
     /// Errors: out of memory.
-    pub(crate) fn of(alloc: Global, table: &Table, path: &[u8]) -> Result<RouteMatch, AllocError>
+    pub(crate) fn of(
+        alloc: Global,
+        literals: &SecondLiterals,
+        path: &[u8],
+    ) -> Result<RouteMatch, AllocError>
         ensures { IfOk result (λ p. match_in p ≡ match_of (segments_of path.now)) }
     {
         let mut segments = Segments::new(path);
@@ -239,17 +247,17 @@ impl RouteMatch {
         let Some(second) = segments.next() else {
             return Ok(matched);
         };
-        let is_literal = matched.has_second(table, second);
+        let is_literal = matched.has_second(literals, second);
         matched = matched.enter(alloc, second, is_literal)?;
         for segment in segments {
-            let is_literal = goes_on(&matched.routes, segment);
+            let is_literal = any_begins_with(&matched.routes, segment);
             matched = matched.enter(alloc, segment, is_literal)?;
         }
         Ok(matched)
     }
 
     /// Whether some route matches the whole path, with any method.
-    pub(crate) fn is_end(&self) -> bool
+    pub(crate) fn has_whole_match(&self) -> bool
         ensures { result ≡ list_any ends_here (match_in self.now).routes_left }
     {
         self.routes.iter().any(|route| ends_here(route))
@@ -258,9 +266,12 @@ impl RouteMatch {
     /// The action of the first route that matches the whole path and has the method.
     pub(crate) fn action(&self, method: &[u8]) -> Option<Action>
         ensures { result ≡ option_map
-            (λ r. r.asks) (find (ends_with method.now) (match_in self.now).routes_left) }
+            (λ r. r.action) (find (ends_with_method method.now) (match_in self.now).routes_left) }
     {
-        let route = self.routes.iter().find(|route| ends_with(route, method))?;
+        let route = self
+            .routes
+            .iter()
+            .find(|route| ends_with_method(route, method))?;
         Some(route.action)
     }
 }

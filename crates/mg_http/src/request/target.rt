@@ -10,7 +10,7 @@ ghost use Rattle.mg_http.specs.Walk.{request_at};
 use crate::request::decode::asks_conflicts;
 use crate::request::route_match::RouteMatch;
 use crate::request::routes::{Action, Endpoint};
-use crate::request::table::Table;
+use crate::request::second_literals::SecondLiterals;
 use mg_engine::{Command, Refusal};
 use std::alloc::{AllocError, Global};
 
@@ -123,7 +123,7 @@ fn target_at(
 ) -> Result<RequestTarget, AllocError>
     ensures { IfOk result (λ t. request_in t ≡ request_at db.now method.now query.now (match_in matched)) }
 {
-    if !matched.is_end() || !are_texts(&matched.parameters) {
+    if !matched.has_whole_match() || !are_texts(&matched.parameters) {
         return Ok(RequestTarget::Refuses(Refusal::Missing));
     }
     if !names(db, &matched.parameters) {
@@ -147,13 +147,13 @@ fn target_at(
 pub(crate) fn read_target(
     alloc: Global,
     db: &str,
-    table: &Table,
+    literals: &SecondLiterals,
     method: &[u8],
     target: &[u8],
 ) -> Result<RequestTarget, AllocError>
     ensures { IfOk result (λ t. request_in t ≡ request_of db.now method.now target.now) }
 {
     let (path, query) = split_query(target);
-    let matched = RouteMatch::of(alloc, table, path)?;
+    let matched = RouteMatch::of(alloc, literals, path)?;
     target_at(alloc, db, method, query, matched)
 }

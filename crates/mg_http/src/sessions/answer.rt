@@ -1,23 +1,17 @@
-//! Answers one message.
-ghost use Rattle.std.specs.Prelude.{◌≡◌, true, IfOk, Err, is_ok, if◌then◌else◌, Option};
+//! Answers one message; the reply is not written yet.
+ghost use Rattle.std.specs.Prelude.{◌≡◌, IfOk, Err};
 ghost use Rattle.mg_value.specs.Text.{Reads};
 ghost use Rattle.mg_value.specs.Value.{Value};
-ghost use Rattle.mg_engine.specs.Commands.{Answer};
 ghost use Rattle.mg_engine.specs.View.{asked};
-ghost use Rattle.mg_http.specs.Device.{inner_of, has_failed, WritesBytes};
-ghost use Rattle.mg_http.specs.Reply.{reply_text};
 ghost use Rattle.mg_http.specs.Session.{asked_by, HandlesBody, Handles};
-ghost use Rattle.mg_http.specs.Steps.{request_in};
+ghost use Rattle.mg_http.specs.Steps.{answer_in, request_in};
 
 use crate::request::{Endpoint, RequestTarget};
-use crate::sessions::device::{Device, IoFault};
-use crate::sessions::reply::{write_refusal, write_reply};
 use crate::sessions::service::Service;
 use mg_engine::{Command, Refusal, Reply};
 use mg_packed::Packed;
 use mg_value::{ReadBuffer, ReadError, read_in};
 use std::alloc::Global;
-use std::io::Write;
 use std::sync::Wait;
 use std::thread::Threads;
 
@@ -44,69 +38,50 @@ fn read_command(
     }
 }
 
-/// Reads the body as JSON, answers it for the endpoint, and writes the reply.
-///
-/// Errors: those of the writer.
-fn answer_body<H: Wait + Threads + Sync, S: Service, W: Write>(
+/// What a message is answered with.
+#[derive(Drop)]
+pub(crate) enum MessageReply {
+    /// A reply of the service.
+    Service(Reply),
+    /// A refusal of the message. The service was not asked.
+    Refusal(Refusal),
+}
+
+/// Reads the body as JSON, and answers it for the endpoint.
+fn answer_body<H: Wait + Threads + Sync, S: Service>(
     rt: &H,
     alloc: Global,
     service: &mut S,
-    writer: &mut Device<W>,
-    output: &mut Vec<u8>,
     buffer: &mut ReadBuffer,
-    omits_body: bool,
     endpoint: Endpoint,
     body: &[u8],
-) -> Result<(), IoFault>
-    ensures bytes { (reply : Option Answer)
-        × HandlesBody S.answers endpoint body.now
-        (record { old = service.old; reply = reply; new = service.new })
-        × WritesBytes (W.contents (inner_of writer.old)) (W.contents (inner_of writer.new))
-        (reply_text omits_body reply) result }
-    ensures failed { has_failed writer.new ≡ (if is_ok result then has_failed writer.old else true) }
+) -> MessageReply
+    ensures { HandlesBody S.answers endpoint body.now
+        (record { old = service.old; reply = answer_in result; new = service.new }) }
 {
     match read_command(alloc, endpoint, body, buffer) {
-        Ok(command) => {
-            let reply = service.ask(rt, alloc, command);
-            write_reply(writer, output, omits_body, &reply)
-        }
-        Err(ReadError::NoMemory) => write_reply(writer, output, omits_body, &Reply::NoMemory),
-        Err(ReadError::NotJson) => write_refusal(writer, output, omits_body, Refusal::InvalidJson),
-        Err(ReadError::NotWhole) => write_refusal(writer, output, omits_body, Refusal::InvalidJson),
+        Ok(command) => MessageReply::Service(service.ask(rt, alloc, command)),
+        Err(ReadError::NoMemory) => MessageReply::Service(Reply::NoMemory),
+        Err(ReadError::NotJson) => MessageReply::Refusal(Refusal::InvalidJson),
+        Err(ReadError::NotWhole) => MessageReply::Refusal(Refusal::InvalidJson),
     }
 }
 
-/// Answers a message and writes the reply; with `omits_body`, the reply is written without its body.
-///
-/// Errors: those of the writer.
-pub(crate) fn answer_request<H: Wait + Threads + Sync, S: Service, W: Write>(
+/// Answers a message with this target and body.
+pub(crate) fn answer_request<H: Wait + Threads + Sync, S: Service>(
     rt: &H,
     alloc: Global,
     service: &mut S,
-    writer: &mut Device<W>,
-    output: &mut Vec<u8>,
     buffer: &mut ReadBuffer,
-    omits_body: bool,
     target: RequestTarget,
     body: &[u8],
-) -> Result<(), IoFault>
-    ensures bytes { (reply : Option Answer)
-        × Handles S.answers (request_in target) body.now
-        (record { old = service.old; reply = reply; new = service.new })
-        × WritesBytes (W.contents (inner_of writer.old)) (W.contents (inner_of writer.new))
-        (reply_text omits_body reply) result }
-    ensures failed { has_failed writer.new ≡ (if is_ok result then has_failed writer.old else true) }
+) -> MessageReply
+    ensures { Handles S.answers (request_in target) body.now
+        (record { old = service.old; reply = answer_in result; new = service.new }) }
 {
     match target {
-        RequestTarget::Body(endpoint) => {
-            answer_body(
-                rt, alloc, service, writer, output, buffer, omits_body, endpoint, body,
-            )
-        }
-        RequestTarget::Asks(command) => {
-            let reply = service.ask(rt, alloc, command);
-            write_reply(writer, output, omits_body, &reply)
-        }
-        RequestTarget::Refuses(refusal) => write_refusal(writer, output, omits_body, refusal),
+        RequestTarget::Body(endpoint) => answer_body(rt, alloc, service, buffer, endpoint, body),
+        RequestTarget::Asks(command) => MessageReply::Service(service.ask(rt, alloc, command)),
+        RequestTarget::Refuses(refusal) => MessageReply::Refusal(refusal),
     }
 }

@@ -3,7 +3,7 @@ ghost use Rattle.std.specs.Prelude.{◌≡◌, ◌↔◌, ℕ, List, [], ◌++�
 ghost use Rattle.std.specs.Io.KnownBytes.{Consumes, IsAtEnd};
 ghost use Rattle.mg_http.specs.Device.{inner_of, has_failed};
 
-use crate::request::{Pending, Table, read_pending};
+use crate::request::{Pending, SecondLiterals, read_pending};
 use crate::sessions::device::{Device, IoFault};
 use httparse::spans::{EMPTY_HEADER_SPAN, HeaderSpan};
 use mg_value::ReadBuffer;
@@ -23,7 +23,7 @@ pub(crate) struct Inbox {
     pub(crate) held: Vec<u8>,
     pub(crate) start: usize,
     /// Looks up the second segment of a path.
-    pub(crate) table: Table,
+    pub(crate) literals: SecondLiterals,
     /// Room for the fields of a head.
     pub(crate) spans: Vec<HeaderSpan>,
     /// Room for one read.
@@ -33,7 +33,7 @@ pub(crate) struct Inbox {
     /// Memory for reading a body.
     pub(crate) buffer: ReadBuffer,
     /// The number of messages answered.
-    pub(crate) requests: u32,
+    pub(crate) messages: u32,
     /// The number of calls to the reader.
     pub(crate) reads: u32,
     ghost answered: { start ≤ vec_len held },
@@ -71,17 +71,17 @@ impl Inbox {
     /// Errors: out of memory.
     pub(crate) fn new(alloc: Global) -> Result<Inbox, AllocError>
         ensures held { IfOk result (λ inbox. unanswered inbox ≡ []) }
-        ensures counts { IfOk result (λ inbox. (inbox.requests ≡ 0) × (inbox.reads ≡ 0)) }
+        ensures counts { IfOk result (λ inbox. (inbox.messages ≡ 0) × (inbox.reads ≡ 0)) }
     {
         Ok(Inbox {
             held: Vec::new(alloc),
             start: 0,
-            table: Table::new(alloc)?,
+            literals: SecondLiterals::new(alloc)?,
             spans: vec![in alloc; EMPTY_HEADER_SPAN; SPANS]?,
             piece: vec![in alloc; 0; PIECE]?,
             output: Vec::new(alloc),
             buffer: ReadBuffer::new(alloc),
-            requests: 0,
+            messages: 0,
             reads: 0,
         })
     }
@@ -91,13 +91,13 @@ impl Inbox {
         ensures pending { IsPending db.now (unanswered self.old) result }
         ensures held { unanswered self.new ≡ unanswered self.old }
         ensures steps { steps_left self.new ≡ steps_left self.old }
-        ensures requests { self.new.requests ≡ self.old.requests }
+        ensures messages { self.new.messages ≡ self.old.messages }
         ensures reads { self.new.reads ≡ self.old.reads }
     {
         read_pending(
             alloc,
             db,
-            &self.table,
+            &self.literals,
             rest_of(&self.held, self.start),
             &mut self.spans,
         )
@@ -108,7 +108,7 @@ impl Inbox {
         ensures start { self.new.start ≡ 0 }
         ensures held { self.new.held.items ≡ unanswered self.old }
         ensures reads { self.new.reads ≡ self.old.reads }
-        ensures requests { self.new.requests ≡ self.old.requests }
+        ensures messages { self.new.messages ≡ self.old.messages }
     {
         if self.start == 0 {
             return;
@@ -131,7 +131,7 @@ impl Inbox {
         ensures some { OnOk result (length (unanswered self.old) < length (unanswered self.new)) }
         ensures end { IsErrOf result Stop.End → IsAtEnd (R.remaining (inner_of reader.new)) }
         ensures failed { IsTrue (has_failed reader.new) ↔ IsErrOf result Stop.Failed }
-        ensures requests { self.new.requests ≡ self.old.requests }
+        ensures messages { self.new.messages ≡ self.old.messages }
 
         // Each read that returns `Ok` adds at least one byte, so a session at its limit of reads has read at least that many bytes.
         ensures reads { OnOk result (self.new.reads + length (unanswered self.old)
@@ -173,7 +173,7 @@ impl Inbox {
         ensures short { OnErr result (length (unanswered self.new) < want) }
         ensures end { IsErrOf result Stop.End → IsAtEnd (R.remaining (inner_of reader.new)) }
         ensures failed { IsTrue (has_failed reader.new) ↔ IsErrOf result Stop.Failed }
-        ensures requests { self.new.requests ≡ self.old.requests }
+        ensures messages { self.new.messages ≡ self.old.messages }
         ensures reads { OnOk result (self.new.reads + length (unanswered self.old)
             ≤ self.old.reads + length (unanswered self.new)) }
         ensures limit { IsErrOf result Stop.Limit

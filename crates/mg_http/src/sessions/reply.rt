@@ -3,7 +3,9 @@ ghost use Rattle.mg_engine.specs.Commands.{refused};
 ghost use Rattle.mg_engine.specs.View.{said};
 ghost use Rattle.mg_http.specs.Device.{inner_of, has_failed, WritesBytes};
 ghost use Rattle.mg_http.specs.Reply.{phrase_of, text_with, text_of, reply_text};
+ghost use Rattle.mg_http.specs.Steps.{answer_in};
 
+use crate::sessions::answer::MessageReply;
 use crate::sessions::device::{Device, IoFault};
 use http::StatusCode;
 use itoa::Buffer;
@@ -117,4 +119,23 @@ pub(crate) fn write_refusal<W: Write>(
         refusal.status(),
         refusal.body().as_bytes(),
     )
+}
+
+/// Writes what a message is answered with.
+///
+/// Errors: those of the writer.
+pub(crate) fn write_answer<W: Write>(
+    writer: &mut Device<W>,
+    output: &mut Vec<u8>,
+    omits_body: bool,
+    answer: &MessageReply,
+) -> Result<(), IoFault>
+    ensures bytes { WritesBytes (W.contents (inner_of writer.old)) (W.contents (inner_of writer.new))
+        (reply_text omits_body (answer_in answer.now)) result }
+    ensures failed { has_failed writer.new ≡ (if is_ok result then has_failed writer.old else true) }
+{
+    match answer {
+        MessageReply::Service(reply) => write_reply(writer, output, omits_body, reply),
+        MessageReply::Refusal(refusal) => write_refusal(writer, output, omits_body, *refusal),
+    }
 }

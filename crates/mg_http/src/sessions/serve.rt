@@ -15,7 +15,8 @@ use std::sync::Wait;
 use std::thread::Threads;
 
 impl<P: Placement + Drop> Solo<P> {
-    /// Serves one session of the database `db`: answers each message that it reads, one after another, from the engine.
+    /// Serves one session of the database `db`: answers each message that it reads, one after another, from the engine. Does not flush
+    /// the writer.
     ///
     /// If memory sufficed, it writes the transcript of what it read; after a failed write, or at the session's limit, a prefix of the
     /// transcript. Afterwards the engine stands for the world that the answered messages leave.

@@ -6,7 +6,7 @@ ghost use Rattle.mg_http.specs.Solo.{EngineAnswers};
 ghost use Rattle.mg_live.specs.SeatView.{Answered};
 
 use mg_engine::{Command, Engine, Reply};
-use mg_live::{Database, Ends, Seat};
+use mg_live::{Database, EndsWriter, Seat};
 use mg_shard::Placement;
 use std::alloc::Global;
 use std::sync::Wait;
@@ -45,20 +45,19 @@ impl<P: Placement + Drop> Service for Solo<P> {
 
 /// A seat at a database that other sessions use too, and the number of workers, 1 to 32, with which it answers.
 #[derive(Drop)]
-pub struct SeatService<D: Database, C: Ends> {
+pub struct SeatService<D: Database, C: EndsWriter> {
     pub seat: Seat<D, C>,
     pub workers: usize,
     ghost some_worker: { 1 ≤ workers },
     ghost most_workers: { workers ≤ 32 },
 }
 
-impl<D: Database, C: Ends> Service for SeatService<D, C> {
+impl<D: Database, C: EndsWriter> Service for SeatService<D, C> {
     // The answer is the seat's: a read is answered from what the seat has seen by then; a write, after a list of commits that begins
     // with those that the seat had seen. If memory ran out, there is no commit.
     ghost answers = { λ old command answer new. Answered D.db old.seat command answer new.seat };
 
-    fn ask<H: Wait + Threads + Sync>(&mut self, rt: &H, alloc: Global, command: Command) -> Reply {
-        let _ = alloc;
+    fn ask<H: Wait + Threads + Sync>(&mut self, rt: &H, _alloc: Global, command: Command) -> Reply {
         self.seat.answer(rt, command, self.workers)
     }
 }

@@ -34,7 +34,7 @@ fn part_among(
     }
 }
 
-// The part of `texts` that holds the id of a node's parent, if the parent is known. The node's own parts are of `other`.
+// The part of `texts` that holds the id of a node's parent, if the parent is known. The parts in the node itself lie in `other`.
 fn parent_for(
     texts: &mut Vec<u8>,
     older: &[Node],
@@ -90,7 +90,7 @@ fn node_for(
 }
 
 // Appends the older nodes below a node, and then the node, joined with the older one of its revision if there is one.
-// Returns how many older nodes are done with.
+// Returns how many older nodes it consumed.
 fn add_through(
     texts: &[u8],
     made: &mut Vec<Node>,

@@ -1,11 +1,11 @@
 ghost use Rattle.std.specs.Prelude.{◌≡◌, ◌+◌, ◌<◌, ◌≤◌, ◌++◌, ◌*◌, List, [], IfOk, IfSome, OnErr, OnOk, is_some, length, map, nat_le, string_bytes};
 ghost use Rattle.mg_revtree.specs.Revision.{run_from};
-ghost use Rattle.mg_revtree.specs.History.{Link, are_held, fit, links};
+ghost use Rattle.mg_revtree.specs.History.{Link, are_known_whole, fit, links};
 ghost use Rattle.mg_revtree.specs.Tree.{AreNodes, AreSorted, find};
 ghost use Rattle.mg_revtree.specs.Pair.{pair_links};
 
 use crate::links::list::Links;
-use crate::links::lookup::{LookUp, all_agree, all_held};
+use crate::links::lookup::{LookUp, all_agree, all_known};
 use crate::links::older::Older;
 use crate::revision::Rev;
 use mg_value::NoMemory;
@@ -93,9 +93,9 @@ impl KnownLinks {
     /// the run gives them. Cost: as for `fits`.
     pub fn knows_whole(&self, start: u32, ids: &[String]) -> bool
         ensures { (ls : List Link) → AreNodes self.now ls
-            → result ≡ are_held ls (links (run_from start (map string_bytes ids.now))) }
+            → result ≡ are_known_whole ls (links (run_from start (map string_bytes ids.now))) }
     {
-        all_held(self, start, ids)
+        all_known(self, start, ids)
     }
 
     /// Adds a run, given by its start and its ids, newest first. If memory runs out, nothing changes. Cost: if the newer list

@@ -1,10 +1,10 @@
 ghost use Rattle.std.specs.Prelude.{◌≡◌, ◌-◌, ◌<◌, ◌≤◌, IfErr, IfOk, List, length, map, option_copied, option_map, string_bytes};
 ghost use Rattle.mg_revtree.specs.Revision.{run_from};
-ghost use Rattle.mg_revtree.specs.History.{Link, fit, are_held, links};
+ghost use Rattle.mg_revtree.specs.History.{Link, fit, are_known_whole, links};
 ghost use Rattle.mg_revtree.specs.Tree.{AreNodes, AreSorted, find};
 ghost use Rattle.mg_revtree.specs.Nodes.{links_in};
 ghost use Rattle.mg_revtree.specs.Known.{parent_below};
-ghost use Rattle.mg_revtree.specs.Steps.{IsGap, IsLinkAt, agrees_found, held_found};
+ghost use Rattle.mg_revtree.specs.Steps.{IsGap, IsLinkAt, agrees_found, known_found};
 
 use crate::links::node::Node;
 
@@ -60,9 +60,9 @@ pub fn all_agree<K: LookUp>(known: &K, start: u32, ids: &[String]) -> bool
 }
 
 // Whether a revision is known, and with the given parent, if one is given.
-fn is_held<K: LookUp>(known: &K, pos: u32, id: &String, parent: Option<&String>) -> bool
+fn is_known_with<K: LookUp>(known: &K, pos: u32, id: &String, parent: Option<&String>) -> bool
     ensures { result
-        ≡ held_found (find (pos, string_bytes id.now) (K.known_links known.now)) (option_map
+        ≡ known_found (find (pos, string_bytes id.now) (K.known_links known.now)) (option_map
         (λ p. (pos - 1, string_bytes p)) (option_copied parent.entry)) }
 {
     match (known.look_up_parent(pos, id.as_bytes()), parent) {
@@ -73,13 +73,13 @@ fn is_held<K: LookUp>(known: &K, pos: u32, id: &String, parent: Option<&String>)
 }
 
 /// Whether all revisions of a run are known, with the parents that the run gives them.
-pub fn all_held<K: LookUp>(known: &K, start: u32, ids: &[String]) -> bool
+pub fn all_known<K: LookUp>(known: &K, start: u32, ids: &[String]) -> bool
     ensures { (ls : List Link) → AreNodes (K.known_links known.now) ls
-        → result ≡ are_held ls (links (run_from start (map string_bytes ids.now))) }
+        → result ≡ are_known_whole ls (links (run_from start (map string_bytes ids.now))) }
 {
     let mut pos = start;
     for (i, id) in ids.iter().enumerate() {
-        if !is_held(known, pos, id, ids.get(i + 1)) {
+        if !is_known_with(known, pos, id, ids.get(i + 1)) {
             return false;
         }
         pos = pos.saturating_sub(1);

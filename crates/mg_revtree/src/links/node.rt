@@ -6,7 +6,7 @@ ghost use Rattle.mg_revtree.specs.Known.{parent_below};
 
 use std::cmp::Ordering;
 
-/// An id among the texts of all ids: the place of its first byte, and its length. Both have 32 bits, so that a node takes 24
+/// Where an id is in the text of all ids: the place of its first byte, and its length. Both have 32 bits, so that a node takes 24
 /// bytes.
 #[derive(Clone, Copy, Debug)]
 pub struct IdPart {

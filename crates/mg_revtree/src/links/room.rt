@@ -36,7 +36,7 @@ fn put(nodes: &mut [Node], room: Room, at: usize, node: Node) -> Room
     }
 }
 
-// If the node's revision is known, its known node gets the parent, unless it has one; else the node is inserted at its place.
+// If a known node has this node's revision, it gets the parent, unless it already has one. Otherwise this node is inserted in order.
 // The nodes after the room are at higher positions.
 fn join(texts: &[u8], nodes: &mut [Node], room: Room, node: Node) -> Room
     requires room { room.till < room.from }
@@ -89,7 +89,7 @@ fn join_each(texts: &[u8], nodes: &mut [Node], known: usize, start: u32, parts: 
     room
 }
 
-// Closes the room: the nodes after it move to those before it.
+// Closes the room: the nodes after it move down to its start.
 fn close(nodes: &mut Vec<Node>, room: Room)
     requires ordered { room.till ≤ room.from }
     requires inside { room.from ≤ vec_len nodes.old }

@@ -5,7 +5,7 @@ use Rattle.std.proofs.Common.{◌<◌, length, arith, sym, subst}
 use Rattle.std.specs.Prelude.{slice_index_or}
 use Rattle.mg_live.specs.SeatView.{SeatView}
 use Rattle.mg_live.proofs.Crossing.{seat_send, waiting_send}
-use Rattle.mg_live.specs.contracts.database.Waiting as Waiting
+use Rattle.mg_live.specs.contracts.database.WaitForReaders as WaitForReaders
 use Rattle.mangod.specs.Conversations.{IsServed}
 use Rattle.mangod.proofs.Crossing.{service_send}
 use Rattle.mangod.proofs.Turns.{shown_at}
@@ -15,12 +15,12 @@ use Rattle.mangod.proofs.seats.attend_all.Goals as goal
 pub map_vec-requires-send-J : goal.map_vec-requires-send-J
 map_vec-requires-send-J g c κs within =
     let ends = waiting_send (copied 1 g.row.H) c.type_bounds.send-H in
-    param_send 1 _ (arg_send _ no _ (service_send (param 0 g.row.D) (Waiting.the_row (copied 1 g.row.H)) g.D.Database g.D.Ledger ends))
+    param_send 1 _ (arg_send _ no _ (service_send (param 0 g.row.D) (WaitForReaders.the_row (copied 1 g.row.H)) g.D.Database g.D.Ledger ends))
 
 pub map_vec-requires-send-X : goal.map_vec-requires-send-X
 map_vec-requires-send-X g c κs within =
     let ends = waiting_send (copied 1 g.row.H) c.type_bounds.send-H in
-    param_send 2 _ (arg_send _ no _ (seat_send (param 0 g.row.D) (Waiting.the_row (copied 1 g.row.H)) g.D.Database g.D.Ledger ends))
+    param_send 2 _ (arg_send _ no _ (seat_send (param 0 g.row.D) (WaitForReaders.the_row (copied 1 g.row.H)) g.D.Database g.D.Ledger ends))
 
 pub returns-clause-each : goal.returns-clause-each
 returns-clause-each g c = λ i d inside.

@@ -1,7 +1,7 @@
 use Rattle.std.proofs.Common.{◌≡◌, ◌+◌, ◌<◌, ◌&&◌, length, sym, ap, ◌∙◌, arith}
 use Rattle.mg_value.specs.Value.{item_list}
 use Rattle.mg_value.proofs.Items.{items_past, past_all}
-use Rattle.mg_doc.specs.Form.{are_ids, is_id}
+use Rattle.mg_doc.specs.WellFormed.{are_ids, is_rev_id_value}
 use Rattle.mg_doc.proofs.Walks.{ids_next}
 use Rattle.mg_doc.proofs.fault.are_ids.Goals as goal
 
@@ -11,7 +11,7 @@ returns-then-not-is_id_text c =
     let i = c.loop-index.index in
     let less : i < length (item_list vs) = omega (arith, c.len-index-end.ensures) in
     sym (c.loop-index.invariant ∙ ids_next vs i less
-    ∙ ap (λ b. b && are_ids (items_past (i + 1) vs)) (ap is_id (sym c.item.ensures) ∙ sym c.is_id_text.ensures ∙ c.if-not-is_id_text.true))
+    ∙ ap (λ b. b && are_ids (items_past (i + 1) vs)) (ap is_rev_id_value (sym c.item.ensures) ∙ sym c.is_id_text.ensures ∙ c.if-not-is_id_text.true))
 
 pub loop-index-preserved : goal.loop-index-preserved
 loop-index-preserved c =
@@ -19,7 +19,7 @@ loop-index-preserved c =
     let i = c.loop-index.index in
     let less : i < length (item_list vs) = omega (arith, c.len-index-end.ensures) in
     c.loop-index.invariant ∙ ids_next vs i less
-    ∙ ap (λ b. b && are_ids (items_past (i + 1) vs)) (ap is_id (sym c.item.ensures) ∙ sym c.is_id_text.ensures ∙ c.if-not-is_id_text.false)
+    ∙ ap (λ b. b && are_ids (items_past (i + 1) vs)) (ap is_rev_id_value (sym c.item.ensures) ∙ sym c.is_id_text.ensures ∙ c.if-not-is_id_text.false)
 
 pub returns : goal.returns
 returns c =

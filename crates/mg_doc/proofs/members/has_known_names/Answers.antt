@@ -1,9 +1,9 @@
 use Rattle.std.proofs.Common.{◌+◌, ◌<◌, ◌≤◌, ◌&&◌, length, sym, ap, ◌∙◌, arith}
 use Rattle.mg_value.specs.Value.{member_list}
-use Rattle.mg_packed.specs.Weight.{members_past}
+use Rattle.mg_packed.specs.Walk.{members_past}
 use Rattle.mg_packed.proofs.Walks.{members_done}
 use Rattle.mg_doc.specs.Document.{has_known_names}
-use Rattle.mg_doc.specs.Form.{is_known_name}
+use Rattle.mg_doc.specs.WellFormed.{is_known_name}
 use Rattle.mg_doc.proofs.Walks.{known_next}
 use Rattle.mg_doc.proofs.members.has_known_names.Goals as goal
 

@@ -1,5 +1,5 @@
 use Rattle.std.proofs.Common.{◌≡◌}
-use Rattle.mg_packed.specs.Weight.{members_past}
+use Rattle.mg_packed.specs.Walk.{members_past}
 use Rattle.mg_doc.specs.Document.{has_known_names}
 use Rattle.mg_doc.proofs.members.has_known_names.Given as goal
 

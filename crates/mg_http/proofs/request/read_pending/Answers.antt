@@ -18,6 +18,6 @@ returns-in-Message c =
     let k = c.min.result in
     let bytes = c.args.bytes.now in
     let read = c.in-Message.ensures in
-    let rest = rest_of_window bytes k c.in-Message.framed.len read.0 in
-    let has = has_head bytes k read.2 (drop c.in-Message.framed.len (take k bytes)) (omega (arith, c.min.ensures)) read.3 in
+    let rest = rest_of_window bytes k c.in-Message.framed.head_len read.0 in
+    let has = has_head bytes k read.2 (drop c.in-Message.framed.head_len (take k bytes)) (omega (arith, c.min.ensures)) read.3 in
     (omega (arith, read.0, length-take k bytes), read.1, read.2, subst (HasHead bytes read.2) rest has, read.4)

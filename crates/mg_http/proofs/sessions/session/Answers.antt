@@ -16,7 +16,7 @@ returns-in-Err-step-clause-transcript g c =
     let run = c.loop-end.invariant.run in
     let step = c.in-Err-step.ensures.bytes in
     let done = run_ends g.S.Service.answers c.args.db.now _ _ _ _ _ _ _ _ _ _ (run.0, run.1, run.2, run.3, run.4) _ (step.0, step.1, step.2, step.3, step.4) in
-    let limit = at_limit _ run.0 step.0 (unanswered c.loop-end.inbox) c.loop-end.inbox.requests c.loop-end.inbox.reads run.5 run.6 step.5 in
+    let limit = at_limit _ run.0 step.0 (unanswered c.loop-end.inbox) c.loop-end.inbox.messages c.loop-end.inbox.reads run.5 run.6 step.5 in
     holds g.S.Service.answers c.args.db.now _ _ _ _ _ done.0 done.1 done.2 done.3 done.4 limit
 
 pub loop-end-init : goal.loop-end-init

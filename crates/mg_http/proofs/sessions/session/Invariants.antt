@@ -12,7 +12,7 @@ invariant-loop-end g l = record {
       × Consumes (g.R.Read.remaining (inner_of l.fn.reader)) (g.R.Read.remaining (inner_of l.reader)) bytes
       × Appends (g.W.Write.contents (inner_of l.fn.writer)) (g.W.Write.contents (inner_of l.writer)) written
       × ((calls : List Call) × Serves g.S.Service.answers l.fn.db calls (unanswered l.inbox) (exchange l.fn.service bytes written l.service))
-      × (l.inbox.requests + length (unanswered l.inbox) ≤ length bytes) × (l.inbox.reads ≤ length bytes);
+      × (l.inbox.messages + length (unanswered l.inbox) ≤ length bytes) × (l.inbox.reads ≤ length bytes);
   reading : has_failed l.reader ≡ false;
   writing : has_failed l.writer ≡ false;
 }

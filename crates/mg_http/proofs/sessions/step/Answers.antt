@@ -15,7 +15,7 @@ returns-in-Ok-clause-bytes g c =
       done.2,
       done.3,
       done.4,
-      (omega (arith, size, both, c.in-Ok.ensures.requests, c.pending.ensures.requests), omega (arith, size, both, often, c.pending.ensures.reads)),
+      (omega (arith, size, both, c.in-Ok.ensures.messages, c.pending.ensures.messages), omega (arith, size, both, often, c.pending.ensures.reads)),
     )
 
 pub returns-in-Err-clause-bytes : goal.returns-in-Err-clause-bytes

@@ -1,6 +1,6 @@
 use Rattle.std.proofs.Common.{◌+◌, sym, subst, ◌∙◌, take}
 use Rattle.mg_machine.specs.Machine.{machine_after, opened}
-use Rattle.mg_machine.specs.Follow.{Follow}
+use Rattle.mg_machine.specs.Seats.{SeatsStandFor}
 use Rattle.mg_machine.specs.View.{event_seen, events_seen}
 use Rattle.mg_machine.proofs.Replies.{event_at, machine_more, said_more, seen_all, seen_more, some_more}
 use Rattle.mg_machine.proofs.interleave.replay.Goals as goal
@@ -23,7 +23,7 @@ loop-event-preserved g c =
     let pushed = c.in_ok-push.ensures.items in
     record {
       number = c.in_ok-reply.ensures.number ∙ l.invariant.number;
-      follow = subst (Follow db c.happen.new.at) (sym (machine_more db start done longer event more)) did.2;
+      follow = subst (SeatsStandFor db c.happen.new.at) (sym (machine_more db start done longer event more)) did.2;
       replies = said_more db start done longer event l.replies.items c.push.new.self.items c.in_ok-reply.reply more pushed did.0 l.invariant.replies;
       some = some_more db start done longer event l.replies.items c.push.new.self.items c.in_ok-reply.reply more pushed did.1 l.invariant.some;
     }

@@ -1,7 +1,7 @@
 use Rattle.std.proofs.Common.{◌≡◌, is_some, map, option_and_then, take, vec_len}
 use Rattle.mg_engine.specs.View.{said}
 use Rattle.mg_machine.specs.Machine.{machine_after, opened, replies_of_events}
-use Rattle.mg_machine.specs.Follow.{Follow}
+use Rattle.mg_machine.specs.Seats.{SeatsStandFor}
 use Rattle.mg_machine.specs.View.{events_seen}
 use Rattle.mg_machine.proofs.interleave.replay.Given as goal
 
@@ -12,7 +12,7 @@ invariant-loop-event g l =
     let start = opened l.seats in
     record {
       number : vec_len l.at.each ≡ l.seats;
-      follow : Follow l.db l.at (machine_after l.db start done);
+      follow : SeatsStandFor l.db l.at (machine_after l.db start done);
       replies : map (option_and_then said) l.replies.items ≡ replies_of_events l.db start done;
       some : map is_some l.replies.items ≡ map is_some (replies_of_events l.db start done);
     }

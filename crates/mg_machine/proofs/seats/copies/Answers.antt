@@ -1,6 +1,6 @@
 use Rattle.std.proofs.Common.{arith}
 use Rattle.std.proofs.lemmas.List.Elements.{All-push}
-use Rattle.mg_machine.specs.Follow.{by_md5}
+use Rattle.mg_machine.specs.Seats.{by_md5}
 use Rattle.mg_machine.specs.Points.{IsAfter}
 use Rattle.mg_machine.proofs.seats.copies.Goals as goal
 

@@ -1,6 +1,6 @@
 use Rattle.std.proofs.Common.{◌≡◌, ℕ, List, All, vec_len}
 use Rattle.mg_machine.specs.Machine.{Commit}
-use Rattle.mg_machine.specs.Follow.{by_md5}
+use Rattle.mg_machine.specs.Seats.{by_md5}
 use Rattle.mg_machine.specs.Points.{IsAfter}
 use Rattle.mg_machine.proofs.seats.copies.Given as goal
 

@@ -15,7 +15,7 @@ pub loop-direction-init : goal.loop-direction-init
 loop-direction-init g c = record {
   within = omega arith;
   order = subst (All (IsInOrderBy g.T.Ranked.row_of c.args.direction)) (sym c.in_ok-rests.ensures) c.requires;
-  winners = c.in_ok-winners.ensures;
+  tournament = c.in_ok-tournament.ensures;
   rest = rw c.new-lent.ensures.items (ap (λ lists. sorted (order_by g.T.Ranked.row_of c.args.direction) (joined lists)) (sym c.in_ok-rests.ensures));
 }
 
@@ -28,6 +28,6 @@ loop-direction-preserved g c =
     record {
       within = omega arith;
       order = c.take_first.ensures.order;
-      winners = c.take_first.ensures.winners;
+      tournament = c.take_first.ensures.tournament;
       rest = one_more_lent order (sorted order (joined (contents_of c.args.lists.now))) c.loop-direction.lent.items c.push.new.self.items c.in-Some.item before before rests c.loop-direction.invariant.rest refl first c.in_ok-push-in-Some.ensures.items;
     }

@@ -8,7 +8,7 @@ use Rattle.mg_merge.proofs.pulled.merge_heads.Given as goal
 abbrev pub invariant-loop-direction : goal.invariant-loop-direction
 invariant-loop-direction g l = record {
   within : vec_len l.items ≤ l.take;
-  under_way : IsUnderWay g.T.Ranked.row_of l.direction l.heads.items (map g.S.RowSource.rest l.sources) l.winners.places.items;
+  under_way : IsUnderWay g.T.Ranked.row_of l.direction l.heads.items (map g.S.RowSource.rest l.sources) l.tournament.places.items;
   size : length l.heads.items ≡ length l.fn.heads.items;
   sources : length l.sources ≡ length l.fn.sources;
   left : sorted (directed_order l.direction) (joined (all_remaining (map (option_map g.T.Ranked.row_of) l.fn.heads.items) (map g.S.RowSource.rest l.fn.sources)))

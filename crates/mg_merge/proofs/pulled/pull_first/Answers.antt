@@ -12,12 +12,12 @@ returns-in_err-source-clause-end g c =
     let row = g.T.Ranked.row_of in
     let heads = c.args.heads.now.items in
     let rests = map g.S.RowSource.rest c.args.sources.now in
-    if_none c.from_residual.result _ (none_pulled row heads rests c.requires.size (none_begin (order_by row c.args.direction) (firsts_of heads) c.args.winners.now.places.items c.requires.tree c.in_err-source.ensures.none))
+    if_none c.from_residual.result _ (none_pulled row heads rests c.requires.size (none_begin (order_by row c.args.direction) (firsts_of heads) c.args.tournament.now.places.items c.requires.tree c.in_err-source.ensures.none))
 
 pub index-requires : goal.index-requires
 index-requires g c =
     let some = c.in_ok-source.ensures.some in
-    let first = first_source g.T.Ranked.row_of c.args.direction c.args.heads.now.items c.args.winners.now.places.items c.in_ok-source.source c.requires.tree some.0 some.1 in
+    let first = first_source g.T.Ranked.row_of c.args.direction c.args.heads.now.items c.args.tournament.now.places.items c.in_ok-source.source c.requires.tree some.0 some.1 in
     let within = first.0 in
     omega (arith, within)
 
@@ -28,14 +28,14 @@ returns-in_err-item-clause-end g c =
     let rests = map g.S.RowSource.rest c.args.sources.now in
     let source = c.in_ok-source.source in
     let some = c.in_ok-source.ensures.some in
-    let first = first_source row c.args.direction heads c.args.winners.now.places.items source c.requires.tree some.0 some.1 in
+    let first = first_source row c.args.direction heads c.args.tournament.now.places.items source c.requires.tree some.0 some.1 in
     let front = front_at heads source c.index.result.now c.index.result.now first.0 c.index.ensures in
     if_none c.from_residual-in_err-item.result _ (all_ended row c.args.direction heads rests source c.requires.size first.0 first.1 (front ∙ c.in_err-item.was))
 
 pub offset_bounds-sources-source : goal.offset_bounds-sources-source
 offset_bounds-sources-source g c =
     let some = c.in_ok-source.ensures.some in
-    let first = first_source g.T.Ranked.row_of c.args.direction c.args.heads.now.items c.args.winners.now.places.items c.in_ok-source.source c.requires.tree some.0 some.1 in
+    let first = first_source g.T.Ranked.row_of c.args.direction c.args.heads.now.items c.args.tournament.now.places.items c.in_ok-source.source c.requires.tree some.0 some.1 in
     let within = first.0 in
     let counted = length-map c.args.sources.now g.S.RowSource.rest in
     let size = c.requires.size in
@@ -45,7 +45,7 @@ offset_bounds-sources-source g c =
 pub bounds-sources-source : goal.bounds-sources-source
 bounds-sources-source g c =
     let some = c.in_ok-source.ensures.some in
-    let first = first_source g.T.Ranked.row_of c.args.direction c.args.heads.now.items c.args.winners.now.places.items c.in_ok-source.source c.requires.tree some.0 some.1 in
+    let first = first_source g.T.Ranked.row_of c.args.direction c.args.heads.now.items c.args.tournament.now.places.items c.in_ok-source.source c.requires.tree some.0 some.1 in
     let within = first.0 in
     let counted = length-map c.args.sources.now g.S.RowSource.rest in
     let size = c.requires.size in
@@ -54,7 +54,7 @@ bounds-sources-source g c =
 pub index_mut-requires : goal.index_mut-requires
 index_mut-requires g c =
     let some = c.in_ok-source.ensures.some in
-    let first = first_source g.T.Ranked.row_of c.args.direction c.args.heads.now.items c.args.winners.now.places.items c.in_ok-source.source c.requires.tree some.0 some.1 in
+    let first = first_source g.T.Ranked.row_of c.args.direction c.args.heads.now.items c.args.tournament.now.places.items c.in_ok-source.source c.requires.tree some.0 some.1 in
     let within = first.0 in
     omega (arith, within)
 
@@ -63,12 +63,12 @@ update-requires-clause-list g c =
     let heads = c.args.heads.now.items in
     let source = c.in_ok-source.source in
     let some = c.in_ok-source.ensures.some in
-    let first = first_source g.T.Ranked.row_of c.args.direction heads c.args.winners.now.places.items source c.requires.tree some.0 some.1 in
+    let first = first_source g.T.Ranked.row_of c.args.direction heads c.args.tournament.now.places.items source c.requires.tree some.0 some.1 in
     let within = first.0 in
     simp (length-map, length-set) (omega (arith, within))
 
 pub update-requires-clause-others : goal.update-requires-clause-others
-update-requires-clause-others g c = pulled_changed g.T.Ranked.row_of c.args.direction c.args.heads.now.items c.args.winners.now.places.items c.in_ok-source.source c.next.result c.requires.tree
+update-requires-clause-others g c = pulled_changed g.T.Ranked.row_of c.args.direction c.args.heads.now.items c.args.tournament.now.places.items c.in_ok-source.source c.next.result c.requires.tree
 
 pub returns-clause-under_way : goal.returns-clause-under_way
 returns-clause-under_way g c =
@@ -79,7 +79,7 @@ returns-clause-under_way g c =
     let sources = c.args.sources.now in
     let source = c.in_ok-source.source in
     let some = c.in_ok-source.ensures.some in
-    let first = first_source row direction heads c.args.winners.now.places.items source c.requires.tree some.0 some.1 in
+    let first = first_source row direction heads c.args.tournament.now.places.items source c.requires.tree some.0 some.1 in
     let within = first.0 in
     let front = front_at heads source c.index.result.now c.index.result.now within c.index.ensures in
     let counted = length-map sources rest in
@@ -99,7 +99,7 @@ returns-clause-first g c =
     let sources = c.args.sources.now in
     let source = c.in_ok-source.source in
     let some = c.in_ok-source.ensures.some in
-    let first = first_source row direction heads c.args.winners.now.places.items source c.requires.tree some.0 some.1 in
+    let first = first_source row direction heads c.args.tournament.now.places.items source c.requires.tree some.0 some.1 in
     let within = first.0 in
     let front = front_at heads source c.index.result.now c.index.result.now within c.index.ensures in
     let counted = length-map sources rest in
@@ -115,7 +115,7 @@ returns-clause-given g c = λ start from.
     let heads = c.args.heads.now.items in
     let source = c.in_ok-source.source in
     let some = c.in_ok-source.ensures.some in
-    let first = first_source g.T.Ranked.row_of c.args.direction heads c.args.winners.now.places.items source c.requires.tree some.0 some.1 in
+    let first = first_source g.T.Ranked.row_of c.args.direction heads c.args.tournament.now.places.items source c.requires.tree some.0 some.1 in
     let front = front_at heads source c.index.result.now c.index.result.now first.0 c.index.ensures in
     one_given g.S.RowSource.gives start heads c.args.sources.now source c.in_ok-item.item from first.0 (front ∙ c.in_ok-item.was)
 
@@ -125,7 +125,7 @@ returns-clause-from g c = λ start from.
     let sources = c.args.sources.now in
     let source = c.in_ok-source.source in
     let some = c.in_ok-source.ensures.some in
-    let first = first_source g.T.Ranked.row_of c.args.direction heads c.args.winners.now.places.items source c.requires.tree some.0 some.1 in
+    let first = first_source g.T.Ranked.row_of c.args.direction heads c.args.tournament.now.places.items source c.requires.tree some.0 some.1 in
     let within = first.0 in
     let counted = length-map sources g.S.RowSource.rest in
     let size = c.requires.size in

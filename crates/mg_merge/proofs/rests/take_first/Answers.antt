@@ -12,20 +12,20 @@ returns-in_err-item-clause-end g c =
     let rests = c.args.rests.now.items in
     let list = c.in_ok-list.list in
     let some = c.in_ok-list.ensures.some in
-    let first = first_begins order (by_total g.T.Ranked.row_of c.args.direction) (rests_of rests) c.args.winners.now.places.items list c.requires.winners some.0 some.1 in
+    let first = first_begins order (by_total g.T.Ranked.row_of c.args.direction) (rests_of rests) c.args.tournament.now.places.items list c.requires.tournament some.0 some.1 in
     if_none c.from_residual-in_err-item.result _ (ended order rests list c.index.result.now first.0 c.index.ensures c.in_err-item.ensures.cases first.1)
 
 pub index_mut-requires : goal.index_mut-requires
 index_mut-requires g c =
     let rests = c.args.rests.now.items in
     let some = c.in_ok-list.ensures.some in
-    let first = first_begins (order_by g.T.Ranked.row_of c.args.direction) (by_total g.T.Ranked.row_of c.args.direction) (rests_of rests) c.args.winners.now.places.items c.in_ok-list.list c.requires.winners some.0 some.1 in
+    let first = first_begins (order_by g.T.Ranked.row_of c.args.direction) (by_total g.T.Ranked.row_of c.args.direction) (rests_of rests) c.args.tournament.now.places.items c.in_ok-list.list c.requires.tournament some.0 some.1 in
     let within = first.0 in
     let size = rests_size rests in
     omega (arith, within, size)
 
 pub update-requires-clause-others : goal.update-requires-clause-others
-update-requires-clause-others g c = rest_changed (order_by g.T.Ranked.row_of c.args.direction) c.args.rests.now.items c.args.winners.now.places.items c.in_ok-list.list c.in_ok-item.rest c.requires.winners
+update-requires-clause-others g c = rest_changed (order_by g.T.Ranked.row_of c.args.direction) c.args.rests.now.items c.args.tournament.now.places.items c.in_ok-list.list c.in_ok-item.rest c.requires.tournament
 
 pub returns-clause-order : goal.returns-clause-order
 returns-clause-order g c =
@@ -34,7 +34,7 @@ returns-clause-order g c =
     let rests = c.args.rests.now.items in
     let list = c.in_ok-list.list in
     let some = c.in_ok-list.ensures.some in
-    let first = first_begins order total (rests_of rests) c.args.winners.now.places.items list c.requires.winners some.0 some.1 in
+    let first = first_begins order total (rests_of rests) c.args.tournament.now.places.items list c.requires.tournament some.0 some.1 in
     rest_order order total rests list c.index.result.now c.in_ok-item.item.now c.in_ok-item.rest c.requires.order first.0 c.index.ensures c.in_ok-item.ensures.cases.0
 
 pub returns-clause-first : goal.returns-clause-first
@@ -44,5 +44,5 @@ returns-clause-first g c =
     let rests = c.args.rests.now.items in
     let list = c.in_ok-list.list in
     let some = c.in_ok-list.ensures.some in
-    let first = first_begins order total (rests_of rests) c.args.winners.now.places.items list c.requires.winners some.0 some.1 in
+    let first = first_begins order total (rests_of rests) c.args.tournament.now.places.items list c.requires.tournament some.0 some.1 in
     rest_taken order total rests list c.index.result.now c.in_ok-item.item.now c.in_ok-item.rest c.requires.order first.0 c.index.ensures c.in_ok-item.ensures.cases.0 first.1

@@ -1,6 +1,6 @@
 use Rattle.std.proofs.Common.{take}
 use Rattle.mg_selector.specs.View.{arms_view}
-use Rattle.mg_normal.specs.Stands.{AllSay}
+use Rattle.mg_normal.specs.Says.{AllSay}
 use Rattle.mg_normal.specs.View.{conditions_view}
 use Rattle.mg_normal.proofs.pushed.+push_inwards.Given as goal
 

@@ -1,7 +1,7 @@
 use Rattle.std.proofs.Common.{◌≡◌, [], ◌∷◌, ◌++◌, Some, length, map, option_map, string_bytes, sym, ap, ◌∙◌, append_assoc, arith, rules}
 use Rattle.std.proofs.lemmas.List.{nil_from_length}
 use Rattle.std.specs.Vec.Iter.{into_iter_items}
-use Rattle.mg_normal.specs.Stands.{condition_atoms, conditions_atoms, rest_of, rests_of, all_left}
+use Rattle.mg_normal.specs.Says.{condition_atoms, conditions_atoms, rest_of, rests_of, all_left}
 use Rattle.mg_normal.specs.View.{condition_of, conditions_view, atoms_view}
 use Rattle.mg_normal.proofs.Parted.{conditions_before, conditions_before-all, one_left, all_left-some, truncated}
 use Rattle.mg_normal.proofs.Said.{condition_of-All}

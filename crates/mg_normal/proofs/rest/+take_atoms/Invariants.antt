@@ -1,6 +1,6 @@
 use Rattle.std.proofs.Common.{◌≡◌, ◌++◌, map, string_bytes}
 use Rattle.std.specs.Vec.Iter.{into_iter_items}
-use Rattle.mg_normal.specs.Stands.{conditions_atoms, rests_of}
+use Rattle.mg_normal.specs.Says.{conditions_atoms, rests_of}
 use Rattle.mg_normal.specs.View.{conditions_view, atoms_view}
 use Rattle.mg_normal.proofs.Parted.{conditions_before}
 use Rattle.mg_normal.proofs.rest.+take_atoms.Given as goal

@@ -70,8 +70,8 @@ push_members-loop-name-preserved t c =
     let step : l.name-iterator ≡ e ∷ left = c.in-Some.ensures.steps in
     let now : IsFilling start c.args.table entries l.out.items l.cell c.len-base.result (member_entries (members_view (e ∷ left))) =
     subst (λ es. IsFilling start c.args.table entries l.out.items l.cell c.len-base.result (member_entries (members_view es))) step l.invariant in
-    let spelt : c.push_name.new.out.items ≡ c.set_offset.new.out.items ++ (size (length (string_bytes e.0)) ++ string_bytes e.0) =
-    c.in_ok-push_name.ensures ∙ ap (λ k. c.set_offset.new.out.items ++ (size (length k) ++ k)) c.deref.ensures in
+    let spelt : c.push_counted.new.out.items ≡ c.set_offset.new.out.items ++ (size (length (string_bytes e.0)) ++ string_bytes e.0) =
+    c.in_ok-push_counted.ensures ∙ ap (λ k. c.set_offset.new.out.items ++ (size (length k) ++ k)) c.deref.ensures in
     filling_next start c.args.table entries l.out.items l.cell c.len-base.result entry (member_entries (members_view left)) c.push_value.new.out.items now
     (entry_pushed c.set_offset.new.out.items _ _ (string_bytes e.0) (packed (view e.1)) spelt c.in_ok-push_value.ensures ∙ ap (λ x. x ++ entry) c.in_ok-set_offset.ensures)
 

@@ -5,7 +5,7 @@ use Rattle.mg_value.specs.View.{view, items_of, members_view}
 use Rattle.mg_value.proofs.Views.{members_view-insert_entry}
 use Rattle.mg_packed.specs.Read.{nth_name, nth_value}
 use Rattle.mg_value.specs.Weight.{weight, items_weight, members_weight}
-use Rattle.mg_packed.specs.Weight.{first_members}
+use Rattle.mg_packed.specs.Walk.{first_members}
 use Rattle.mg_packed.proofs.Copies.{item_lighter, value_lighter, items_again, all_members, put_next}
 use Rattle.mg_packed.proofs.copy.+copy_part.Goals as goal
 

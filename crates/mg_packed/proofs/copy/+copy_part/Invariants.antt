@@ -2,7 +2,7 @@ use Rattle.std.proofs.Common.{◌≡◌, take, map}
 use Rattle.mg_value.specs.Value.{item_list}
 use Rattle.mg_value.specs.View.{view, members_view}
 use Rattle.mg_value.specs.Weight.{weight, items_weight, members_weight}
-use Rattle.mg_packed.specs.Weight.{first_members}
+use Rattle.mg_packed.specs.Walk.{first_members}
 use Rattle.mg_packed.proofs.copy.+copy_part.Given as goal
 
 abbrev pub decreases-copy_part : goal.decreases-copy_part

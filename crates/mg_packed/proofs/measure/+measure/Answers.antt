@@ -28,7 +28,7 @@ measure_members-loop-name-preserved t c =
     let size : members_size (members_view l.name-iterator) ≡ (4 + (size_len (length (string_bytes e.0)) + length (string_bytes e.0) + length (packed (view e.1)))) + members_size (members_view left) = ap (λ es. members_size (members_view es)) step in
     let named : length c.deref.result.now ≡ length (string_bytes e.0) = ap length c.deref.ensures in
     let width : size_len (length c.deref.result.now) ≡ size_len (length (string_bytes e.0)) = ap size_len named in (
-      omega (arith, l.invariant.0, size, named, width, c.in_ok-measure.ensures.len, c.in_ok-named_len.ensures, c.in_ok-add.ensures, c.in_ok-len.ensures),
+      omega (arith, l.invariant.0, size, named, width, c.in_ok-measure.ensures.len, c.in_ok-counted_len.ensures, c.in_ok-add.ensures, c.in_ok-len.ensures),
       done ++ e ∷ [],
       all ∙ sym (append_assoc done (e ∷ []) left),
       λ stored. l.invariant.3 (subst (λ es. MembersAreStored (members_view es)) (sym step) (above, IsUtf8-string_bytes e.0, c.in_ok-measure.ensures.stored, stored)),

@@ -5,4 +5,4 @@ use Rattle.mg_packed.proofs.read.entry.Goals as goal
 
 pub returns : goal.returns
 unfolding entry_of
-returns c = tail c.args.bytes.now c.offset_of_entry.result ∙ ap (λ n. drop n c.args.bytes.now) c.offset_of_entry.ensures
+returns c = tail c.args.bytes.now c.entry_start.result ∙ ap (λ n. drop n c.args.bytes.now) c.entry_start.ensures

@@ -1,7 +1,7 @@
 use Rattle.std.proofs.Common.{◌≡◌, ℕ, ◌+◌, ◌≤◌, List, [], ◌∷◌, ◌++◌, length, take, drop, sym, ap, ◌∙◌, arith}
 use Rattle.std.specs.List.{concat}
 use Rattle.mg_value.specs.Value.{text, Members, member_list}
-use Rattle.mg_packed.specs.Gap.{begin_of, entries_in, names_before, names_up_to}
+use Rattle.mg_packed.specs.Gap.{offset_in, entries_in, names_before, names_up_to}
 use Rattle.mg_packed.specs.Packed.{word, offsets, packed, named}
 use Rattle.mg_packed.specs.Read.{members_in}
 use Rattle.mg_packed.proofs.Blocks.{block_len, block_short, IsMade, made_block}
@@ -56,7 +56,7 @@ returns c =
     let long : entry_len ≡ length (named k (packed v)) = omega (arith, c.in_ok-entry_len.ensures, c.in_ok-text_len.ensures, length-named k (packed v)) in
     let begun : c.push_word.new.out.items ≡ 6 ∷ word n = head c.in_ok-out.out.items c.push_tag.new.out.items c.push_word.new.out.items n c.in_ok-out.ensures.items c.in_ok-push_tag.ensures c.in_ok-push_word.ensures in
     let stands = concat (take i entries) ++ (named k (packed v) ++ concat (drop j entries)) in
-    let table = λ (m : ℕ). offsets 0 (take i entries) ++ (word (begin_of entries i) ++ offsets (begin_of entries i + m) (drop j entries)) in
+    let table = λ (m : ℕ). offsets 0 (take i entries) ++ (word (offset_in entries i) ++ offsets (offset_in entries i + m) (drop j entries)) in
     let placed : c.push_offsets.new.out.items ≡ (6 ∷ word n) ++ table (length (named k (packed v))) = c.in_ok-push_offsets.ensures ∙ ap (λ x. x ++ table entry_len) begun ∙ ap (λ m. (6 ∷ word n) ++ table m) long in
     let made : IsMade b c.push_entries.new.out.items k v i j n len = record {
       before = c.gap-gap.ensures.before ∙ ap (names_before k) c.at-members.ensures;

@@ -1,5 +1,5 @@
 use Rattle.std.proofs.Common.{◌≡◌, ◌+◌, ◌≤◌, ◌++◌, length, take, drop, ap, ◌∙◌, arith, append_assoc}
-use Rattle.mg_packed.specs.Gap.{begin_of, entries_in}
+use Rattle.mg_packed.specs.Gap.{offset_in, entries_in}
 use Rattle.mg_packed.specs.Packed.{word, offsets}
 use Rattle.mg_packed.proofs.Blocks.{block_len, block_short, offsets_cut}
 use Rattle.mg_packed.proofs.with_text.push_offsets.Goals as goal
@@ -22,12 +22,12 @@ returns c =
     let within : i ≤ length entries = omega (arith, c.requires.ordered, c.requires.within) in
     let cut = offsets 0 (take i entries) in
     let first : c.extend_from_slice.new.self.items ≡ o ++ cut = c.in_ok-extend_from_slice.ensures.items ∙ ap (λ x. o ++ x) (offsets_cut b i c.requires.block within) in
-    let begins : c.in_ok-as_word.field-0 ≡ begin_of entries i = c.in_ok-as_word.ensures ∙ c.entry_begin-begin.ensures in
-    let second : c.push_word.new.out.items ≡ (o ++ cut) ++ word (begin_of entries i) = c.in_ok-push_word.ensures ∙ ap (λ x. x ++ word c.in_ok-as_word.field-0) first ∙ ap (λ m. (o ++ cut) ++ word m) begins in
-    let on : c.in_ok-as_word-2.field-0 ≡ begin_of entries i + c.args.entry_len = c.in_ok-as_word-2.ensures ∙ ap (λ m. m + c.args.entry_len) c.entry_begin-begin.ensures in
-    let more = offsets (begin_of entries i + c.args.entry_len) (drop c.args.gap.after entries) in
+    let begins : c.in_ok-as_word.field-0 ≡ offset_in entries i = c.in_ok-as_word.ensures ∙ c.entry_offset-begin.ensures in
+    let second : c.push_word.new.out.items ≡ (o ++ cut) ++ word (offset_in entries i) = c.in_ok-push_word.ensures ∙ ap (λ x. x ++ word c.in_ok-as_word.field-0) first ∙ ap (λ m. (o ++ cut) ++ word m) begins in
+    let on : c.in_ok-as_word-2.field-0 ≡ offset_in entries i + c.args.entry_len = c.in_ok-as_word-2.ensures ∙ ap (λ m. m + c.args.entry_len) c.entry_offset-begin.ensures in
+    let more = offsets (offset_in entries i + c.args.entry_len) (drop c.args.gap.after entries) in
     c.in_ok-push_moved.ensures
     ∙ ap (λ x. x ++ offsets c.in_ok-as_word-2.field-0 (drop c.args.gap.after entries)) second
-    ∙ ap (λ m. ((o ++ cut) ++ word (begin_of entries i)) ++ offsets m (drop c.args.gap.after entries)) on
-    ∙ append_assoc (o ++ cut) (word (begin_of entries i)) more
-    ∙ append_assoc o cut (word (begin_of entries i) ++ more)
+    ∙ ap (λ m. ((o ++ cut) ++ word (offset_in entries i)) ++ offsets m (drop c.args.gap.after entries)) on
+    ∙ append_assoc (o ++ cut) (word (offset_in entries i)) more
+    ∙ append_assoc o cut (word (offset_in entries i) ++ more)

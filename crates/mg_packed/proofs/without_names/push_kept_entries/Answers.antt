@@ -12,19 +12,19 @@ pub overflow_add-table_end : goal.overflow_add-table_end
 overflow_add-table_end c = omega (arith, c.requires.counted, block_len _ c.requires.block, block_short _ c.requires.block)
 
 pub overflow_add-before : goal.overflow_add-before
-overflow_add-before c = omega (arith, c.requires.counted, c.entry_begin.ensures, begin_behind (entries_in c.args.bytes.now) c.args.gap.before, block_len _ c.requires.block, block_short _ c.requires.block)
+overflow_add-before c = omega (arith, c.requires.counted, c.entry_offset.ensures, begin_behind (entries_in c.args.bytes.now) c.args.gap.before, block_len _ c.requires.block, block_short _ c.requires.block)
 
 pub overflow_add-after : goal.overflow_add-after
-overflow_add-after c = omega (arith, c.requires.counted, c.entry_begin-2.ensures, begin_behind (entries_in c.args.bytes.now) c.args.gap.after, block_len _ c.requires.block, block_short _ c.requires.block)
+overflow_add-after c = omega (arith, c.requires.counted, c.entry_offset-2.ensures, begin_behind (entries_in c.args.bytes.now) c.args.gap.after, block_len _ c.requires.block, block_short _ c.requires.block)
 
 pub slice_bounds-extend_from_slice-end : goal.slice_bounds-extend_from_slice-end
-slice_bounds-extend_from_slice-end c = omega (arith, c.requires.counted, c.entry_begin.ensures, begin_behind (entries_in c.args.bytes.now) c.args.gap.before, block_len _ c.requires.block)
+slice_bounds-extend_from_slice-end c = omega (arith, c.requires.counted, c.entry_offset.ensures, begin_behind (entries_in c.args.bytes.now) c.args.gap.before, block_len _ c.requires.block)
 
 pub slice_bounds-extend_from_slice-count-2 : goal.slice_bounds-extend_from_slice-count-2
-slice_bounds-extend_from_slice-count-2 c = omega (arith, c.requires.counted, c.entry_begin-2.ensures, begin_behind (entries_in c.args.bytes.now) c.args.gap.after, block_len _ c.requires.block)
+slice_bounds-extend_from_slice-count-2 c = omega (arith, c.requires.counted, c.entry_offset-2.ensures, begin_behind (entries_in c.args.bytes.now) c.args.gap.after, block_len _ c.requires.block)
 
 pub slice_bounds-extend_from_slice-start-2 : goal.slice_bounds-extend_from_slice-start-2
-slice_bounds-extend_from_slice-start-2 c = omega (arith, c.requires.counted, c.entry_begin-2.ensures, begin_behind (entries_in c.args.bytes.now) c.args.gap.after, block_len _ c.requires.block)
+slice_bounds-extend_from_slice-start-2 c = omega (arith, c.requires.counted, c.entry_offset-2.ensures, begin_behind (entries_in c.args.bytes.now) c.args.gap.after, block_len _ c.requires.block)
 
 pub returns : goal.returns
 returns c =
@@ -34,8 +34,8 @@ returns c =
     let before = concat (take c.args.gap.before entries) in
     let behind = concat (drop c.args.gap.after entries) in
     let first : c.extend_from_slice.new.self.items ≡ o ++ before =
-    c.in_ok-extend_from_slice.ensures.items ∙ ap (λ x. o ++ x) (entries_cut b c.args.count c.args.gap.before c.entry_begin.result c.requires.block c.requires.counted c.entry_begin.ensures) in
+    c.in_ok-extend_from_slice.ensures.items ∙ ap (λ x. o ++ x) (entries_cut b c.args.count c.args.gap.before c.entry_offset.result c.requires.block c.requires.counted c.entry_offset.ensures) in
     c.in_ok-extend_from_slice-2.ensures.items
-    ∙ ap (λ x. c.extend_from_slice.new.self.items ++ x) (entries_left b c.args.count c.args.gap.after c.entry_begin-2.result c.requires.block c.requires.counted c.entry_begin-2.ensures)
+    ∙ ap (λ x. c.extend_from_slice.new.self.items ++ x) (entries_left b c.args.count c.args.gap.after c.entry_offset-2.result c.requires.block c.requires.counted c.entry_offset-2.ensures)
     ∙ ap (λ x. x ++ behind) first
     ∙ append_assoc o before behind

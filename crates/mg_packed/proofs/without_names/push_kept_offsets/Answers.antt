@@ -1,5 +1,5 @@
 use Rattle.std.proofs.Common.{◌≡◌, ◌≤◌, ◌++◌, length, take, drop, ap, ◌∙◌, arith, append_assoc}
-use Rattle.mg_packed.specs.Gap.{begin_of, entries_in}
+use Rattle.mg_packed.specs.Gap.{offset_in, entries_in}
 use Rattle.mg_packed.specs.Packed.{offsets}
 use Rattle.mg_packed.proofs.Blocks.{block_len, block_short, offsets_cut}
 use Rattle.mg_packed.proofs.without_names.push_kept_offsets.Goals as goal
@@ -22,8 +22,8 @@ returns c =
     let within : i ≤ length entries = omega (arith, c.requires.ordered, c.requires.within) in
     let cut = offsets 0 (take i entries) in
     let first : c.extend_from_slice.new.self.items ≡ o ++ cut = c.in_ok-extend_from_slice.ensures.items ∙ ap (λ x. o ++ x) (offsets_cut b i c.requires.block within) in
-    let begins : c.in_ok-as_word.field-0 ≡ begin_of entries i = c.in_ok-as_word.ensures ∙ c.entry_begin-begin.ensures in
+    let begins : c.in_ok-as_word.field-0 ≡ offset_in entries i = c.in_ok-as_word.ensures ∙ c.entry_offset-begin.ensures in
     c.in_ok-push_moved.ensures
     ∙ ap (λ x. x ++ offsets c.in_ok-as_word.field-0 (drop c.args.gap.after entries)) first
     ∙ ap (λ m. (o ++ cut) ++ offsets m (drop c.args.gap.after entries)) begins
-    ∙ append_assoc o cut (offsets (begin_of entries i) (drop c.args.gap.after entries))
+    ∙ append_assoc o cut (offsets (offset_in entries i) (drop c.args.gap.after entries))

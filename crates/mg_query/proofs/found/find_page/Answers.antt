@@ -11,9 +11,12 @@ use Rattle.mg_query.proofs.Serving.{choice_served}
 use Rattle.mg_query.proofs.Usable.{choice_usable}
 use Rattle.mg_query.proofs.found.find_page.Goals as goal
 
-pub page_hits-requires-clause-indexes : goal.page_hits-requires-clause-indexes
-page_hits-requires-clause-indexes g c = λ κs within.
-    listed_in_each c.args.catalog.now (source_seen c.in_ok-plan.plan.source) (shards_seen c.args.shards.now) c.in_ok-plan.ensures.listed c.definitions_are_catalogs.ensures c.requires.indexes
+pub page_hits-requires-after_bounds : goal.page_hits-requires-after_bounds
+page_hits-requires-after_bounds g c = λ κs within. record {
+  plan = c.in_ok-plan.ensures.plan;
+  range = c.in_ok-range.ensures;
+  listed = listed_in_each c.args.catalog.now (source_seen c.in_ok-plan.plan.source) (shards_seen c.args.shards.now) c.in_ok-plan.ensures.listed c.definitions_are_catalogs.ensures c.requires.indexes;
+}
 
 pub returns-clause-hits : goal.returns-clause-hits
 returns-clause-hits g c = λ place hs stands whole.

@@ -1,4 +1,4 @@
-use Rattle.mg_rows.specs.Only.{one_value, one_row, one_row_of_parts}
+use Rattle.mg_rows.specs.StandsFor.{one_value, one_row, one_row_of_parts}
 use Rattle.mg_rows.proofs.laws.bytes_give_the_row.Goals as goal
 
 pub returns-clause-values : goal.returns-clause-values

@@ -11,11 +11,11 @@ invariant_of-source c =
     let s = c.args.search in
     let shard = c.args.shard.now in
     let at = target_columns s.target shard.definitions in
-    let all = c.left_of.result in
-    let left = c.left_after-left.result.0 in
-    let n = c.left_after-left.result.1 in
+    let all = c.unread_of.result in
+    let left = c.unread_after-unread.result.0 in
+    let n = c.unread_after-unread.result.1 in
     record {
-      ordered = left_ends_after s n all left c.left_after-left.ensures.after (begun_ends at s shard all c.left_of.ensures);
+      ordered = left_ends_after s n all left c.unread_after-unread.ensures.after (begun_ends at s shard all c.unread_of.ensures);
       sure = before_none s (index_rows left) c.unknown.result.sure c.unknown.ensures;
     }
 
@@ -24,10 +24,10 @@ returns-clause-source c =
     let s = c.args.search in
     let shard = c.args.shard.now in
     let at = target_columns s.target shard.definitions in
-    let all = c.left_of.result in
-    let left = c.left_after-left.result.0 in
-    let n = c.left_after-left.result.1 in
+    let all = c.unread_of.result in
+    let left = c.unread_after-unread.result.0 in
+    let n = c.unread_after-unread.result.1 in
     record {
-      rows = rows_left_after at s shard n all left c.left_of.ensures c.left_after-left.ensures.after ∙ ap (drop n) (begun_leads at s shard all c.left_of.ensures);
-      leads = led_left_after at s shard n all left c.left_of.ensures c.left_after-left.ensures.after;
+      rows = rows_left_after at s shard n all left c.unread_of.ensures c.unread_after-unread.ensures.after ∙ ap (drop n) (begun_leads at s shard all c.unread_of.ensures);
+      leads = led_left_after at s shard n all left c.unread_of.ensures c.unread_after-unread.ensures.after;
     }

@@ -10,8 +10,8 @@ invariant_of-result c =
     let shard = c.args.shard.now in
     let at = target_columns s.target shard.definitions in
     record {
-      ordered = begun_ends at s shard c.left_of.result c.left_of.ensures;
-      sure = before_none s (index_rows c.left_of.result) c.unknown.result.sure c.unknown.ensures;
+      ordered = begun_ends at s shard c.unread_of.result c.unread_of.ensures;
+      sure = before_none s (index_rows c.unread_of.result) c.unknown.result.sure c.unknown.ensures;
     }
 
 pub returns : goal.returns
@@ -19,4 +19,4 @@ returns c =
     let s = c.args.search in
     let shard = c.args.shard.now in
     let at = target_columns s.target shard.definitions in
-    record { rows = begun_leads at s shard c.left_of.result c.left_of.ensures; leads = begun_led at s shard c.left_of.result c.left_of.ensures }
+    record { rows = begun_leads at s shard c.unread_of.result c.unread_of.ensures; leads = begun_led at s shard c.unread_of.result c.unread_of.ensures }

@@ -21,7 +21,7 @@ returns-clause-rows c =
     let shards = shards_seen c.args.shards.now in
     let leads = subst (AreLeadsIn shards) (sym c.deref.ensures.value)
     (leads_given _ shards c.in_ok-sources.sources.items c.in_ok-sources.ensures c.in_ok-leads.leads.items
-    (subst (λ (sources : List LeadSource). All (IsGivenBy (λ (x : LeadSource). IsLeadUnread x.shard.now x.left) sources) c.in_ok-leads.leads.items) c.deref_mut.ensures.value c.in_ok-leads.ensures.given)) in
+    (subst (λ (sources : List LeadSource). All (IsGivenBy (λ (x : LeadSource). IsLeadUnread x.shard.now x.unread) sources) c.in_ok-leads.leads.items) c.deref_mut.ensures.value c.in_ok-leads.ensures.given)) in
     c.in_ok-hits.ensures.rows shards leads
     ∙ sym (drop-map lead_row c.args.skip c.deref.result.now)
     ∙ ap (λ (xs : List Lead). drop c.args.skip (map lead_row xs)) c.deref.ensures.value
@@ -34,7 +34,7 @@ returns-clause-hits c =
     let shards = shards_seen c.args.shards.now in
     c.in_ok-hits.ensures.hits shards (subst (AreLeadsIn shards) (sym c.deref.ensures.value)
     (leads_given _ shards c.in_ok-sources.sources.items c.in_ok-sources.ensures c.in_ok-leads.leads.items
-    (subst (λ (sources : List LeadSource). All (IsGivenBy (λ (x : LeadSource). IsLeadUnread x.shard.now x.left) sources) c.in_ok-leads.leads.items) c.deref_mut.ensures.value c.in_ok-leads.ensures.given)))
+    (subst (λ (sources : List LeadSource). All (IsGivenBy (λ (x : LeadSource). IsLeadUnread x.shard.now x.unread) sources) c.in_ok-leads.leads.items) c.deref_mut.ensures.value c.in_ok-leads.ensures.given)))
 
 pub returns-clause-pulled : goal.returns-clause-pulled
 returns-clause-pulled c =

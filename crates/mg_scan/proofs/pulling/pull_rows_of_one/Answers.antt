@@ -32,7 +32,7 @@ returns-clause-rows c =
     let sources : c.deref_mut.result.now ≡ source ∷ [] = c.deref_mut.ensures.value ∙ c.in_ok-push.ensures.items ∙ ap (λ (xs : List LeadSource). xs ++ c.lead_source_after-source.result.0 ∷ []) c.in_ok-sources.ensures.items in
     let seen = one_seen c.args.shards.now c.index-shards-0.result shard c.requires.one c.index-shards-0.is c.deref-shard.ensures in
     let leads = c.in_ok-leads.leads.items in
-    let given = subst (λ (xs : List LeadSource). All (IsGivenBy (λ (x : LeadSource). IsLeadUnread x.shard.now x.left) xs) leads) sources c.in_ok-leads.ensures.given in
+    let given = subst (λ (xs : List LeadSource). All (IsGivenBy (λ (x : LeadSource). IsLeadUnread x.shard.now x.unread) xs) leads) sources c.in_ok-leads.ensures.given in
     let decided = subst (All (IsDecidedIn s.target s.normal.now s.range.now)) seen c.requires.decided in
     c.in_ok-hits.ensures.rows (shard ∷ []) (subst (AreLeadsIn (shard ∷ [])) (sym c.deref.ensures.value) (one_given s n shard source src leads given))
     ∙ sym (drop-map lead_row (skip - n) c.deref.result.now)
@@ -50,7 +50,7 @@ returns-clause-hits c =
     let sources : c.deref_mut.result.now ≡ source ∷ [] = c.deref_mut.ensures.value ∙ c.in_ok-push.ensures.items ∙ ap (λ (xs : List LeadSource). xs ++ c.lead_source_after-source.result.0 ∷ []) c.in_ok-sources.ensures.items in
     let seen = one_seen c.args.shards.now c.index-shards-0.result shard c.requires.one c.index-shards-0.is c.deref-shard.ensures in
     let leads = c.in_ok-leads.leads.items in
-    let given = subst (λ (xs : List LeadSource). All (IsGivenBy (λ (x : LeadSource). IsLeadUnread x.shard.now x.left) xs) leads) sources c.in_ok-leads.ensures.given in
+    let given = subst (λ (xs : List LeadSource). All (IsGivenBy (λ (x : LeadSource). IsLeadUnread x.shard.now x.unread) xs) leads) sources c.in_ok-leads.ensures.given in
     subst (λ (xs : List ShardView). AreHitsIn xs c.in_ok-hits.hits.items) (sym seen)
     (c.in_ok-hits.ensures.hits (shard ∷ []) (subst (AreLeadsIn (shard ∷ [])) (sym c.deref.ensures.value) (one_given s c.lead_source_after-source.result.1 shard source src leads given)))
 

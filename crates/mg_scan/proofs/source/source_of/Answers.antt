@@ -7,4 +7,4 @@ returns c =
     let s = c.args.search in
     let shard = c.args.shard.now in
     let at = target_columns s.target shard.definitions in
-    record { rows = begun_hits at s shard c.left_of.result c.left_of.ensures; hits = begun_lent at s shard c.left_of.result c.left_of.ensures }
+    record { rows = begun_hits at s shard c.unread_of.result c.unread_of.ensures; hits = begun_lent at s shard c.unread_of.result c.unread_of.ensures }

@@ -3,7 +3,7 @@ use Rattle.std.specs.Result.{result_err}
 use Rattle.mg_path.specs.Part.{steps_of}
 use Rattle.mg_value.specs.View.{view, members_view}
 use Rattle.mg_value.proofs.Views.{Entry}
-use Rattle.mg_selector.specs.Reading.{by_word, of_object, of_arms, of_members, named, argument}
+use Rattle.mg_selector.specs.Reading.{by_kind, of_object, of_arms, of_members, named, argument}
 use Rattle.mg_selector.proofs.Faults.{fault_here, fault_later, fault_at_path, none_unless_some}
 use Rattle.mg_selector.proofs.fault.+faults.Goals as goal
 
@@ -11,7 +11,7 @@ pub member_fault-returns : goal.member_fault-returns
 member_fault-returns t c =
     let v = view c.args.value.now in
     let k = c.args.name.now in
-    c.word_fault.ensures ∙ ap (λ w. result_err (by_word w k v (of_object v) (of_arms v))) c.word_of.ensures
+    c.fault_by_kind.ensures ∙ ap (λ w. result_err (by_kind w k v (of_object v) (of_arms v))) c.kind_of_name.ensures
 
 pub members_fault-returns-then-is_some : goal.members_fault-returns-then-is_some
 members_fault-returns-then-is_some t c =

@@ -3,7 +3,7 @@ use Rattle.std.proofs.lemmas.List.{drop_more, drop_all}
 use Rattle.mg_value.specs.View.{view, items_view, members_view}
 use Rattle.mg_value.proofs.Views.{Entry, view-Object}
 use Rattle.mg_selector.specs.Fault.{fmap}
-use Rattle.mg_selector.specs.Reading.{ReadsAs, by_word, of_object, of_arms, of_items, of_members, named, argument}
+use Rattle.mg_selector.specs.Reading.{ReadsAs, by_kind, of_object, of_arms, of_items, of_members, named, argument}
 use Rattle.mg_selector.specs.View.{selector_of}
 use Rattle.mg_selector.proofs.Arms.{arms_before, one_more, all_before, argument-object}
 use Rattle.mg_selector.proofs.reader.+reading.Goals as goal
@@ -56,4 +56,4 @@ pub read_member-returns : goal.read_member-returns
 read_member-returns t c =
     let v = view c.args.value.now in
     let k = c.args.name.now in
-    subst (ReadsAs selector_of c.read_by_word.result) (ap (λ w. by_word w k v (of_object v) (of_arms v)) c.word_of.ensures) c.read_by_word.ensures
+    subst (ReadsAs selector_of c.read_by_kind.result) (ap (λ w. by_kind w k v (of_object v) (of_arms v)) c.kind_of_name.ensures) c.read_by_kind.ensures

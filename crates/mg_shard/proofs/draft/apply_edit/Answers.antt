@@ -12,5 +12,5 @@ returns-in_ok-reply_of-in-Err c = λ h st.
 pub returns-in-Ok-Known : goal.returns-in-Ok-Known
 returns-in-Ok-Known c = λ h st. let known = rw c.in-Ok-Known.field-0-is at (c.in-Ok-Known.ensures.foreseen h st) in (sym known.1, known.2)
 
-pub bring_edit-requires : goal.bring_edit-requires
-bring_edit-requires c = λ h st. rw c.in-Ok-Ready.field-0-is at (c.in-Ok-Ready.ensures.foreseen h st)
+pub apply_ready-requires : goal.apply_ready-requires
+apply_ready-requires c = λ h st. rw c.in-Ok-Ready.field-0-is at (c.in-Ok-Ready.ensures.foreseen h st)

@@ -3,11 +3,11 @@ use Rattle.std.specs.FinMap.{insert}
 use Rattle.std.specs.List.{AllByRecursion}
 use Rattle.mg_pages.specs.Identified.{id_order}
 use Rattle.mg_pages.specs.Order.{inserted}
-use Rattle.mg_shard.specs.Documents.{KeptDocuments, id_bytes, kept_of, shown}
+use Rattle.mg_shard.specs.Documents.{KeptDocuments, id_bytes, kept_of, kept_documents}
 use Rattle.mg_shard.specs.Draft.{touched_of}
 use Rattle.mg_shard.specs.Index.{HasRows, Index, definitions_of}
 use Rattle.mg_shard.proofs.Keys.{written}
-use Rattle.mg_shard.proofs.Shown.{shown-inserted}
+use Rattle.mg_shard.proofs.Shown.{kept_documents-inserted}
 use Rattle.mg_shard.proofs.Touched.{all_kept, get-touched, get-updated, none_left, touched_none, tree_kept}
 use Rattle.mg_shard.proofs.draft.keep_all.Goals as goal
 
@@ -17,25 +17,25 @@ loop-id-preserved c =
     let id = string_bytes c.in-Some.id in
     let tree = c.in-Some.tree in
     let d = c.in_ok-document.document in
-    let inserted_in : shown c.insert.new.self ≡ insert (shown l.documents) (id_bytes d) (kept_of d) =
-    ap shown c.in_ok-insert.ensures.ok ∙ ap (λ x. shown (inserted (id_order id_bytes) x l.documents)) c.in_ok-new.ensures ∙ shown-inserted d l.documents in
+    let inserted_in : kept_documents c.insert.new.self ≡ insert (kept_documents l.documents) (id_bytes d) (kept_of d) =
+    ap kept_documents c.in_ok-insert.ensures.ok ∙ ap (λ x. kept_documents (inserted (id_order id_bytes) x l.documents)) c.in_ok-new.ensures ∙ kept_documents-inserted d l.documents in
     let made = c.mend_all.new.indexes in
     let number : length made ≡ length l.indexes.items = let a = c.mend_all.auto.indexes in let b = ap length c.deref_mut.ensures.value in omega (arith, a, b) in
     let same : take l.indexes.len (made ++ drop (length made) l.indexes.items) ≡ made = written l.indexes.len made l.indexes.items number l.indexes.ok.0 in
     record {
       stands = λ hs st.
-          tree_kept (shown l.documents) (shown c.insert.new.self) (touched_of l.touched.entries) (touched_of c.pop_first.new.self.entries) hs id tree (kept_of d)
+          tree_kept (kept_documents l.documents) (kept_documents c.insert.new.self) (touched_of l.touched.entries) (touched_of c.pop_first.new.self.entries) hs id tree (kept_of d)
           (sym (get-touched l.touched id) ∙ c.in-Some.ensures.value) c.in_ok-document.ensures.tree c.in_ok-document.ensures.served
-          (inserted_in ∙ ap (λ k. insert (shown l.documents) k (kept_of d)) c.in_ok-document.ensures.id)
+          (inserted_in ∙ ap (λ k. insert (kept_documents l.documents) k (kept_of d)) c.in_ok-document.ensures.id)
           (get-updated l.touched c.pop_first.new.self id None c.in-Some.ensures.updates) (l.invariant.stands hs st);
       definitions = ap (λ (xs : List Index). definitions_of xs) same ∙ c.in_ok-mend_all.ensures.definitions ∙ ap (λ (xs : List Index). definitions_of xs) c.deref_mut.ensures.value ∙ l.invariant.definitions;
-      rows = λ h. subst (λ (xs : List Index). AllByRecursion (HasRows (shown c.insert.new.self)) xs) (sym same)
+      rows = λ h. subst (λ (xs : List Index). AllByRecursion (HasRows (kept_documents c.insert.new.self)) xs) (sym same)
           (subst (λ (ds : KeptDocuments). AllByRecursion (HasRows ds) made) (sym inserted_in)
-          (c.in_ok-mend_all.ensures.rows (subst (λ (xs : List Index). AllByRecursion (HasRows (shown l.documents)) xs) (sym c.deref_mut.ensures.value) (l.invariant.rows h))));
+          (c.in_ok-mend_all.ensures.rows (subst (λ (xs : List Index). AllByRecursion (HasRows (kept_documents l.documents)) xs) (sym c.deref_mut.ensures.value) (l.invariant.rows h))));
     }
 
 pub returns-clause-stands : goal.returns-clause-stands
 returns-clause-stands c = λ hs st.
     let l = c.loop-id in
     let none : length l.touched.entries ≡ 0 = none_left (length l.touched.entries) c.in_default.ensures.variant.1 in
-    all_kept (shown l.documents) (touched_of l.touched.entries) hs (touched_none l.touched.entries none) (l.invariant.stands hs st)
+    all_kept (kept_documents l.documents) (touched_of l.touched.entries) hs (touched_none l.touched.entries none) (l.invariant.stands hs st)

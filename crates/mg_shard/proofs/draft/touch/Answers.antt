@@ -6,8 +6,8 @@ use Rattle.mg_shard.specs.Edits.{id_in, outcome_seen}
 use Rattle.mg_shard.proofs.Touched.{not_touched, now_touched, touched-put}
 use Rattle.mg_shard.proofs.draft.touch.Goals as goal
 
-pub bring_edit-requires : goal.bring_edit-requires
-bring_edit-requires c = λ h st. c.requires h (subst (λ (t : Tree). StandsFor t h) c.in_ok-tree.ensures st)
+pub apply_ready-requires : goal.apply_ready-requires
+apply_ready-requires c = λ h st. c.requires h (subst (λ (t : Tree). StandsFor t h) c.in_ok-tree.ensures st)
 
 pub returns-then-not-is_done-clause-outcome : goal.returns-then-not-is_done-clause-outcome
 returns-then-not-is_done-clause-outcome c = λ h st. (c.in_ok-reply.ensures h (subst (λ (t : Tree). StandsFor t h) (sym c.in_ok-tree.ensures) st)).0

@@ -1,7 +1,7 @@
 use Rattle.std.proofs.Common.{◌≡◌}
 use Rattle.std.specs.FinMap.{insert}
 use Rattle.std.specs.List.{AllByRecursion}
-use Rattle.mg_shard.specs.Documents.{id_bytes, kept_of, shown}
+use Rattle.mg_shard.specs.Documents.{id_bytes, kept_of, kept_documents}
 use Rattle.mg_shard.specs.Index.{HasRows, definitions_of}
 use Rattle.mg_shard.proofs.Catalogued.{MendedBelow}
 use Rattle.mg_shard.proofs.indexes.mend_all.Given as goal
@@ -10,6 +10,6 @@ use Rattle.mg_shard.proofs.indexes.mend_all.Given as goal
 abbrev pub invariant-loop-i : goal.invariant-loop-i
 invariant-loop-i l = record {
   definitions : definitions_of l.indexes ≡ definitions_of l.fn.indexes;
-  mended : AllByRecursion (HasRows (shown l.documents)) l.fn.indexes
-      → MendedBelow (shown l.documents) (insert (shown l.documents) (id_bytes l.document) (kept_of l.document)) l.i l.indexes;
+  mended : AllByRecursion (HasRows (kept_documents l.documents)) l.fn.indexes
+      → MendedBelow (kept_documents l.documents) (insert (kept_documents l.documents) (id_bytes l.document) (kept_of l.document)) l.i l.indexes;
 }

@@ -4,7 +4,7 @@ use Rattle.std.specs.FinMap.{get}
 use Rattle.std.specs.Option.{option_or}
 use Rattle.mg_pages.specs.Identified.{id_order}
 use Rattle.mg_pages.specs.Order.{Ascends}
-use Rattle.mg_shard.specs.Documents.{id_bytes, shown}
+use Rattle.mg_shard.specs.Documents.{id_bytes, kept_documents}
 use Rattle.mg_shard.specs.Redealt.{documents_seen, last_kept}
 use Rattle.mg_shard.specs.declared.document.Document.{Document}
 use Rattle.mg_shard.proofs.Redealing.{left_less, none_left}
@@ -13,7 +13,7 @@ use Rattle.mg_shard.proofs.placed.add_documents.Goals as goal
 pub loop-document-init : goal.loop-document-init
 loop-document-init c = record {
   ascends = subst (λ (ds : List Document). Ascends (id_order id_bytes) ds) (sym (c.into_iter-document-iterator.ensures.into_iter_gives ∙ c.iter-document-items.ensures)) c.ascends.ensures;
-  goes_on = λ id. ap (λ (ds : List Document). option_or (get (shown ds) id) (last_kept (documents_seen c.args.all.now.items) id))
+  goes_on = λ id. ap (λ (ds : List Document). option_or (get (kept_documents ds) id) (last_kept (documents_seen c.args.all.now.items) id))
       (c.into_iter-document-iterator.ensures.into_iter_gives ∙ c.iter-document-items.ensures)
       ∙ ap (λ v. option_or (get v.documents id) (last_kept (documents_seen c.args.all.now.items) id)) c.shard.view_is;
 }
@@ -28,9 +28,9 @@ loop-document-preserved c =
     record {
       ascends = ascends.1;
       goes_on = λ id.
-          ap (λ (ds : List Document). option_or (get (shown rest) id) (last_kept ds id)) (ap documents_seen c.in_ok-push.ensures.items ∙ map-append _ l.all.items (c.in-Some.document ∷ []))
+          ap (λ (ds : List Document). option_or (get (kept_documents rest) id) (last_kept ds id)) (ap documents_seen c.in_ok-push.ensures.items ∙ map-append _ l.all.items (c.in-Some.document ∷ []))
           ∙ left_less d rest (documents_seen l.all.items) id ascends
-          ∙ ap (λ (ds : List Document). option_or (get (shown ds) id) (last_kept (documents_seen l.all.items) id)) (sym first)
+          ∙ ap (λ (ds : List Document). option_or (get (kept_documents ds) id) (last_kept (documents_seen l.all.items) id)) (sym first)
           ∙ l.invariant.goes_on id;
     }
 

@@ -1,5 +1,5 @@
 use Rattle.std.proofs.Common.{◌<◌, ◌≤◌, ℕ, get_or, length, arith, sym, subst}
-use Rattle.mg_shard.specs.Documents.{shown}
+use Rattle.mg_shard.specs.Documents.{kept_documents}
 use Rattle.mg_shard.specs.Redealt.{documents_seen}
 use Rattle.mg_shard.specs.declared.document.Document.{Document}
 use Rattle.mg_shard.proofs.Redealing.{all_read, none_kept, one_read}
@@ -29,4 +29,4 @@ returns c =
     let documents = c.args.documents.now in
     let over : length documents ≤ l.k = omega arith in
     let past : length (documents_seen documents) ≤ l.k = subst (λ n. n ≤ l.k) (sym (seen_length documents)) over in
-    all_read (documents_seen documents) c.args.places.now c.args.place l.k (shown l.there) past l.invariant
+    all_read (documents_seen documents) c.args.places.now c.args.place l.k (kept_documents l.there) past l.invariant

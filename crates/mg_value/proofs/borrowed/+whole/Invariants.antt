@@ -3,12 +3,12 @@ use Rattle.json.specs.Value.{items_view as tree_items, members_view as tree_memb
 use Rattle.serde_json.specs.Data as parsed
 use Rattle.serde_json.specs.Read.{of_members}
 use Rattle.mg_value.specs.Text.{whole_members}
-use Rattle.mg_value.specs.Borrowed.{AreWholeItems}
+use Rattle.mg_value.specs.Borrowed.{AreItemTreesOf}
 use Rattle.mg_value.specs.View.{items_view, members_view}
 use Rattle.mg_value.proofs.borrowed.+whole.Given as goal
 
 abbrev pub invariant-whole_items-loop-item : goal.invariant-whole_items-loop-item
-invariant-whole_items-loop-item l = AreWholeItems (tree_items (take l.item-index l.items)) (items_view l.values.items)
+invariant-whole_items-loop-item l = AreItemTreesOf (tree_items (take l.item-index l.items)) (items_view l.values.items)
 
 -- reading all members is reading those that are left, with the data of what was read
 abbrev pub invariant-whole_members-loop-member : goal.invariant-whole_members-loop-member

@@ -30,8 +30,8 @@ returns-in_err-edit-clause-applied c = λ h stands.
     let Q : Option Revision → Type 0 = λ o. Foreseen h c.args.self.now (Ok (look_of c.args.self.now o)) c.args.tree.now in
     subst P (sym is) (subst Q c.in_default.is (c.in_ok-rev.ensures h stands)).0
 
-pub bring-requires : goal.bring-requires
-bring-requires c = λ h stands.
+pub apply-requires : goal.apply-requires
+apply-requires c = λ h stands.
     let Q : Option Revision → Type 0 = λ o. Foreseen h c.args.self.now (Ok (look_of c.args.self.now o)) c.args.tree.now in
     let R : Edit → Type 0 = IsReady h in
     subst R (sym c.in_ok-edit.ensures) (subst Q c.in_default.is (c.in_ok-rev.ensures h stands))

@@ -2,7 +2,7 @@ use Rattle.std.proofs.Common.{◌≡◌, List, drop, length, sym, ap, ◌∙◌,
 use Rattle.mg_shard.specs.Dealt.{DraftsStandFor}
 use Rattle.mg_shard.specs.Draft.{DraftView}
 use Rattle.mg_engine.specs.Stands.{definitions_of}
-use Rattle.mg_engine.specs.StateView.{AllLeave, before}
+use Rattle.mg_engine.specs.StateView.{AllFinishAs, before}
 use Rattle.mg_shard.specs.Shard.{shards_seen}
 use Rattle.mg_engine.proofs.Editing.{before-fresh, fresh_stand, left_definitions, left_stand, same_number, written}
 use Rattle.mg_engine.proofs.bulk.apply.apply_edits.Goals as goal
@@ -32,7 +32,7 @@ returns-clause-stands g c = λ hs st.
     let long : c.in_ok-drafts.drafts.len ≡ length new = c.in_ok-drafts.drafts.ok.0 ∙ ap length (sym c.deref_mut.ensures.value) ∙ sym (same_number new c.deref_mut.result.now c.in_ok-replies.ensures.before) in
     let left = c.in_ok-finish_drafts.field-0.items in
     left_stand place new (shards_seen left) _ c.drafts_become_shards.ensures
-    (subst (λ (ds : List DraftView). AllLeave ds (shards_seen left)) (written new (drop (length new) old) c.in_ok-drafts.drafts.len long) c.in_ok-finish_drafts.ensures)
+    (subst (λ (ds : List DraftView). AllFinishAs ds (shards_seen left)) (written new (drop (length new) old) c.in_ok-drafts.drafts.len long) c.in_ok-finish_drafts.ensures)
     (c.in_ok-replies.ensures.stands hs drafts)
 
 pub returns-clause-definitions : goal.returns-clause-definitions
@@ -41,5 +41,5 @@ returns-clause-definitions g c =
     let old = c.in_ok-drafts.drafts.items in
     let long : c.in_ok-drafts.drafts.len ≡ length new = c.in_ok-drafts.drafts.ok.0 ∙ ap length (sym c.deref_mut.ensures.value) ∙ sym (same_number new c.deref_mut.result.now c.in_ok-replies.ensures.before) in
     let left = c.in_ok-finish_drafts.field-0.items in
-    left_definitions new (shards_seen left) (subst (λ (ds : List DraftView). AllLeave ds (shards_seen left)) (written new (drop (length new) old) c.in_ok-drafts.drafts.len long) c.in_ok-finish_drafts.ensures)
+    left_definitions new (shards_seen left) (subst (λ (ds : List DraftView). AllFinishAs ds (shards_seen left)) (written new (drop (length new) old) c.in_ok-drafts.drafts.len long) c.in_ok-finish_drafts.ensures)
     ∙ ap definitions_of (c.in_ok-replies.ensures.before ∙ ap before (c.deref_mut.ensures.value ∙ c.in_ok-drafts.ensures) ∙ before-fresh (shards_seen c.args.shards.now))

@@ -18,7 +18,7 @@ returns-in-Ok c = λ h at.
       h,
       at.reads,
       record {
-        asks = sym (head_asks c.args.bytes.now c.args.spans.now c.args.head h at c.args.db.now) ∙ framing.0;
+        framing = sym (head_asks c.args.bytes.now c.args.spans.now c.args.head h at c.args.db.now) ∙ framing.0;
         omits_body = omits_body ∙ head_omits c.args.bytes.now c.args.spans.now c.args.head h at;
         closes = closes ∙ head_closes c.args.bytes.now c.args.spans.now c.args.head h at;
       },

@@ -7,5 +7,5 @@ use Rattle.mg_machine.proofs.point.Point.read.Goals as goal
 pub returns : goal.returns
 returns g c =
     IfOk-weaker c.into_result.result _ _
-    (λ r complete w at. said_is (said r) (reply_of w (asked c.args.command.now)) complete.1 (rw complete.0 (c.answer.ensures w (rw c.deref.ensures at))))
+    (λ r complete w at. said_is (said r) (reply_of w (asked c.args.command.now)) complete.1 (rw complete.0 (c.answer_by.ensures w (rw c.deref.ensures at))))
     c.into_result.ensures

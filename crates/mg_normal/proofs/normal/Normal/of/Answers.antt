@@ -1,6 +1,6 @@
 use Rattle.std.proofs.Common.{◌≡◌, [], ◌∙◌, rules}
 use Rattle.mg_selector.specs.View.{selector_of}
-use Rattle.mg_normal.specs.Stands.{condition_atoms}
+use Rattle.mg_normal.specs.Says.{condition_atoms}
 use Rattle.mg_normal.specs.View.{condition_of, atoms_view}
 use Rattle.mg_normal.proofs.Parted.{normal_meaning}
 use Rattle.mg_normal.proofs.normal.Normal.of.Goals as goal

@@ -1,6 +1,6 @@
 use Rattle.std.proofs.Common.{◌≡◌, ◌+◌, ◌<◌, suc, length, sym, ap, ap₂, ◌∙◌, arith}
 use Rattle.mg_value.specs.Value.{member, member_list}
-use Rattle.mg_packed.specs.Weight.{members_past}
+use Rattle.mg_packed.specs.Walk.{members_past}
 use Rattle.mg_packed.proofs.Walks.{member_next, members_done}
 use Rattle.mg_packed.proofs.lent.PartLentValue.next.Goals as goal
 

@@ -1,5 +1,5 @@
 use Rattle.mg_value.specs.Value.{no_items}
-use Rattle.mg_rows.specs.Only.{the_key}
+use Rattle.mg_rows.specs.StandsFor.{the_key}
 use Rattle.mg_rows.specs.Stored.{IsKey}
 use Rattle.mg_rows.proofs.key.KeyBytes.new.Goals as goal
 

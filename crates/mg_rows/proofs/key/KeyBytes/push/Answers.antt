@@ -1,6 +1,6 @@
 use Rattle.std.proofs.Common.{subst}
 use Rattle.mg_value.specs.Value.{no_items}
-use Rattle.mg_rows.specs.Only.{the_key}
+use Rattle.mg_rows.specs.StandsFor.{the_key}
 use Rattle.mg_rows.specs.Stored.{IsKey}
 use Rattle.mg_rows.proofs.Joined.{made_key, on_err_when}
 use Rattle.mg_rows.proofs.key.KeyBytes.push.Goals as goal

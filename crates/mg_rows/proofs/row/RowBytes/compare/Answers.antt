@@ -1,5 +1,5 @@
 use Rattle.std.proofs.Common.{◌∙◌}
-use Rattle.mg_rows.specs.Ranked.{row_cmp}
+use Rattle.mg_rows.specs.ByteOrder.{row_cmp}
 use Rattle.mg_rows.proofs.Joined.{rows_bytes}
 use Rattle.mg_rows.proofs.row.RowBytes.compare.Goals as goal
 

@@ -1,5 +1,5 @@
 use Rattle.std.proofs.Common.{subst, sym}
-use Rattle.mg_rows.specs.Only.{the_row}
+use Rattle.mg_rows.specs.StandsFor.{the_row}
 use Rattle.mg_rows.specs.Stored.{IsRow}
 use Rattle.mg_rows.proofs.row.RowBytes.copy_inline.Goals as goal
 

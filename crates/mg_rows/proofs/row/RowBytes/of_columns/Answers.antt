@@ -1,5 +1,5 @@
 use Rattle.std.proofs.Common.{rules}
-use Rattle.mg_rows.specs.Only.{the_row}
+use Rattle.mg_rows.specs.StandsFor.{the_row}
 use Rattle.mg_rows.proofs.Joined.{made_row}
 use Rattle.mg_rows.proofs.row.RowBytes.of_columns.Goals as goal
 

@@ -1,6 +1,6 @@
 use Rattle.std.proofs.Common.{◌≡◌, ◌++◌, rules}
 use Rattle.mg_rows.specs.RowBound.{edge_bytes}
-use Rattle.mg_rows.specs.Only.{the_bound}
+use Rattle.mg_rows.specs.StandsFor.{the_bound}
 use Rattle.mg_rows.proofs.Joined.{made_bound}
 use Rattle.mg_rows.proofs.row_bound.RowBound.of_bytes.Goals as goal
 

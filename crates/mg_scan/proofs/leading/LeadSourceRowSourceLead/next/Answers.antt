@@ -1,7 +1,7 @@
 use Rattle.std.proofs.Common.{IfSome, sym, subst}
 use Rattle.mg_scan.specs.RangeEnd.{AreBeforeEnd, EndsOnce, index_rows}
 use Rattle.mg_scan.specs.Lead.{IsLeadUnread, IsLeadOf}
-use Rattle.mg_scan.specs.declared.left.Unread.{Unread}
+use Rattle.mg_scan.specs.declared.unread.Unread.{Unread}
 use Rattle.mg_scan.proofs.Leads.{lead_where}
 use Rattle.mg_scan.proofs.leading.LeadSourceRowSourceLead.next.Goals as goal
 

@@ -13,11 +13,11 @@ returns-in_default c = before_none c.args.search c.args.rows.now c.args.self.now
 pub returns-then-place-lt-FEW : goal.returns-then-place-lt-FEW
 returns-then-place-lt-FEW c = before_none c.args.search c.args.rows.now c.args.self.now.sure c.requires.none
 
-pub returns-then-is_past_row : goal.returns-then-is_past_row
-returns-then-is_past_row c = before_none c.args.search c.args.rows.now c.args.self.now.sure c.requires.none
+pub returns-then-is_late_row : goal.returns-then-is_late_row
+returns-then-is_late_row c = before_none c.args.search c.args.rows.now c.args.self.now.sure c.requires.none
 
 pub returns : goal.returns
 returns c =
     let s = c.args.search in
     before_all s c.args.rows.now c.in-Some.place c.requires.ordered
-    (ap (λ o. option_map_or (is_late_row s.direction s.range.now) o true) c.in-Some.ensures ∙ sym c.is_past_row.ensures ∙ c.if-is_past_row.false)
+    (ap (λ o. option_map_or (is_late_row s.direction s.range.now) o true) c.in-Some.ensures ∙ sym c.is_late_row.ensures ∙ c.if-is_late_row.false)

@@ -1,7 +1,7 @@
 use Rattle.std.proofs.Common.{IfSome, sym, subst}
 use Rattle.mg_scan.specs.Hit.{IsHitOf}
 use Rattle.mg_scan.specs.Sourced.{IsUnread}
-use Rattle.mg_scan.specs.declared.left.Unread.{Unread}
+use Rattle.mg_scan.specs.declared.unread.Unread.{Unread}
 use Rattle.mg_scan.proofs.Sources.{some_where}
 use Rattle.mg_scan.proofs.source.HitSourceRowSourceHit.next.Goals as goal
 

@@ -3,7 +3,7 @@ use Rattle.std.proofs.lemmas.List.{length-map}
 use Rattle.std.specs.FinMap.{entries}
 use Rattle.mg_shard.specs.Documents.{kept_entry}
 use Rattle.mg_shard.specs.Walk.{beyond}
-use Rattle.mg_shard.proofs.Shown.{entries-shown}
+use Rattle.mg_shard.proofs.Shown.{entries-kept_documents}
 use Rattle.mg_shard.proofs.Walks.{beyond-map}
 use Rattle.mg_shard.proofs.shard.Shard.count_documents_beyond.Goals as goal
 
@@ -12,4 +12,4 @@ returns g c = λ order same.
     let ds = c.self.inside.documents in
     let direction = c.args.direction in
     c.count_beyond.ensures ∙ sym (length-map _ kept_entry) ∙ ap length (beyond-map kept_entry _ order same direction ds)
-    ∙ ap (λ es. length (beyond direction order es)) (sym (entries-shown ds c.ascends.ensures) ∙ ap (λ v. entries v.documents) c.self.view_is)
+    ∙ ap (λ es. length (beyond direction order es)) (sym (entries-kept_documents ds c.ascends.ensures) ∙ ap (λ v. entries v.documents) c.self.view_is)

@@ -1,6 +1,6 @@
 use Rattle.std.proofs.Common.{◌≡◌, ◌∙◌, List, None, Option, Some, ap, length, option_map}
 use Rattle.mg_collate.specs.Row.{RowValue}
-use Rattle.mg_shard.specs.Documents.{shown}
+use Rattle.mg_shard.specs.Documents.{kept_documents}
 use Rattle.mg_shard.specs.Shard.{rows_at}
 use Rattle.mg_shard.specs.Walk.{beyond}
 use Rattle.mg_shard.proofs.Catalogued.{rows_found}
@@ -12,7 +12,7 @@ returns-in-Some g c =
     let name = c.args.name.now in
     let there : Some c.in-Some.rows.now ≡ rows_at ddoc name c.args.self.now =
     c.in-Some.ensures
-    ∙ rows_found (shown c.self.inside.documents) ddoc name c.self.inside.indexes c.self.invariant.rows ∙ ap (rows_at ddoc name) c.self.view_is in
+    ∙ rows_found (kept_documents c.self.inside.documents) ddoc name c.self.inside.indexes c.self.invariant.rows ∙ ap (rows_at ddoc name) c.self.view_is in
     let f = λ (rows : List RowValue). length (beyond c.args.direction (g.Q.Probe.against c.args.place.now) rows) in
     ap Some c.count_beyond.ensures ∙ ap (option_map f) there
 
@@ -22,6 +22,6 @@ returns-in-None g c =
     let name = c.args.name.now in
     let there : ◌≡◌ {A = Option (List RowValue)} None (rows_at ddoc name c.args.self.now) =
     c.in-None.ensures
-    ∙ rows_found (shown c.self.inside.documents) ddoc name c.self.inside.indexes c.self.invariant.rows ∙ ap (rows_at ddoc name) c.self.view_is in
+    ∙ rows_found (kept_documents c.self.inside.documents) ddoc name c.self.inside.indexes c.self.invariant.rows ∙ ap (rows_at ddoc name) c.self.view_is in
     let f = λ (rows : List RowValue). length (beyond c.args.direction (g.Q.Probe.against c.args.place.now) rows) in
     ap (option_map f) there

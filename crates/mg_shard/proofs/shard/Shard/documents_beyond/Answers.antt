@@ -2,7 +2,7 @@ use Rattle.std.proofs.Common.{◌∙◌, ap, map, sym}
 use Rattle.std.specs.FinMap.{entries}
 use Rattle.mg_shard.specs.Documents.{kept_entry}
 use Rattle.mg_shard.specs.Walk.{beyond}
-use Rattle.mg_shard.proofs.Shown.{entries-shown}
+use Rattle.mg_shard.proofs.Shown.{entries-kept_documents}
 use Rattle.mg_shard.proofs.Walks.{beyond-map}
 use Rattle.mg_shard.proofs.shard.Shard.documents_beyond.Goals as goal
 
@@ -11,4 +11,4 @@ returns g c = λ order same.
     let ds = c.self.inside.documents in
     let direction = c.args.direction in
     ap (map kept_entry) c.beyond.ensures ∙ beyond-map kept_entry _ order same direction ds
-    ∙ ap (beyond direction order) (sym (entries-shown ds c.ascends.ensures) ∙ ap (λ v. entries v.documents) c.self.view_is)
+    ∙ ap (beyond direction order) (sym (entries-kept_documents ds c.ascends.ensures) ∙ ap (λ v. entries v.documents) c.self.view_is)

@@ -1,6 +1,6 @@
 use Rattle.std.proofs.Common.{◌≡◌, ◌∙◌, List, None, Option, Some, ap}
 use Rattle.mg_collate.specs.Row.{RowValue}
-use Rattle.mg_shard.specs.Documents.{shown}
+use Rattle.mg_shard.specs.Documents.{kept_documents}
 use Rattle.mg_shard.specs.Shard.{rows_at}
 use Rattle.mg_shard.proofs.Catalogued.{rows_found}
 use Rattle.mg_shard.proofs.shard.Shard.rows.Goals as goal
@@ -11,7 +11,7 @@ returns-in-Some c =
     let name = c.args.name.now in
     let there : Some c.in-Some.rows.now ≡ rows_at ddoc name c.args.self.now =
     c.in-Some.ensures
-    ∙ rows_found (shown c.self.inside.documents) ddoc name c.self.inside.indexes c.self.invariant.rows ∙ ap (rows_at ddoc name) c.self.view_is in
+    ∙ rows_found (kept_documents c.self.inside.documents) ddoc name c.self.inside.indexes c.self.invariant.rows ∙ ap (rows_at ddoc name) c.self.view_is in
     ap Some c.over.ensures ∙ there
 
 pub returns-in-None : goal.returns-in-None
@@ -20,5 +20,5 @@ returns-in-None c =
     let name = c.args.name.now in
     let there : ◌≡◌ {A = Option (List RowValue)} None (rows_at ddoc name c.args.self.now) =
     c.in-None.ensures
-    ∙ rows_found (shown c.self.inside.documents) ddoc name c.self.inside.indexes c.self.invariant.rows ∙ ap (rows_at ddoc name) c.self.view_is in
+    ∙ rows_found (kept_documents c.self.inside.documents) ddoc name c.self.inside.indexes c.self.invariant.rows ∙ ap (rows_at ddoc name) c.self.view_is in
     there

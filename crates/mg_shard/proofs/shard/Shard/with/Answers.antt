@@ -2,7 +2,7 @@ use Rattle.std.proofs.Common.{◌≡◌, List, sym, ap, ◌∙◌, subst}
 use Rattle.std.specs.Arc.{arc_value}
 use Rattle.mg_index.specs.Catalog.{with_definition}
 use Rattle.mg_pages.specs.Order.{inserted}
-use Rattle.mg_shard.specs.Documents.{docs_of, shown}
+use Rattle.mg_shard.specs.Documents.{docs_of, kept_documents}
 use Rattle.mg_shard.specs.Index.{AreIndexes, HasRows, Index, definitions_of, index_order}
 use Rattle.mg_shard.specs.Rows.{rows_of}
 use Rattle.mg_shard.specs.Shard.{ShardView}
@@ -12,14 +12,14 @@ use Rattle.mg_shard.proofs.shard.Shard.with.Goals as goal
 
 pub invariant_of-result : goal.invariant_of-result
 invariant_of-result c =
-    let ds = shown c.self.inside.documents in
+    let ds = kept_documents c.self.inside.documents in
     let xs = c.self.inside.indexes in
     let index : Index = (arc_value c.args.definition, c.args.rows) in
     let seen : c.in_ok-indexes.indexes ≡ inserted index_order index xs =
     c.in_ok-indexes.ensures ∙ ap (λ (x : Index). inserted index_order x xs) c.in_ok-index.ensures in
     let has : HasRows ds index =
     c.requires ∙ ap (λ (v : ShardView). rows_of (arc_value c.args.definition).columns (docs_of v.documents)) (sym c.self.view_is) in
-    subst (λ (documents : List Document). AreIndexes (shown documents) c.in_ok-indexes.indexes) (sym c.in_ok-documents.ensures)
+    subst (λ (documents : List Document). AreIndexes (kept_documents documents) c.in_ok-indexes.indexes) (sym c.in_ok-documents.ensures)
     (subst (λ (ys : List Index). AreIndexes ds ys) (sym seen) (with_index_sound ds index xs has c.self.invariant))
 
 pub returns : goal.returns
@@ -28,7 +28,7 @@ returns c =
     let index : Index = (arc_value c.args.definition, c.args.rows) in
     let seen : c.in_ok-indexes.indexes ≡ inserted index_order index xs =
     c.in_ok-indexes.ensures ∙ ap (λ (x : Index). inserted index_order x xs) c.in_ok-index.ensures in
-    let documents : shown c.in_ok-documents.documents ≡ c.args.self.now.documents = ap shown c.in_ok-documents.ensures ∙ ap (λ (v : ShardView). v.documents) c.self.view_is in
+    let documents : kept_documents c.in_ok-documents.documents ≡ c.args.self.now.documents = ap kept_documents c.in_ok-documents.ensures ∙ ap (λ (v : ShardView). v.documents) c.self.view_is in
     let definitions : definitions_of c.in_ok-indexes.indexes ≡ with_definition (arc_value c.args.definition) c.args.self.now.definitions =
     ap definitions_of seen ∙ definitions-with index xs c.self.invariant.catalog ∙ ap (λ (v : ShardView). with_definition (arc_value c.args.definition) v.definitions) c.self.view_is in
     λ i. record { documents = documents i; definitions = definitions i }

@@ -8,4 +8,4 @@ use Rattle.mg_http.proofs.request.route_match.RouteMatch.has_second.Goals as goa
 pub returns : goal.returns
 returns c =
     let some : 0 < length (cow_slice_items c.args.self.now.routes) = grind (arith, common_steps, c.is_empty.ensures, c.deref.ensures.value, c.if-is_empty.false) in
-    the_table route_of _ _ c.args.segment.now some c.requires c.is_literal.ensures
+    the_table route_of _ _ c.args.segment.now some c.requires c.is_second_literal.ensures

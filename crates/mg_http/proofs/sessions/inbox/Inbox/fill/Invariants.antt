@@ -8,7 +8,7 @@ abbrev pub invariant-loop-self : goal.invariant-loop-self
 invariant-loop-self g l = record {
   read : (came : List ℕ) × Consumes (g.R.Read.remaining (inner_of l.fn.reader)) (g.R.Read.remaining (inner_of l.reader)) came
       × (unanswered l.self ≡ unanswered l.fn.self ++ came);
-  requests : l.self.requests ≡ l.fn.self.requests;
+  messages : l.self.messages ≡ l.fn.self.messages;
   reads : l.self.reads + length (unanswered l.fn.self) ≤ l.fn.self.reads + length (unanswered l.self);
   working : has_failed l.reader ≡ false;
   fewer : steps_left l.self ≤ steps_left l.fn.self;

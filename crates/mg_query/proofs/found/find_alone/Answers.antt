@@ -1,7 +1,0 @@
-use Rattle.mg_shard.specs.Shard.{shards_seen}
-use Rattle.mg_query.specs.Seen.{query_seen}
-use Rattle.mg_query.proofs.Handed.{first_passed}
-use Rattle.mg_query.proofs.found.find_alone.Goals as goal
-
-pub returns : goal.returns
-returns c = first_passed (query_seen c.args.query.now) c.args.plan.now (shards_seen c.args.shards.now) c.in_ok-hits-2.hits.items c.in_ok-hits-2.ensures

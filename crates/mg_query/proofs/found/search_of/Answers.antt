@@ -1,5 +1,0 @@
-use Rattle.std.proofs.Common.{refl}
-use Rattle.mg_query.proofs.found.search_of.Goals as goal
-
-pub returns : goal.returns
-returns c = record { target = c.target.ensures; normal = refl; range = c.requires.range; after = c.as_ref.ensures.value; take = c.row_count.ensures; direction = refl }

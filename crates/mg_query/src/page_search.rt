@@ -1,0 +1,177 @@
+//! The search for the hits of a page.
+ghost use Rattle.std.specs.Prelude.{◌≡◌, ◌+◌, true, IfOk, length, map};
+ghost use Rattle.std.specs.List.{AllZip};
+ghost use Rattle.mg_shard.specs.Shard.{shards_seen};
+ghost use Rattle.mg_scan.specs.Hit.{AreHitsOf, hit_rows};
+ghost use Rattle.mg_query.specs.Plan.{AreFirst, AreOfPage, IsPlanned, IsSearchOf, rows_asked_of};
+ghost use Rattle.mg_query.specs.Paged.{IsWorkWithin};
+ghost use Rattle.mg_query.specs.Seen.{query_seen};
+
+use crate::found::Plan;
+use crate::query::Query;
+use mg_collate::Direction;
+use mg_merge::{Work, merge_items};
+use mg_range::RowRange;
+use mg_scan::{Gate, Hit, Search, Workers, pull_lent, pull_rows, reads_at_most, scan_lent};
+use mg_shard::Shard;
+use mg_value::NoMemory;
+use std::alloc::Global;
+use std::sync::Arc;
+use std::thread::Threads;
+
+// A page that skips and shows at most this many rows is small if its range has a bound: a thread costs some 100 µs, a row at most 1 µs.
+const SMALL_PAGE: usize = 1000;
+
+// A page that shows at most this many rows is small if its range decides the whole selector, whatever it skips: the caller's thread looks
+// up no document for a row that it skips, while workers would find as many hits in each shard as the page skips and shows.
+const SMALL_SHOWN: usize = 4000;
+
+// A scan that can read at most this many documents or rows, in all shards together, is small.
+const SMALL_SCAN: usize = 1000;
+
+// What the hits of a page are searched by: the query, its plan, the plan's range as bytes, and the shards, which have the plan's index.
+#[derive(Drop)]
+pub(crate) struct PageSearch<'a, 'b> {
+    pub(crate) query: &'b Query<'b>,
+    pub(crate) plan: &'b Plan<'b>,
+    pub(crate) range: &'b RowRange<'b>,
+    pub(crate) shards: &'a [Arc<Shard>],
+}
+
+impl<'a, 'b> PageSearch<'a, 'b> {
+    // How many rows the page skips and shows, at most.
+    fn row_count(&self) -> usize
+        ensures { result ≡ self.now.query.now.skip + self.now.query.now.limit }
+    {
+        self.query.skip as usize + self.query.limit as usize
+    }
+
+    // The search in each shard, for the rows that the page skips and shows.
+    fn in_each_shard(&self) -> Search<'b>
+        requires { IsPlanned self.now }
+        ensures { IsSearchOf (query_seen self.now.query.now) self.now.plan.now result }
+    {
+        Search {
+            target: self.plan.source.target(),
+            normal: &self.plan.normal,
+            range: self.range,
+            after: self.plan.after.as_ref(),
+            take: self.row_count(),
+            direction: self.query.sort.direction,
+        }
+    }
+
+    // The hits that the page shows, after some that it skips; the number says how many come before those that it shows.
+    pub(crate) fn page_hits<R: Threads + Sync, G: Gate + Sync>(
+        &self,
+        rt: &R,
+        alloc: Global,
+        workers: Workers,
+        gate: &G,
+    ) -> Result<(Vec<Hit<'a>>, u32), NoMemory>
+        requires { IsPlanned self.now }
+        ensures { IfOk result (λ made. AreOfPage (query_seen self.now.query.now) self.now.plan.now
+            (shards_seen self.now.shards.now) made.1 made.0.items) }
+    {
+        let has_one_thread = workers.count() < 2 || self.shards.len() < 2;
+        if workers.is_alone(has_one_thread || self.is_small()) {
+            return self.find_alone(alloc);
+        }
+        let (hits, _) = self.merge_first(rt, alloc, workers, gate)?;
+        Ok((hits, self.query.skip))
+    }
+
+    // Finds what `page_hits` returns, on the caller's thread. If the range decides the selector, no document is looked up for a row that
+    // is skipped, and the returned number is 0.
+    fn find_alone(&self, alloc: Global) -> Result<(Vec<Hit<'a>>, u32), NoMemory>
+        requires { IsPlanned self.now }
+        ensures { IfOk result (λ made. AreOfPage (query_seen self.now.query.now) self.now.plan.now
+            (shards_seen self.now.shards.now) made.1 made.0.items) }
+    {
+        if self.plan.is_decided {
+            let hits = self.pull_page(alloc)?;
+            return Ok((hits, 0));
+        }
+        let hits = self.pull_hits(alloc)?;
+        Ok((hits, self.query.skip))
+    }
+
+    // The hits that the page shows, without those that it skips. The range must decide the selector.
+    fn pull_page(&self, alloc: Global) -> Result<Vec<Hit<'a>>, NoMemory>
+        requires decided { self.now.plan.now.is_decided ≡ true }
+        requires planned { IsPlanned self.now }
+        ensures { IfOk result (λ hits. AreOfPage (query_seen self.now.query.now) self.now.plan.now
+            (shards_seen self.now.shards.now) 0 hits.items) }
+    {
+        let search = self.in_each_shard();
+        let (hits, _) = pull_rows(alloc, self.shards, search, self.query.skip as usize)?;
+        Ok(hits)
+    }
+
+    // The first hits of all shards together, as many as the page skips and shows, pulled as the merge asks for them.
+    fn pull_hits(&self, alloc: Global) -> Result<Vec<Hit<'a>>, NoMemory>
+        requires { IsPlanned self.now }
+        ensures { IfOk result (λ hits. AreFirst (query_seen self.now.query.now) self.now.plan.now
+            (shards_seen self.now.shards.now) hits.items) }
+    {
+        let (hits, _) = pull_lent(alloc, self.shards, self.in_each_shard())?;
+        Ok(hits)
+    }
+
+    // The first hits of all shards together, merged from those that each shard hands over, and how many rows each handed over.
+    pub(crate) fn merge_first<R: Threads + Sync, G: Gate + Sync>(
+        &self,
+        rt: &R,
+        alloc: Global,
+        workers: Workers,
+        gate: &G,
+    ) -> Result<(Vec<Hit<'a>>, Work), NoMemory>
+        requires { IsPlanned self.now }
+        ensures hits { IfOk result (λ made. AreFirst (query_seen self.now.query.now) self.now.plan.now
+            (shards_seen self.now.shards.now) made.0.items) }
+        ensures work { IfOk result (λ made. IsWorkWithin (length self.now.shards.now)
+            (self.now.query.now.skip + self.now.query.now.limit) made.1) }
+        ensures handed { IfOk result (λ made. made.1.handed
+            ≡ map (λ s. length (rows_asked_of (query_seen self.now.query.now) self.now.plan.now s))
+            (shards_seen self.now.shards.now)) }
+    {
+        let lists = self.lists(rt, alloc, workers, gate)?;
+        let direction = self.query.sort.direction;
+        let (hits, work) = merge_items(alloc, &lists, direction, self.row_count())?;
+        Ok((hits, work))
+    }
+
+    // The first hits in each shard, at most as many as the page skips and shows.
+    fn lists<R: Threads + Sync, G: Gate + Sync>(
+        &self,
+        rt: &R,
+        alloc: Global,
+        workers: Workers,
+        gate: &G,
+    ) -> Result<Vec<Vec<Hit<'a>>>, NoMemory>
+        requires { IsPlanned self.now }
+        ensures rows { IfOk result (λ lists. map (λ hits. hit_rows hits.items) lists.items
+            ≡ map (rows_asked_of (query_seen self.now.query.now) self.now.plan.now)
+            (shards_seen self.now.shards.now)) }
+        ensures hits { IfOk result (λ lists. AllZip (λ s hits. AreHitsOf s.documents hits.items)
+            (shards_seen self.now.shards.now) lists.items) }
+    {
+        let search = self.in_each_shard();
+        scan_lent(rt, alloc, self.shards, search, workers, gate)
+    }
+
+    // Whether a second thread would cost more than it saves: the page is small, or the shards have little to read.
+    fn is_small(&self) -> bool
+        requires { IsPlanned self.now }
+    {
+        self.is_small_page() || reads_at_most(self.shards, self.in_each_shard(), SMALL_SCAN)
+    }
+
+    // Whether the page is small, judged without a look at the shards.
+    fn is_small_page(&self) -> bool {
+        let has_bound = self.plan.range.entered_at(Direction::Asc).is_some()
+            || self.plan.range.entered_at(Direction::Desc).is_some();
+        has_bound && self.row_count() <= SMALL_PAGE
+            || self.plan.is_decided && self.query.limit as usize <= SMALL_SHOWN
+    }
+}

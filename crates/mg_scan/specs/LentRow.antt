@@ -1,0 +1,10 @@
+-- The row of a hit while a shard lends it.
+use Rattle.mg_collate.specs.Row.{RowValue}
+use Rattle.mg_scan.specs.Walked.{id_row}
+use Rattle.mg_scan.specs.declared.lent_row.LentRow.{LentRow}
+use Rattle.mg_scan.specs.declared.lent_row.LentRow.TheVariants.{Bytes, Id}
+
+-- the row: of an index, or of an id among all documents
+abbrev pub lent_row : LentRow → RowValue
+lent_row (Bytes row) = row.now
+lent_row (Id id) = id_row id.now

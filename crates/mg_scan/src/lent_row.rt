@@ -1,0 +1,105 @@
+//! The row of a hit, lent by a shard.
+ghost use Rattle.std.specs.Prelude.{◌≡◌, IfOk};
+ghost use Rattle.mg_collate.specs.Row.{row_value_order, row_view};
+ghost use Rattle.mg_value.specs.View.{items_view};
+ghost use Rattle.mg_scan.specs.LentRow.{lent_row};
+ghost use Rattle.mg_scan.specs.Walked.{id_row};
+
+use mg_collate::Row;
+use mg_rows::RowBytes;
+use mg_value::{Json, NoMemory};
+use std::alloc::Global;
+use std::cmp::Ordering;
+
+/// The row of a hit.
+#[derive(Clone, Copy)]
+pub(crate) enum LentRow<'a> {
+    /// A row of an index.
+    Bytes(&'a RowBytes),
+    /// The row that a document has among all documents, whose key is its id.
+    Id(&'a str),
+}
+
+impl<'a> LentRow<'a> {
+    /// The id of its document. Takes no memory.
+    #[inline(always)]
+    pub(crate) fn id(&self) -> &'a str
+        ensures { result.now ≡ (lent_row self.now).1 }
+    {
+        match self {
+            LentRow::Bytes(row) => row.id(),
+            LentRow::Id(id) => id,
+        }
+    }
+
+    /// Its key. Errors: `NoMemory` if an allocation fails. Cost: the size of the key.
+    pub(crate) fn key(&self, alloc: Global) -> Result<Vec<Json>, NoMemory>
+        ensures { IfOk result (λ key. items_view key.items ≡ (lent_row self.now).0) }
+    {
+        match self {
+            LentRow::Bytes(row) => row.key(alloc),
+            LentRow::Id(id) => id_key(alloc, id),
+        }
+    }
+
+    /// Copies the row. Errors: `NoMemory` if an allocation fails. Cost: the size of the row.
+    pub(crate) fn row(&self, alloc: Global) -> Result<Row, NoMemory>
+        ensures { IfOk result (λ row. row_view row ≡ lent_row self.now) }
+    {
+        match self {
+            LentRow::Bytes(row) => row.row(alloc),
+            LentRow::Id(id) => id_row(alloc, id),
+        }
+    }
+
+    /// The order of two rows: by key, and at one key by the bytes of the id. Takes no memory.
+    #[inline(always)]
+    pub(crate) fn compare(&self, other: &LentRow<'a>) -> Ordering
+        ensures { result ≡ row_value_order (lent_row self.now) (lent_row other.now) }
+    {
+        match self {
+            LentRow::Bytes(row) => compare_row(row, other),
+            LentRow::Id(id) => compare_id(id, other),
+        }
+    }
+}
+
+// Compares a row of an index to another row.
+#[inline(always)]
+fn compare_row(row: &RowBytes, other: &LentRow<'_>) -> Ordering
+    ensures { result ≡ row_value_order row.now (lent_row other.now) }
+{
+    match other {
+        LentRow::Bytes(other) => row.compare(other),
+        LentRow::Id(id) => row.compare_to_id(id),
+    }
+}
+
+// Compares the row that an id has among all documents to another row.
+fn compare_id(id: &str, other: &LentRow<'_>) -> Ordering
+    ensures { result ≡ row_value_order (id_row id.now) (lent_row other.now) }
+{
+    match other {
+        LentRow::Bytes(other) => other.compare_to_id(id).reverse(),
+        LentRow::Id(other) => id.cmp(other),
+    }
+}
+
+// The key of an id among all documents.
+fn id_key(alloc: Global, id: &str) -> Result<Vec<Json>, NoMemory>
+    ensures { IfOk result (λ key. items_view key.items ≡ (id_row id.now).0) }
+{
+    let mut key = Vec::with_capacity(alloc, 1)?;
+    key.push(Json::Text(String::from_str(alloc, id)?))?;
+    Ok(key)
+}
+
+// The row of an id among all documents.
+fn id_row(alloc: Global, id: &str) -> Result<Row, NoMemory>
+    ensures { IfOk result (λ row. row_view row ≡ id_row id.now) }
+{
+    Ok(Row {
+        key: id_key(alloc, id)?,
+        id: String::from_str(alloc, id)?,
+    })
+}

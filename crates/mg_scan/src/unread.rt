@@ -1,0 +1,67 @@
+//! What a search has still to read in a shard.
+ghost use Rattle.std.specs.Prelude.{◌≤◌, option_map};
+ghost use Rattle.mg_index.specs.Catalog.{definition_at};
+ghost use Rattle.mg_scan.specs.Begun.{AreBegun, IsBegun, IsBegunIn, IsUnreadAfter};
+
+use crate::begin::Begin;
+use crate::search::Search;
+use crate::target::Target;
+use mg_shard::{Documents, Rows, Shard};
+
+/// What a search has still to read in a shard.
+#[derive(Drop)]
+pub(crate) enum Unread<'a> {
+    /// Rows of an index.
+    Rows(Rows<'a>),
+    /// Documents, by their ids.
+    Documents(Documents<'a>),
+    /// Nothing more, or there is no such index.
+    Nothing,
+}
+
+// All that a search has to read in a shard. Cost: one look-up of where to begin.
+#[inline(always)]
+pub(crate) fn unread_of<'a>(shard: &'a Shard, search: Search<'_>) -> Unread<'a>
+    ensures { IsBegun search.entry shard.now result }
+{
+    match search.target {
+        Target::AllDocs => Unread::Documents(documents_of(shard, search)),
+        Target::Index { ddoc, name } => unread_in_index(shard, ddoc, name, search),
+    }
+}
+
+// All documents from where the search begins.
+fn documents_of<'a>(shard: &'a Shard, search: Search<'_>) -> Documents<'a>
+    ensures { AreBegun search.entry shard.now.documents result }
+{
+    shard.ids_are_own();
+    shard.documents_beyond(&Begin { search }, search.direction)
+}
+
+// The rows of an index from where the search begins; nothing if the shard has no such index.
+#[inline(always)]
+fn unread_in_index<'a>(shard: &'a Shard, ddoc: &str, name: &str, search: Search<'_>) -> Unread<'a>
+    ensures { IsBegunIn (option_map (λ d. d.columns) (definition_at ddoc.now name.now shard.now.definitions))
+        search.entry shard.now result }
+{
+    match shard.rows_beyond(ddoc, name, &Begin { search }, search.direction) {
+        Some(rows) => Unread::Rows(rows),
+        None => Unread::Nothing,
+    }
+}
+
+// Passes over the first `count` rows of an index. Returns what is left, and how many rows were passed over. Documents are not passed
+// over (0), since some of them may be deleted.
+pub(crate) fn unread_after<'a>(unread: Unread<'a>, count: usize) -> (Unread<'a>, usize)
+    ensures after { IsUnreadAfter result.1 unread.entry result.0 }
+    ensures within { result.1 ≤ count }
+{
+    match unread {
+        Unread::Rows(mut rows) => {
+            rows.advance(count);
+            (Unread::Rows(rows), count)
+        }
+        Unread::Documents(documents) => (Unread::Documents(documents), 0),
+        Unread::Nothing => (Unread::Nothing, 0),
+    }
+}

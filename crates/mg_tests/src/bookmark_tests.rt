@@ -1,0 +1,44 @@
+//! A bookmark as a text and read back. The program writes the text from parts that it borrows. The text is URL-safe base64 of a JSON array,
+//! computed by another program. Other tests of bookmarks are in tests/conversations/queries.txt.
+use crate::given::string;
+use mg_bookmark::Bookmark;
+use mg_collate::Direction;
+use mg_value::Json;
+use std::alloc::Global;
+use std::process::Abort;
+
+// `["_design/by","price","desc",[5],"pear"]`
+const TEXT: &str = "WyJfZGVzaWduL2J5IiwicHJpY2UiLCJkZXNjIixbNV0sInBlYXIiXQ";
+
+fn pear_below_six<R: Abort>(rt: &R, alloc: Global) -> Bookmark {
+    let mut key = Vec::new(alloc);
+    key.push(Json::Whole(5)).expect(rt, "memory");
+    Bookmark {
+        ddoc: Some(string(rt, alloc, "_design/by")),
+        name: string(rt, alloc, "price"),
+        direction: Direction::Desc,
+        key,
+        id: string(rt, alloc, "pear"),
+    }
+}
+
+#[test]
+fn a_bookmark_is_written(rt: HostRuntime) {
+    let alloc = rt.alloc();
+    let text = pear_below_six(&rt, alloc)
+        .encode(alloc)
+        .expect(&rt, "memory");
+    assert!(rt; text.as_str() == TEXT);
+}
+
+#[test]
+fn a_bookmark_is_read_back(rt: HostRuntime) {
+    let alloc = rt.alloc();
+    let Ok(Some(read)) = Bookmark::decode(alloc, TEXT) else {
+        rt.panic("no bookmark")
+    };
+    assert!(rt; read.id.as_str() == "pear" && read.name.as_str() == "price");
+    assert!(rt;
+        read.direction == Direction::Desc && read.key.as_slice() == [Json::Whole(5)].as_slice()
+    );
+}
