@@ -95,7 +95,8 @@ pub(crate) fn documents_at(
     place: usize,
 ) -> Result<Pages<Shared<Document>>, NoMemory>
     requires { length places.now ≡ length documents.now }
-    ensures { IfOk result (λ ds. KeepsThose (documents_seen documents.now) places.now place (kept_documents ds)) }
+    ensures { IfOk result
+        (λ ds. KeepsThose (documents_seen documents.now) places.now place (kept_documents ds)) }
 {
     let mut there = Pages::new(alloc);
     for k in 0..documents.len() {

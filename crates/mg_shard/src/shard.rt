@@ -53,7 +53,8 @@ impl Model for Shard {
     ghost use Rattle.mg_shard.specs.Documents.{kept_documents};
     ghost use Rattle.mg_shard.specs.Index.{AreIndexes, definitions_of};
 
-    ghost view = { λ s. record { documents = kept_documents s.documents; definitions = definitions_of s.indexes } };
+    ghost view = { λ s.
+        record { documents = kept_documents s.documents; definitions = definitions_of s.indexes } };
 
     ghost invariant = { λ s. AreIndexes (kept_documents s.documents) s.indexes };
 }

@@ -191,7 +191,8 @@ impl RouteMatch {
     fn has_second(&self, literals: &SecondLiterals, segment: &[u8]) -> bool
         requires { (map route_of (cow_slice_items self.now.routes) ≡ [])
             ⊎ (map route_of (cow_slice_items self.now.routes) ≡ routes) }
-        ensures { result ≡ any_begins_with (literal segment.now) (map route_of (cow_slice_items self.now.routes)) }
+        ensures { result
+            ≡ any_begins_with (literal segment.now) (map route_of (cow_slice_items self.now.routes)) }
     {
         if self.routes.is_empty() {
             return false;
@@ -206,7 +207,8 @@ impl RouteMatch {
         segment: &[u8],
         is_literal: bool,
     ) -> Result<RouteMatch, AllocError>
-        requires { is_literal ≡ any_begins_with (literal segment.now) (map route_of (cow_slice_items self.routes)) }
+        requires { is_literal
+            ≡ any_begins_with (literal segment.now) (map route_of (cow_slice_items self.routes)) }
         ensures { IfOk result (λ p. match_in p ≡ enter (match_in self) segment.now) }
     {
         if is_literal {
