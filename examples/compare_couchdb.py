@@ -8,11 +8,11 @@ usage: compare_couchdb.py HERE COUCHDB [--requests FILE] [--as-they-are]
 HERE is the URL of an empty database of this program; COUCHDB is that of a database that does not exist, which is created and deleted
 again. With --as-they-are both are used as they are, and nothing is created or deleted. FILE has requests of your own instead of those
 below: one JSON object a line, such as {"method":"POST","target":"_find","body":{"selector":{}}}. In a target and in the texts of a body,
-`REV:ID` stands for the newest revision of a document that each side has shown, and `BOOKMARK` for its last bookmark.
+`REV:ID` stands for the newest revision that each side has shown of the document ID, and `BOOKMARK` for that side's last bookmark.
 
 Replies are alike if they have the same status and the same value. These differences, which the reference names, are set aside:
 - the order of members, and the reasons of errors;
-- ids that a server makes, of revisions and of documents without `_id`: those of both sides are matched in the order of their making;
+- ids that a server makes, of revisions and of documents without `_id`: the ids of both sides are matched in the order of their making;
 - the form of a bookmark, and what a page has besides its documents and its bookmark, such as `warning`;
 - `partitioned` of an index, and what `_explain` says of anything but the index, limit and skip.
 A request below may expect one more difference, by its name in the reference. Every other difference is red.
@@ -189,7 +189,7 @@ def differences() -> list[Request]:
 
 
 def requests() -> list[Request]:
-    """The requests that are sent where there is no FILE."""
+    """The requests that are sent if no FILE is given."""
     return [*writes(), *replicas(), *reads(), *indexes_and_pages(), *refusals(), *differences()]
 
 

@@ -17,9 +17,9 @@ Replies are a function of the list of accepted writes, so a replay gives the sam
 afterwards, with any SHARDS, WORKERS and SESSIONS. Each replayed write has to get the reply that it got at first; if it does not
 (another program, another DB, less memory), the proxy ends before it serves anybody.
 
-If the machine stops during a write, the end of the journal may be torn. It holds no acknowledged write, and is cut off at the next
-start. Damage before an acknowledged write is reported, and the file is left as it is. If the program ends, or the journal cannot be
-written, the proxy ends with status 1: start it again, by a service manager for example. The program ends with the proxy, however
+If the machine stops during a write, the end of the journal may be torn. A torn end holds no acknowledged write, and is cut off at
+the next start. Damage before an acknowledged write is reported, and the file is left as it is. If the program ends, or the journal
+cannot be written, the proxy ends with status 1: start it again, by a service manager for example. The program ends with the proxy, however
 the proxy ends (this needs Linux).
 
 Limits: a journal is never compacted, so it grows with each write, and a start takes the time of all writes. A read may show a write

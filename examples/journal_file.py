@@ -139,7 +139,7 @@ class Journal:
         return self.written
 
     def make_durable(self, length: int) -> None:
-        """Returns once so many bytes are on the disk. Callers who wait here share the next fsync. After a failed fsync the file cannot be
+        """Returns once this many bytes are on the disk. Callers who wait here share the next fsync. After a failed fsync the file cannot be
         trusted, so there is no other attempt."""
         with self.disk:
             if self.durable >= length:

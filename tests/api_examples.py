@@ -20,7 +20,7 @@ SECONDS = 60
 
 
 def faults_of(program, examples):
-    """The faults of each example. A fault at the end of the conversation counts for the last example."""
+    """Returns the faults of each example. A fault at the end of the conversation counts for the last example."""
     messages = b"".join(example.message for example in examples)
     try:
         output, ending = run_session(program, messages, seconds=SECONDS)

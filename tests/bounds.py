@@ -10,10 +10,10 @@ share of the memory, and at most twice its share of the processor time (with --f
 time, and more of the input is outside the caches). The ratios are printed.
 
 What does not depend on the size is not counted: 2 MiB of memory, and the time of a sixteenth of the smaller input. The sizes grow until the
-smaller input takes a tenth of a second after that; if a body cannot be so large, the inputs are sent to as many processes as take that
-together. A time that is too long is measured up to three times. The replies must end in the bytes that the shape writes out, and the next
-message must be answered. Last, values and selectors of the greatest depth of a body run through the program with a stack of 1 MiB. The
-last line is 'N passed, M failed'.
+smaller input takes a tenth of a second beyond that; if a body cannot be so large, each input is sent to as many processes as take a tenth of
+a second together. A time that is too long is measured up to three times. The replies must end in the bytes that the shape writes out, and
+the next message must be answered. Last, values and selectors of the greatest depth of a body run through the program with a stack of 1 MiB.
+The last line is 'N passed, M failed'.
 """
 import math
 import os
@@ -40,13 +40,13 @@ LAST_REPLY = reply(404, '{"error":"not_found","reason":"missing"}')
 
 
 def memory_of(process):
-    """The peak memory of a running process, in bytes."""
+    """Returns the peak memory of a running process, in bytes."""
     with open(f"/proc/{process.pid}/status") as file:
         return next(int(line.split()[1]) << 10 for line in file if line.startswith("VmHWM"))
 
 
 def wait_for(process, output, text):
-    """Waits until the output ends in a text. False if the program ended first or took too long."""
+    """Waits until the output ends in a text. Returns False if the program ended first, or took too long and was killed."""
     limit = time.monotonic() + SECONDS
     while time.monotonic() < limit:
         size = os.fstat(output.fileno()).st_size
@@ -61,7 +61,7 @@ def wait_for(process, output, text):
 
 
 def measure(program, shape, given, text):
-    """The processor time and the memory of an input; None if a reply is wrong."""
+    """Returns the processor time and the memory of an input; None if a reply is wrong or the program fails."""
     command = session_command(program, shape.shards, shape.workers)
     before = resource.getrusage(resource.RUSAGE_CHILDREN)
     with tempfile.TemporaryFile() as output:
@@ -81,7 +81,7 @@ def measure(program, shape, given, text):
 
 
 def find_size(program, shape, small, times):
-    """A size at which the smaller input takes a tenth of a second, or its greatest size; and how many processes take that time together."""
+    """Returns a size at which the smaller input takes a tenth of a second, or its greatest size; and how many processes take that time together."""
     while True:
         found = costs_of(program, shape, [shape.make(small // TINY), shape.make(small)], 1)
         used = found[0][0] if found else LEAST
@@ -93,8 +93,8 @@ def find_size(program, shape, small, times):
 
 
 def costs_of(program, shape, inputs, rounds):
-    """For each input but the first: the processor time of all processes less that of the first input, and the most memory of a process; None
-    if a reply is wrong."""
+    """Returns for each input but the first: the processor time of all processes less that of the first input, and the most memory of a process;
+    None if a reply is wrong."""
     found = [[measure(program, shape, *one) for one in inputs] for _ in range(rounds)]
     if any(None in one for one in found):
         return None

@@ -19,7 +19,7 @@ from common.arguments import arguments
 from common.messages import get, post, reply
 from common.session import ENDS, session_command
 from common.tally import Tally
-from common.wire import connect, read
+from common.wire import Wire
 
 SECONDS = 30
 NO_DOCUMENT = reply(404, '{"error":"not_found","reason":"missing"}')
@@ -43,7 +43,7 @@ class Bridge:
                 self.served.append(subprocess.Popen(self.command, stdin=connection, stdout=connection, stderr=subprocess.PIPE))
 
     def ends(self, count=1):
-        """How the processes started since the last call ended; `count` of them are awaited."""
+        """Waits until `count` processes were started since the last call. Returns how all of them ended."""
         limit = time.monotonic() + SECONDS
         while len(self.served) < count and time.monotonic() < limit:
             time.sleep(0.01)
@@ -89,24 +89,22 @@ def check_http_client(bridge, tally):
 
 
 def check_replies_come_at_once(bridge, tally):
-    with connect(bridge.port) as client:
+    with Wire(bridge.port) as wire:
         for _ in range(3):
-            client.sendall(get("x"))
-            tally.expect("a reply before more is sent", read(client, len(NO_DOCUMENT)), NO_DOCUMENT)
-        client.shutdown(socket.SHUT_WR)
-        rest = read(client, 1)
-    tally.expect("its end", (rest, bridge.ends()), (b"", [ENDS["Eof"]]))
+            tally.expect("a reply before more is sent", wire.ask(get("x")), NO_DOCUMENT)
+        wire.finish()
+        rest = wire.rest()
+    tally.expect("its end", (rest, wire.was_reset, bridge.ends()), (b"", False, [ENDS["Eof"]]))
 
 
 def check_byte_by_byte(bridge, tally):
     message = post("_find", b'{"selector":{}}')
-    with connect(bridge.port) as client:
-        client.setsockopt(socket.IPPROTO_TCP, socket.TCP_NODELAY, 1)
+    with Wire(bridge.port) as wire:
         for at in range(len(message)):
-            client.sendall(message[at : at + 1])
-        client.shutdown(socket.SHUT_WR)
-        transcript = read(client, 1 << 20)
-    tally.expect("a message byte by byte", (transcript, bridge.ends()), (EMPTY, [ENDS["Eof"]]))
+            wire.send(message[at : at + 1])
+        wire.finish()
+        transcript = wire.rest()
+    tally.expect("a message byte by byte", (transcript, wire.was_reset, bridge.ends()), (EMPTY, False, [ENDS["Eof"]]))
 
 
 def check_curl(bridge, tally):

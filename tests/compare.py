@@ -14,15 +14,15 @@ import tempfile
 from pathlib import Path
 
 from common.arguments import arguments
-from common.example import EXAMPLES, database_url, run_example
+from common.example import database_url, run_example
+from common.modules import module_in
 from common.reference import REFERENCE
 from common.server import Launch, listening
 from common.tally import Tally
 from common.wire import ask_once
 from imitation.front import Front, serving_front
 
-sys.path.insert(0, str(EXAMPLES))
-import compare_couchdb as example  # noqa: E402
+example = module_in("examples", "compare_couchdb")
 
 
 @contextlib.contextmanager
@@ -43,7 +43,7 @@ def run_against_imitation(program, planted=None):
 
 
 def plant(target, change, method="POST"):
-    """A planted difference: changes the first reply to this target that has a value to change."""
+    """Returns a planted difference: a function that changes the first reply to this target that has a value to change."""
     done = []
 
     def planted(request_method, request_target, reply):

@@ -3,31 +3,28 @@
 
 usage: counts.py --program PATH [--counts FILE]
 
-A kind fails if a request takes a tenth more instructions than the file says, so that no loss of speed goes unseen. If it takes a tenth
-less, that is printed. Then, or after a change that is worth its cost, write a new file by
+A kind fails if a request takes more than 1.1 times as many instructions as the file says, so that no loss of speed goes unseen. If the file
+says more than 1.1 times as many as it takes, that is printed. Then, or after a change that is worth its cost, write a new file by
 `bench/misses --program PATH --write bench/counts.json`. The counts come from `valgrind`, which must be installed, and hardly depend on
 the machine; the file names the documents, requests and numbers of shards. Each reply must be right. The last line is
 'N passed, M failed'.
 """
 import json
 import sys
-from pathlib import Path
-
-TOP = Path(__file__).resolve().parent.parent
-sys.path.insert(0, str(TOP / "bench"))
 
 from common.arguments import arguments
+from common.modules import TOP, module_in
 from common.tally import Tally
-from measuring.counted import of_sizes
 
 MORE = 1.1
+counted = module_in("bench", "measuring.counted")
 
 
-def compare(tally, name, counted, kept):
+def compare(tally, name, found, kept):
     """Compares the instructions of one kind of request."""
-    change = f"{counted:,} instructions a request, {counted / kept:.2f} times the {kept:,} of the file"
-    tally.count(name, [change] if counted > kept * MORE else [])
-    if counted < kept / MORE:
+    change = f"{found:,} instructions a request, {found / kept:.2f} times the {kept:,} of the file"
+    tally.count(name, [change] if found > kept * MORE else [])
+    if found < kept / MORE:
         print(f"{name}: {change}, so the file can be replaced", flush=True)
 
 
@@ -37,7 +34,7 @@ def main():
     with open(args.counts) as file:
         kept = json.load(file)
     if tally.needs("valgrind") and tally.needs("callgrind_control"):
-        for setting, kinds in of_sizes(args.program, kept["sizes"]).items():
+        for setting, kinds in counted.of_sizes(args.program, kept["sizes"]).items():
             for kind, (instructions, _) in kinds.items():
                 compare(tally, f"{kind}, {setting} shards and workers", instructions, kept["counts"][setting][kind][0])
     return tally.end()

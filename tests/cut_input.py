@@ -26,7 +26,7 @@ from common.refusal import ONWARD, refusals
 from common.server import Launch, listening
 from common.session import ENDS, SECONDS, run_session, session_command
 from common.tally import Tally
-from common.wire import Wire, bytes_back, reset
+from common.wire import Wire, bytes_back
 from model.database import Database
 
 NAMES = ["first-write-and-query", "ties-across-shards", "choice-of-index"]
@@ -52,11 +52,11 @@ class Transcript:
             self.due.append((len(self.given), len(self.text)))
 
     def written(self, count):
-        """The output for the first `count` bytes."""
+        """Returns the output for the first `count` bytes."""
         return self.text[: max(text for given, text in self.due if given <= count)]
 
     def count(self):
-        """The number of messages, and so of replies."""
+        """Returns the number of messages, and so of replies."""
         return len(self.due) - 1
 
 
@@ -88,7 +88,7 @@ def check_counts(refusal, command, transcript, tally):
 
 
 def check_last_messages(refusal, command, tally):
-    """A session that its message ends reads no more. The next read would fail."""
+    """A session that a message ends reads no more. The next read would fail."""
     for name, given, text, end in LAST:
         refusal.reset()
         refusal.refuse("reads", 2, ONWARD)
@@ -182,7 +182,7 @@ def check_resets(launch, transcript, step, tally):
         with listening(launch, 2) as port:
             client = Wire(port)
             client.send((bulk + find)[:place])
-            reset(client.socket)
+            client.reset()
             other = Wire(port)
             found = [other.ask(message) for message in reads]
             other.close()

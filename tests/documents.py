@@ -29,14 +29,14 @@ ENDINGS = (".md", ".txt", ".py", ".rt", ".antt", ".json", ".sh", ".edit", ".c")
 
 
 def crates_of(text):
-    """Each crate of crates.txt, and the libraries that it uses."""
+    """Returns each crate of crates.txt, and the libraries that it uses."""
     lines = [line for line in text.splitlines() if line.strip() and not line.startswith("#")]
     return {line.split()[0].rstrip(":"): line.partition(":")[2].split() for line in lines}
 
 
 def pattern_of(top, path, first, slash):
-    """The pattern that some file must match if a text names this path; None if the path is not checked: it is not of the repository, or it
-    ends in a single capital letter, which stands for any folder."""
+    """Returns the pattern that some file must match if a text names this path. None if the path is not checked: it is not of the
+    repository, it is in out/, or it ends in a single capital letter, which stands for any folder."""
     if "/out/" in f"{path}/" or re.search(r"/[A-Z]/?$", path):
         return None
     if slash and (top / first).exists():
@@ -47,7 +47,7 @@ def pattern_of(top, path, first, slash):
 
 
 def missing_paths(top, text):
-    """The paths that do not exist."""
+    """Yields the paths that do not exist."""
     for path in sorted(set(PATH.findall(text))):
         first, slash, _ = path.rstrip(".").partition("/")
         pattern = pattern_of(top, path.rstrip("."), first, slash)
@@ -56,7 +56,7 @@ def missing_paths(top, text):
 
 
 def headings_of(text):
-    """The anchors of the headings of a document."""
+    """Returns the anchors of the headings of a document."""
     found = re.findall(r"^#+ (.*)$", text, re.M)
     return {re.sub(r"[^\w -]", "", heading.lower()).replace(" ", "-") for heading in found}
 
@@ -74,7 +74,7 @@ def broken_links(folder, file, text):
 
 
 def faults_of(top, file, crates):
-    """The faults of a document. Its examples of requests and replies are ignored: they name no files."""
+    """Yields the faults of a document. Its examples of requests and replies are ignored: they name no files."""
     text = CODE.sub("", file.read_text(encoding="utf-8"))
     yield from missing_paths(top, text)
     yield from broken_links(file.parent, file, text)
@@ -82,7 +82,7 @@ def faults_of(top, file, crates):
 
 
 def table_of(text):
-    """The crates in the table, and the libraries of each."""
+    """Returns the crates in the table, and the libraries of each."""
     section = text.partition("\n## The crates in a table\n")[2].partition("\n## ")[0]
     rows = [line.split("|")[1:-1] for line in section.splitlines() if line.startswith("| `")]
     return {row[0].strip(" `"): re.findall(r"`([^`]+)`", row[2]) for row in rows}

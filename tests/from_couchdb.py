@@ -4,8 +4,8 @@
 usage: from_couchdb.py --program PATH [--seed N]
 
 There is no CouchDB in these tests: tests/imitation/couchdb.py was written from CouchDB's API reference. The copied documents must be what
-the imitation would serve, winners and conflicts included. The dry run must list exactly the documents that the program refuses. The last
-line is 'N passed, M failed'.
+the imitation would serve, winners and conflicts included. The dry run must list exactly the documents that the program refuses, and the
+design documents. The last line is 'N passed, M failed'.
 """
 import contextlib
 import json
@@ -41,7 +41,7 @@ class Target:
         return ask_once(self.port, method, f"/db/{target}", body)
 
     def served(self, name):
-        """A document with its conflicts; None for a deleted one, the status for a missing one."""
+        """Returns a document with its conflicts; None for a deleted one, the status for a missing one."""
         status, found = self.ask("GET", f"{urllib.parse.quote(name, safe='')}?conflicts=true")
         return found if status == 200 else None if found["reason"] == "deleted" else status
 
@@ -162,7 +162,7 @@ SOUND = [
 
 
 def members_of_size(name, size):
-    """The text of members that gives the bulk of the document this size."""
+    """Returns the text of members with which the bulk of the document has this size."""
     front = '{"_id":"%s","_rev":"1-a","_revisions":{"start":1,"ids":["a"]},"a":""}' % name
     return '"a":"%s"' % ("x" * (size - len('{"docs":[],"new_edits":false}') - len(front)))
 
@@ -173,7 +173,7 @@ def with_sizes():
 
 
 def write_directly(target, name, members):
-    """The status of a bulk with only this document."""
+    """Writes a bulk with only this document, and returns the status of the reply."""
     head = '{"_id":"%s","_rev":"1-a","_revisions":{"start":1,"ids":["a"]}' % name
     try:
         return target.ask("POST", "_bulk_docs", '{"docs":[%s,%s}],"new_edits":false}' % (head, members))[0]
@@ -182,7 +182,7 @@ def write_directly(target, name, members):
 
 
 def check_dry_run(tally, program):
-    """The dry run lists exactly the documents that the program refuses."""
+    """The dry run lists exactly the documents that the program refuses, and the design documents."""
     source, (faulty, sound) = Source(), with_sizes()
     source.put("_design/shop", ["1-x"], MANGO)
     source.put("_design/views", ["1-x"], '"views":{"a":{"map":"function (doc) {}"}}')

@@ -3,11 +3,12 @@
 
 usage: indexes.py --program PATH [--shards 1,2,7,64] [--workers 1,2] [--seeds 1,2,3,4] [--edits 1500] [--documents 3000]
 
-A seed makes one conversation: new edits, replicated edits, deletions and conflicts of a few documents (of some hundred for every
-fourth seed, so that an index has several pages of rows); indexes that are created, change their columns and are dropped; and queries by
-them. The model (the folder model/) keeps the revisions of each document and no rows: it finds the winner by CouchDB's rule, and a
-page by sorting all documents in the order of values of docs/REFERENCE.md. There is one process `PATH db SHARDS WORKERS 1 -` for each seed, number of
-shards and number of workers; a seed passes or fails as one. Prints the first reply that differs; the last line is 'N passed, M failed'.
+A seed makes one conversation: new edits, replicated edits, deletions and conflicts of a few documents (of 250 for every fourth seed, so
+that an index has several pages of rows); indexes that are created, change their columns and are dropped; and queries by them. One more
+conversation has --documents documents, and pages that skip many rows. The model (the folder model/) keeps the revisions of each document and
+no rows: it finds the winner by CouchDB's rule, and a page by sorting all documents in the order of values of docs/REFERENCE.md. There is one
+process `PATH db SHARDS WORKERS 1 -` for each conversation, number of shards and number of workers; a conversation passes or fails as one.
+Prints the first reply that differs in each process; the last line is 'N passed, M failed'.
 """
 import itertools
 import json
@@ -72,7 +73,7 @@ class RandomConversation:
         return {name: self.random.choice(VALUES) for name in "abc" if self.chance(0.9)}
 
     def new_path(self, document):
-        """The revision that a new edit names: mostly a leaf, else another revision or none."""
+        """Returns the path that a new edit gives, newest first: mostly that of a leaf, else of another revision, known or not. None: no revision."""
         if not document.parents or self.chance(0.15):
             return None
         kind = self.random.random()
@@ -82,7 +83,7 @@ class RandomConversation:
         return document.chain(self.random.choice(known))[: self.random.choice([1, 1, 2, 5])]
 
     def replica_path(self, document):
-        """A replicated path: on top of a known revision, or a known revision again, or a new path, which may contradict the known ones."""
+        """Returns a replicated path: on top of a known revision, or a known revision again, or a new path, which may contradict the known ones."""
         if document.parents and self.chance(0.8):
             base = document.chain(self.random.choice(list(document.parents)))
             above = self.random.choice([0, 1, 1, 1, 2, 3])
@@ -99,7 +100,7 @@ class RandomConversation:
         return name, path, self.chance(0.2), self.body()
 
     def document_of(self, edit):
-        """The document of a bulk that asks for an edit."""
+        """Returns the document of a bulk that asks for an edit."""
         name, path, deleted, body = edit
         document = {**body, "_id": name}
         if deleted or self.chance(0.1):
@@ -127,7 +128,7 @@ class RandomConversation:
         return self.add_bulk(documents, new_edits, entries)
 
     def delete_leaves(self):
-        """Deletes the leaves of a document that are not deleted; now and then all but the last."""
+        """Deletes the leaves of a document that are not deleted; now and then all but the winner."""
         name = self.random.choice(self.ids)
         document = self.database.documents.get(name, Document())
         leaves = [leaf for leaf in document.leaves() if not document.bodies[leaf][0]]
@@ -148,7 +149,7 @@ class RandomConversation:
             self.ask("GET", "_index")
 
     def test(self):
-        """The test of one column by a selector."""
+        """Returns the test of one column by a selector."""
         kind = self.random.random()
         if kind < 0.6:
             return {"$gt": None}
@@ -176,7 +177,7 @@ class RandomConversation:
         }
 
     def next_page(self):
-        """The last query with the bookmark of its reply; now and then with another sort, for which the bookmark may be invalid."""
+        """Returns the last query with the bookmark of its reply; now and then with another sort, for which the bookmark may be invalid."""
         query, bookmark = self.last
         return {**(self.new_query() if self.chance(0.1) else query), "bookmark": bookmark}
 
@@ -185,7 +186,7 @@ class RandomConversation:
         self.last = (query, json.loads(body_of(reply))["bookmark"]) if status_of(reply) == 200 else None
 
     def query_body(self, query):
-        """The body of a query. Members with their default value are left out at random."""
+        """Returns the body of a query. Members with their default value are left out at random."""
         plain = query["direction"] == "asc" and self.chance(0.5)
         body = {
             "selector": query["selector"],
@@ -207,7 +208,7 @@ class RandomConversation:
 
 
 class LongSkips(RandomConversation):
-    """Many documents, and pages by indexes that skip many rows: none, most, all and more, in both directions, after bookmarks too."""
+    """Many documents, and pages by indexes that skip many rows: some, most, all and more, in both directions, after bookmarks too."""
 
     def __init__(self, documents):
         self.random = random.Random(documents)
@@ -235,7 +236,7 @@ class LongSkips(RandomConversation):
         return {"a": self.random.randrange(1000), "b": self.random.choice(VALUES)}
 
     def query(self, skip):
-        """A query whose selector bounds a column of an index; for some also a test that no range decides."""
+        """Returns a query whose selector bounds a column of an index. Some selectors have a test, too, that no range decides."""
         name = self.random.choice(sorted(self.columns))
         column = self.columns[name][0]
         test = self.random.choice([{"$gte": None}, {"$gt": 100 if column == "a" else None}, {"$lt": 900 if column == "a" else {"b": "a"}}])
@@ -253,7 +254,7 @@ class LongSkips(RandomConversation):
 
 
 def fault_of(program, exchanges, shards, workers):
-    """The first fault of a run; None if there is none."""
+    """Returns the first fault of a run; None if there is none."""
     output, ending = run_session(program, b"".join(message for message, _ in exchanges), shards, workers)
     at = 0
     for number, (message, reply) in enumerate(exchanges):

@@ -46,7 +46,7 @@ class Writer(threading.Thread):
         self.replies, self.sent, self.known = {}, [], {}
 
     def document(self):
-        """A document of a new edit: a new document, an edit of a revision that the client made, or a document without an id."""
+        """Returns a document of a new edit: a new document, an edit of a revision that the client made, or a document without an id."""
         name = self.choice.choice([*IDS, None])
         found = {"_id": name} if name else {}
         if name in self.known and self.choice.random() < 0.8:
@@ -55,13 +55,13 @@ class Writer(threading.Thread):
         return found
 
     def path(self):
-        """A document with a path of revisions, as replication sends it."""
+        """Returns a document with a path of revisions, as replication sends it."""
         ids = self.choice.sample("abcd", self.choice.randint(1, 3))
         return {"_id": self.choice.choice(IDS), "_revisions": {"start": 3, "ids": ids}, "a": self.choice.randrange(5),
                 "_deleted": self.choice.random() < 0.2}
 
     def request(self):
-        """A request at random: a method, a target below the database, and a body."""
+        """Returns a request at random: a method, a target below the database, and a body."""
         kind = self.choice.randrange(12)
         several = range(self.choice.randint(1, 3))
         if kind < 6:
@@ -98,7 +98,7 @@ class Writer(threading.Thread):
 
 
 def writes_in(data):
-    """The writes of a journal: the mark, the message and the status of each. Uses only the lengths of the records."""
+    """Returns the writes of a journal: the mark, the message and the status of each. Uses only the lengths of the records."""
     at, found = data.index(b"\n") + 1, []
     while at < len(data):
         line = data[at:data.index(b"\n", at)].split(b" ")
@@ -111,7 +111,7 @@ def writes_in(data):
 
 
 def probes(ask):
-    """The replies to reads that show a whole database: documents with their conflicts, pages, indexes, and explanations of queries."""
+    """Yields the replies to reads that show a whole database: documents with their conflicts, pages, indexes, and explanations of queries."""
     yield ask(message("GET", "/db/_index"))
     for name in [*IDS, *(f"{number:032x}" for number in range(1, 60))]:
         yield ask(message("GET", f"/db/{name}?conflicts=true"))
@@ -151,7 +151,7 @@ def write_until_killed(proxy, victim, seed, first):
 
 
 def check_file(tally, name, clients, writes):
-    """Checks that the file has the writes of a round that it must have, and no others."""
+    """Checks that the file has the writes of a round that it must have, and no others. Returns how many were accepted."""
     marks = [mark for mark, _, _ in writes]
     accepted = {mark for client in clients for mark, reply in client.replies.items() if status_of(reply) in (200, 201)}
     refused = {mark for client in clients for mark, reply in client.replies.items() if status_of(reply) not in (200, 201)}

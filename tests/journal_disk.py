@@ -16,17 +16,15 @@ import tempfile
 from pathlib import Path
 
 from common.arguments import arguments
-from common.example import EXAMPLES
 from common.messages import bulk, message, status_of
+from common.modules import module_in
 from common.proxy import Proxy
 from common.refusal import refusals
 from common.tally import Tally
 from common.wait import wait_until
 from common.wire import Wire
 
-sys.path.insert(0, str(EXAMPLES))
-from journal_file import MAGIC, Failure, Journal  # noqa: E402
-
+journal_file = module_in("examples", "journal_file")
 SECONDS = 30
 BODIES = [b'{"docs":[{"_id":"apple","n":1}]}', b'{"docs":[{"_id":"pear","n":2}]}', b'{"docs":[{"_id":"plum","n":3}]}']
 
@@ -44,8 +42,8 @@ def open_journal(file):
     error = io.StringIO()
     with contextlib.redirect_stderr(error):
         try:
-            journal = Journal(str(file))
-        except Failure as failure:
+            journal = journal_file.Journal(str(file))
+        except journal_file.Failure as failure:
             return str(failure), "", file.stat().st_size
         bodies = [record.body for record in journal.records()]
         journal.file.close()
@@ -54,7 +52,7 @@ def open_journal(file):
 
 def write_journal(file):
     """Writes a journal of three writes, each durable before the next. Returns the offsets of its records, and the end of the last one."""
-    journal = Journal(str(file))
+    journal = journal_file.Journal(str(file))
     places = [journal.written]
     for body in BODIES:
         places.append(journal.append(b"POST", b"/db/_bulk_docs", body, 201, b"[]\n"))
@@ -73,9 +71,9 @@ def check_torn_tails(tally, file):
         if open_journal(file) != (BODIES[:2], line, begin) or file.read_bytes() != whole[:begin]:
             wrong.append(cut)
     tally.expect(f"cut at each of {end - begin} bytes of the last record", wrong, [])
-    for cut in range(len(MAGIC)):
-        file.write_bytes(MAGIC[:cut])
-        if open_journal(file) != ([], "", len(MAGIC)) or file.read_bytes() != MAGIC:
+    for cut in range(len(journal_file.MAGIC)):
+        file.write_bytes(journal_file.MAGIC[:cut])
+        if open_journal(file) != ([], "", len(journal_file.MAGIC)) or file.read_bytes() != journal_file.MAGIC:
             wrong.append(cut)
     tally.expect("cut at each byte of the first line", wrong, [])
     file.write_bytes(whole + bytes(5000))
@@ -107,7 +105,7 @@ def check_damage(tally, file):
 def check_records_not_yet_durable(tally, file):
     """Records that were appended but not yet durable may be torn anywhere: what follows the first torn one is cut, too."""
     file.unlink()
-    journal = Journal(str(file))
+    journal = journal_file.Journal(str(file))
     places = [journal.append(b"POST", b"/db/_bulk_docs", body, 201, b"[]\n") for body in BODIES]
     journal.file.close()
     data = bytearray(file.read_bytes())
@@ -120,7 +118,7 @@ def check_records_not_yet_durable(tally, file):
 def check_failed_fsync(tally, file):
     """After a failed fsync no other one is tried, even if it would succeed."""
     file.unlink()
-    journal, real, outcomes = Journal(str(file)), os.fsync, []
+    journal, real, outcomes = journal_file.Journal(str(file)), os.fsync, []
     length = journal.append(b"POST", b"/db/_bulk_docs", BODIES[0], 201, b"[]\n")
     for fsync in (fail, real):
         os.fsync = fsync
@@ -175,7 +173,7 @@ def check_waiting(tally, program, folder):
         written = wait_until(lambda: file.read_bytes().count(b"\nwrite ") + 1 >= 8, SECONDS)
         tally.expect("seven writes are in the file", written, True)
         tally.expect("a reader while writers wait", status_of(reader.ask(read("none"))), 404)
-        tally.expect("no writer is answered before its write is durable", [wire for wire in wires if has_bytes(wire)], [])
+        tally.expect("no writer is answered before its write is durable", [wire for wire in wires if wire.more_within(0.05)], [])
         (watch / "hold").unlink()
         tally.expect("seven writers", [status_of(wire.reply()) for wire in wires], [201] * 7)
         tally.expect("fsyncs of seven writers", len((watch / "count").read_text()) - before, 2)
@@ -186,17 +184,6 @@ def check_waiting(tally, program, folder):
         status, line = proxy.status()
         tally.expect("the end when the disk fails", (status, line),
                      (1, "journal: a write is done that is not durable: [Errno 5] Input/output error\n"))
-
-
-def has_bytes(wire):
-    """Whether bytes arrive within a moment."""
-    wire.socket.settimeout(0.05)
-    try:
-        return wire.more()
-    except TimeoutError:
-        return False
-    finally:
-        wire.socket.settimeout(SECONDS)
 
 
 def set_file_limit():

@@ -3,7 +3,7 @@
 
 usage: journal_messages.py --program PATH
 
-Both get the same messages in the same order, each on a connection of its own, so both databases stay the same. The last messages are
+Both get the same messages in the same order, each on a connection of its own, so both databases stay equal. The last messages are
 those that only the proxy refuses, or that it refuses differently, as the docstring of journal.py says; their statuses and errors are written
 out here. The last line is 'N passed, M failed'.
 """
@@ -51,15 +51,15 @@ SAME = {
     "a target in UTF-8": "GET /db/é%2Fx HTTP/1.1\r\n\r\n".encode(),
     "percent signs that escape nothing": b"GET /db/%zz%FF HTTP/1.1\r\n\r\n" + FIND,
     "no JSON": message("POST", "/db/_bulk_docs", b"{") + FIND,
-    "a body that nothing reads": b"GET /db/apple HTTP/1.1\r\nContent-Length: 2\r\n\r\n{}" + FIND,
+    "a body that is ignored": b"GET /db/apple HTTP/1.1\r\nContent-Length: 2\r\n\r\n{}" + FIND,
     "other methods": message("PUT", "/db/apple", b"{}") + message("post", "/db/_find", b"{}") + message("DELETE", "/db/apple") + FIND,
     "other paths": message("POST", "//db/_find", b"{}") + message("POST", "/db/_find/", b"{}") + message("GET", "/") + FIND,
     "another database": message("POST", "/other/_bulk_docs", b'{"docs":[]}') + message("GET", "/db%20/x") + FIND,
     "an escaped name of the database": message("POST", "/d%62/_bulk_docs", b'{"docs":[{"_id":"c"}]}') + FIND,
     "a query on a write": message("POST", "/db/_bulk_docs?x=/_find", b'{"docs":[{"_id":"d"}]}') + FIND,
     "no index": message("DELETE", "/db/_index/x/json/none"),
-    "an index that goes": "DELETE /db/_index/x/json/é HTTP/1.1\r\n\r\n".encode() + message("GET", "/db/_index"),
-    "a page of the whole": message("POST", "/db/_find", b'{"selector":{},"limit":2147483647,"conflicts":true}'),
+    "an index that is dropped": "DELETE /db/_index/x/json/é HTTP/1.1\r\n\r\n".encode() + message("GET", "/db/_index"),
+    "a page of all documents": message("POST", "/db/_find", b'{"selector":{},"limit":2147483647,"conflicts":true}'),
 }
 # messages to which the proxy replies differently: the status and the error of its reply
 OTHER = {
@@ -82,7 +82,7 @@ def main():
                 tally.expect(name, (status_of(found), error in found), (status, True))
             proxy.process.kill()
         with Proxy(program, file) as proxy:
-            for name in ("several at once", "an escaped name of the database", "a page of the whole"):
+            for name in ("several at once", "an escaped name of the database", "a page of all documents"):
                 tally.expect(f"{name}, after a start", bytes_back(proxy.port, SAME[name]), bytes_back(port, SAME[name]))
             tally.expect("the proxy is stopped", proxy.stop(), 0)
     return tally.end()

@@ -37,7 +37,7 @@ class Surface:
         return self.schemas.at(value["$ref"]) if "$ref" in value else value
 
     def path_of(self, target):
-        """The path of the document that a target matches, segment by segment: a literal goes before a parameter, without backtracking. None
+        """Returns the path of the document that a target matches, segment by segment: a literal goes before a parameter, without backtracking. None
         if there is no such path."""
         segments, left = target.partition("?")[0].split("/")[1:], list(self.paths)
         for place, segment in enumerate(segments):
@@ -47,12 +47,12 @@ class Surface:
         return next((path for path in left if len(path) == len(segments)), None)
 
     def operation(self, method, target):
-        """The operation of a request; None if the document has none."""
+        """Returns the operation of a request; None if the document has none."""
         path = self.path_of(target)
         return self.paths[path].get(method.lower()) if path else None
 
     def reply_schema(self, method, target, status):
-        """The schema of a reply; None if the document does not have this status there."""
+        """Returns the schema of a reply; None if the document does not have this status there."""
         operation, path = self.operation(method, target), self.path_of(target)
         responses = operation["responses"] if operation else self.document["x-otherwise"]
         if operation is None and status == 405 and path is None:
@@ -66,7 +66,7 @@ class Surface:
 
 
 def parse(text):
-    """The value of a text. None, which no schema of a body allows, if the text is not JSON or nests more than 127 deep; a schema cannot
+    """Returns the value of a text. None, which no schema of a body allows, if the text is not JSON or nests more than 127 deep; a schema cannot
     express the latter."""
     try:
         value = json.loads(text)
@@ -81,7 +81,8 @@ def depth(value):
 
 
 def altered(value):
-    """Values of another shape: in an object, or in one of the items of an array, a member is left out, added, or of another type."""
+    """Yields values of another shape: in an object, or in one of the first three items of an array, a member is left out, added, or of another
+    type."""
     if isinstance(value, list):
         for place, item in enumerate(value[:3]):
             yield from ([*value[:place], other, *value[place + 1:]] for other in altered(item))
@@ -93,7 +94,7 @@ def altered(value):
 
 
 def reference_examples(text):
-    """The examples of the reference: method, target, body, and the status and text of the reply."""
+    """Yields the examples of the reference: method, target, body, and the status and text of the reply."""
     for _, examples in sections_of(text):
         for example in examples:
             method, _, target = example.request.partition(" ")
@@ -101,7 +102,7 @@ def reference_examples(text):
 
 
 def session_examples():
-    """The messages of tests/sessions whose heads have a method and a target."""
+    """Yields the messages of tests/sessions whose heads have a method and a target, and whose replies have a body, each with its reply."""
     for file in sorted((TOP / "tests" / "sessions").glob("*.json")):
         for session in json.loads(file.read_text(encoding="utf-8")):
             for part in session["parts"]:
@@ -112,7 +113,7 @@ def session_examples():
 
 
 def conversation_examples():
-    """The messages of tests/conversations that are followed at once by a reply with all bytes."""
+    """Yields the messages of tests/conversations that are followed at once by a reply with all bytes, each with its reply."""
     for file in sorted((TOP / "tests" / "conversations").glob("*.txt")):
         text = re.sub(r"\n +", " ", file.read_text(encoding="utf-8"))
         for found in re.finditer(r'^> ([A-Z]+) (\S+) ?(.*)\n< ([0-9]+) (.*)$', text, re.MULTILINE):
@@ -146,17 +147,6 @@ def allows_altered(surface, schema, value, other):
     return surface.schemas.allows(schema, other)
 
 
-def schemas_in(value):
-    """All schemas inside a value of the document."""
-    if isinstance(value, dict):
-        yield from ([value["schema"]] if "schema" in value else [])
-        for inner in value.values():
-            yield from schemas_in(inner)
-    elif isinstance(value, list):
-        for inner in value:
-            yield from schemas_in(inner)
-
-
 def references_in(value):
     if isinstance(value, dict):
         yield from ([value["$ref"]] if isinstance(value.get("$ref"), str) else [])
@@ -183,7 +173,7 @@ def check_document(tally, surface, text):
 
 
 def refusals_of(surface):
-    """Each status, with each error and reason of its responses."""
+    """Yields each status from 400 on, with each error and reason of its responses."""
     operations = [item[method] for item in surface.document["paths"].values() for method in METHODS if method in item]
     for responses in [*(operation["responses"] for operation in operations), surface.document["x-otherwise"]]:
         for status, response in responses.items():

@@ -47,7 +47,7 @@ SESSIONS = [
 
 
 def checks(program):
-    """Each check: its name, what was found, and what was expected: the output, the exit status and the line on standard error."""
+    """Yields each check: its name, what was found, and what was expected: the output, the exit status and the line on standard error."""
     for line in RIGHT:
         args = line.split(" ")
         yield line, run_command([program, *args], QUERY % args[0].encode(), SECONDS), (PAGE, (0, b""))

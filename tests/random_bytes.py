@@ -10,7 +10,7 @@ comes back for the tail must be whole replies. Then the session ends in one of i
 close, or the input was refused, and then the last reply is a refusal that ends a session. Over TCP one program serves all clients, two at
 a time: both connections are open, and pieces of their messages, of random sizes, are sent in random order. A message takes effect at its
 last byte, so the model knows the order of the commands; a client that comes after a tail is answered as the model says. A million bytes
-go over standard input and as many over TCP, with --full ten million. The last line is 'N passed, M failed'.
+go over standard input and as many over TCP, with --full ten million, with --bytes that many. The last line is 'N passed, M failed'.
 """
 import contextlib
 import copy
@@ -55,7 +55,7 @@ class RandomMessages:
                     self.targets.append((head.split(b" ")[1][4:].decode(), json.loads(body)))
 
     def value(self):
-        """A random value: one of `NO_VALUES` or `VALUES`, or a part of some body."""
+        """Returns a random value: one of `NO_VALUES` or `VALUES`, or a part of some body."""
         if self.random.random() < 0.02:
             return self.random.choice(NO_VALUES)
         if self.random.random() < 0.5:
@@ -66,7 +66,7 @@ class RandomMessages:
         return copy.deepcopy(value)
 
     def change(self, value):
-        """The value with one random change in it."""
+        """Returns the value with one random change in it."""
         chance = self.random.random()
         if not isinstance(value, (list, dict)) or not value or chance < 0.1:
             return self.value()
@@ -87,7 +87,7 @@ class RandomMessages:
         return {**value, name: self.change(value[name])}
 
     def mutate(self, data, most):
-        """The bytes with 1 to `most` random changes."""
+        """Returns the bytes with 1 to `most` random changes."""
         data = bytearray(data)
         for _ in range(self.random.randint(1, most)):
             place = self.random.randrange(len(data) + 1)
@@ -104,7 +104,7 @@ class RandomMessages:
         return bytes(data)
 
     def message(self):
-        """A complete message: an unchanged one, or one with a changed body."""
+        """Returns a complete message: an unchanged one, or one with a changed body."""
         if self.random.random() < 0.2:
             return self.random.choice(self.whole)
         target, value = self.random.choice(self.targets)
@@ -114,7 +114,7 @@ class RandomMessages:
         return post(target, self.mutate(body, 3) if self.random.random() < 0.15 and body else body)
 
     def tail(self, harmless):
-        """Bytes that may end the session. Harmless ones write nothing to the database."""
+        """Returns bytes that may end the session. Harmless ones write nothing to the database."""
         kind = self.random.randrange(4)
         if kind == 0:
             return self.random.randbytes(self.random.choice([1, 10, 100, 1000, 20_000]))
@@ -128,7 +128,7 @@ class RandomMessages:
 
 
 def tail_fault(output, end, is_tcp):
-    """The fault in what came back for a tail; None if it is right. Over TCP it is unknown how the session ended."""
+    """Returns the fault in what came back for a tail; None if it is right. Over TCP it is unknown how the session ended."""
     replies, left = replies_in(output)
     silent = bytes(left).startswith(b"HTTP/1.1 ") and bytes(left).endswith(b"\r\n\r\n")
     if left and not silent:

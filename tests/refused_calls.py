@@ -25,14 +25,15 @@ RUN, COMMAND, CALL = "the run was refused memory", "a command was refused memory
 # the crate of each test, its name, and its messages about a refused call
 TESTS = [
     ("mg_tests", "run_tests::a_refused_run_has_run_nothing", {RUN, COMMAND}),
-    ("mg_thread_tests", "commit_tests::one_seat_learns_from_another_and_both_close", {CALL}),
+    ("mg_thread_tests", "commit_tests::two_seats_see_each_others_writes_and_close", {CALL}),
     ("mg_thread_tests", "commit_tests::a_reshard_is_one_commit_and_changes_no_page", {CALL}),
 ]
 PASSED, OWN = "ok", "memory"
 
 
 def outcome(refusal, tests, name, request):
-    """Runs a test while a request is refused. Returns its last message, `ok` if it passed, or all its output if it did not end by a panic."""
+    """Runs a test while a request is refused. Returns `ok` if it passed; the first line of its standard error if it ended by a panic
+    (`memory` alone if the line begins with `memory: `); else its exit status and its standard error."""
     refusal.reset()
     refusal.refuse("memory", request, request)
     _, (status, error) = refusal.run([str(tests), name], b"")
@@ -45,7 +46,7 @@ def outcome(refusal, tests, name, request):
 
 
 def outcomes(refusal, tests, name):
-    """Each outcome, with the refused requests that led to it; and the number of requests without a refusal."""
+    """Returns each outcome, with the refused requests that led to it; and the number of requests without a refusal."""
     found = {outcome(refusal, tests, name, 0): [0]}
     count = refusal.calls("memory")
     for request in itertools.count(1):

@@ -5,8 +5,9 @@ usage: refused_memory.py --program PATH [--full] [--only NAME ..]
 
 The messages are those of the conversations of tests/conversations named below, followed by some that read everything: the indexes, each
 document with its conflicts, and the rows of each index that was created. Each conversation is run with 1 and 7 shards and 1 and 2
-workers. The shim refuse/refuse.c refuses its nth request for memory, or that and all later ones, for each n until a run meets no refusal
-(without --full for a dozen n, spread over all; and for two conversations, with 7 shards and 2 workers, for each n alone). A run is right if
+workers. The shim refuse/refuse.c refuses its nth request for memory, or that and all later ones, for each n until a run meets no refusal.
+Without --full these are about ten n, spread over all requests; for two conversations, with 7 shards and 2 workers, each n where one request
+alone is refused. A run is right if
 - nothing was written and the program ended with `mangod: out of memory` (the session never began), and the refused request is one that a
   session without input makes, too; or
 - each reply is `out_of_memory`, or that of the model (the folder model/), which gets no command that was answered `out_of_memory`; and the
@@ -44,7 +45,7 @@ RUNS = 10
 
 
 def audit(messages):
-    """Messages that read everything, and the rows of each index that was created."""
+    """Returns messages that read everything, and the rows of each index that was created."""
     reads = [get("_index"), post("_find", b'{"selector":{},"conflicts":true,"limit":1000}')]
     for message in messages:
         if message.startswith(b"POST /db/_index "):
@@ -62,7 +63,8 @@ class Audited:
         self.messages = conversation.messages() + audit(conversation.messages())
 
     def fault(self, output, end):
-        """The fault of a run (None if it is right), and the numbers of the messages that were refused."""
+        """Returns the fault of a run (None if it is right), and the numbers of the messages that were refused; only `start` if the session never
+        began."""
         if (output, end) == (b"", ENDS["start"]):
             return None, ["start"]
         database, refused, at, count = Database(), [], 0, 0
@@ -87,7 +89,8 @@ class Audited:
 
 
 def refuse_each(refusal, command, audited, onward, step, begin):
-    """Refuses request after request until a run meets no refusal. Returns the faults, and the messages that were refused in some run."""
+    """Refuses every `step`th request, from `begin` on, until a run meets no refusal; with `onward`, all later ones, too. Returns the faults, and
+    the messages that were refused in some run."""
     given = b"".join(audited.messages)
     start = count_requests(refusal, command, b"")
     faults, seen, first = [], set(), begin
@@ -109,14 +112,14 @@ def refuse_each(refusal, command, audited, onward, step, begin):
 
 
 def count_requests(refusal, command, given):
-    """How many requests for memory a run makes if none is refused."""
+    """Returns how many requests for memory a run makes if none is refused."""
     refusal.reset()
     refusal.run(command, given)
     return refusal.calls("memory")
 
 
 def faults_of(refusal, program, audited, place, full):
-    """The faults of a conversation with one number of shards and of workers."""
+    """Returns the faults of a conversation with one number of shards and of workers."""
     shards, workers = SETTINGS[place]
     command = session_command(program, shards, workers)
     step = 1 if full else max(1, count_requests(refusal, command, b"".join(audited.messages)) // RUNS)

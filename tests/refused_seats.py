@@ -4,7 +4,7 @@
 usage: refused_seats.py --program PATH [--full]
 
 One client sends a command while the shim refuse/refuse.c refuses its nth request for memory, or that and all later ones, for each n until
-a command meets no refusal (without --full, not for each n). Its reply is that of the model (the folder model/), or `out_of_memory`, the
+a command meets no refusal (without --full, not for each n). The reply is that of the model (the folder model/), or `out_of_memory`, the
 latter only if a request was refused. Then the other client, for whom nothing is refused, sees all indexes and documents as the model has
 them: nothing of a command that was answered `out_of_memory`, and everything of one that was accepted. A connection may end after
 `out_of_memory`; then the next one is served. The first write after a start is tested in the same way, while all requests from the nth on
@@ -54,7 +54,7 @@ BY_NUMBER = find(selector={"n": {"$gte": 30}}, fields=["_id", "n"], limit=100_00
 
 
 def three_edits(database, turn):
-    """A bulk of an edit of one document, an edit of another that conflicts, and a document without an id."""
+    """Returns a bulk of an edit of one document, an edit of another that conflicts, and a document without an id."""
     leaf = database.documents["e"].leaves()[0]
     return bulk([{"_id": "e", "_rev": text_of(leaf), "n": turn}, {"_id": "f", "n": 0}, {"n": turn}])
 
@@ -67,7 +67,7 @@ COMMANDS = {
         [{"_id": name, "_rev": f"2-{turn}", "_revisions": {"start": 2, "ids": [f"{turn}", f"p{turn}"]}, "n": turn} for name in "gh"]
         + [{"_id": "f", "_rev": "2-z", "_deleted": True}], new_edits=False),
     "an index": lambda database, turn: index(["m", "n"][turn % 2], "other"),
-    "an index that goes": lambda database, turn: b"DELETE /db/_index/x/json/other HTTP/1.1\r\n\r\n",
+    "an index that is dropped": lambda database, turn: b"DELETE /db/_index/x/json/other HTTP/1.1\r\n\r\n",
     "a page": lambda database, turn: BY_INDEX,
     "an explanation": lambda database, turn: post("_explain", b'{"selector":{"n":{"$gte":3,"$lt":9}},"sort":["n"]}'),
     "the indexes": lambda database, turn: LIST,
@@ -95,7 +95,7 @@ class Seats:
                 raise ValueError(fault)
 
     def fault(self, message, found):
-        """The fault in a reply, which must be that of the model; None if it is right."""
+        """Returns the fault in a reply, which must be that of the model; None if it is right."""
         expected = self.database.answer(message)
         return None if found == expected else f"{message[:80]!r}: {found[-300:]!r}\n    expected {expected[-300:]!r}"
 
@@ -170,7 +170,7 @@ def check_first_writes(refusal, launch, tally):
 
 
 def check_connections(port, refusal, label, tally):
-    """Memory is refused from the moment a client connects. It gets its reply, `out_of_memory` or none, and the next client is served."""
+    """Memory is refused from the moment a client connects. It gets its reply, `out_of_memory`, or nothing; and the next client is served."""
     faults, count = [], 0
     expected = Database().answer(LIST)
     for client in both_seats(port):
@@ -286,8 +286,8 @@ def check_starts(refusal, program, tally):
 
 
 def first_reply(process, port, refusal):
-    """The first right reply of a starting program; empty if it ended first. The first client to connect ends the refusals; it may have been
-    refused memory itself."""
+    """Returns the first reply of a starting program that is not `out_of_memory`; empty if it ended first. The first client to
+    connect ends the refusals; it may have been refused memory itself."""
     while process.poll() is None:
         try:
             client = Wire(port)

@@ -27,7 +27,7 @@ DOCUMENTS = 20_000
 
 
 def faults_of(refusal, program, conversation, shards):
-    """The faults of a conversation while threads are refused."""
+    """Yields the faults of a conversation while threads are refused."""
     for workers, (first, last) in itertools.product(WORKERS, REFUSED):
         refusal.reset()
         refusal.refuse("threads", first, last)
@@ -36,7 +36,7 @@ def faults_of(refusal, program, conversation, shards):
 
 
 def many_documents():
-    """The input of a conversation of many documents, and its transcript."""
+    """Returns the input of a conversation of many documents, and its transcript."""
     documents = [{"_id": f"d{i:05}", "_rev": "1-a", "k": i % 7, "n": i * 7919 % 100_003} for i in range(DOCUMENTS)]
     commands = [("_bulk_docs", {"docs": documents, "new_edits": False}), ("_find", {"selector": {"k": 3}, "fields": ["_id"], "limit": 5000}),
                 ("_index", {"index": {"fields": ["n"]}, "ddoc": "x", "name": "n"}), ("_find", {"selector": {"k": {"$gt": 6}}}),

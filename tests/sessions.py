@@ -34,7 +34,7 @@ def bytes_of(value):
 
 
 def fault_of(found, expected):
-    """What is wrong in a run; an empty text if nothing is."""
+    """Returns what is wrong in a run; an empty text if nothing is."""
     (output, ending), (transcript, end) = found, expected
     faults = []
     if output != transcript:
@@ -45,7 +45,7 @@ def fault_of(found, expected):
 
 
 def transcripts_of(conversation):
-    """The bytes of a conversation, and each place where a reply is due, with the transcript up to there."""
+    """Returns the bytes of a conversation, and each place where a reply is due, with the transcript up to there."""
     data, transcript, due = b"", b"", []
     for part in conversation["parts"]:
         data += bytes_of(part["in"])
@@ -56,7 +56,7 @@ def transcripts_of(conversation):
 
 
 def cases_of(conversation):
-    """Each case of a conversation: its name, its input, its transcript, and how it ends."""
+    """Yields each case of a conversation: its name, its input, its transcript, and how it ends."""
     data, due = transcripts_of(conversation)
     end = conversation.get("end", "Eof")
     yield conversation["name"], data, due[-1][1] if due else b"", end

@@ -32,13 +32,13 @@ def replicated(documents):
 
 
 def edit(name, turn):
-    """A replicated edit of a document, on top of that of the turn before; the first turn is 1."""
+    """Returns a replicated edit of a document, on top of that of the turn before; the first turn is 1."""
     path = {"start": turn, "ids": [f"r{turn}", f"r{turn - 1}"][: min(turn, 2)]}
     return {"_id": name, "_rev": f"{turn}-r{turn}", "_revisions": path, "n": number_of(name) * 7 + turn}
 
 
 def number_of(name):
-    """A number by which an index orders the documents otherwise than by their ids."""
+    """Returns a number by which an index orders the documents otherwise than by their ids."""
     return int(name[1:]) * 7919 % 1_000_003
 
 
@@ -56,12 +56,13 @@ class Server:
             self.is_made &= self.client.ask(replicated(documents)) == ACCEPTED
 
     def seconds(self):
-        """The processor time of all threads of the program so far."""
+        """Returns the processor time of all threads of the program so far."""
         tasks = Path(f"/proc/{self.program.pid}/task").iterdir()
         return sum(int((task / "schedstat").read_text().split()[0]) for task in tasks) / 1e9
 
     def commits(self, messages):
-        """The requests for memory and the processor time of a commit, and whether each commit was accepted."""
+        """Sends the messages, each of which makes a commit. Returns the requests for memory and the processor time of a commit, and whether each
+        commit was accepted."""
         self.refusal.reset()
         before, accepted = self.seconds(), 0
         for first in range(0, len(messages), AT_ONCE):
@@ -86,8 +87,8 @@ class Server:
 
 
 def costs(launch, refusal, size):
-    """The least requests and the least time of a commit in a database of `size` documents, for edits and for additions; and whether all
-    commits were accepted."""
+    """Returns the least number of requests and the least time of a commit in a database of `size` documents, for edits and for additions; and
+    whether all commits were accepted."""
     with contextlib.closing(Server(launch, refusal, size)) as server:
         rounds = {kind: [getattr(server, kind)(turn) for turn in range(2, 2 + ROUNDS)] for kind in ("edits", "additions")}
         found = {kind: [server.commits(messages) for messages in turns] for kind, turns in rounds.items()}

@@ -1,5 +1,5 @@
 #!/usr/bin/env python3
-"""Holds sessions with the program over TCP, with sockets, Python's http.client and curl.
+"""Holds sessions with the program over TCP, with bytes, Python's http.client and curl.
 
 usage: tcp.py --program PATH [--shards N] [--workers N] [--full]
 
@@ -19,7 +19,7 @@ from common.arguments import arguments
 from common.messages import post, reply
 from common.server import Launch, listening, start
 from common.tally import Tally
-from common.wire import Client, connect, is_closed, read, replies_to, reset
+from common.wire import Client, Wire, replies_to
 
 SECONDS = 30
 
@@ -42,24 +42,21 @@ def one_after_another(port, tally):
     tally.expect("the first client", replies_to(port, BULK), DONE)
     tally.expect("the second client", replies_to(port, FIND), PAGE)
     tally.expect("messages at once", replies_to(port, FIND + BULK + FIND), PAGE + DONE + PAGE)
-    with connect(port) as connection:
+    with Wire(port) as wire:
         for turn in range(3):
-            connection.sendall(FIND)
-            tally.expect(f"turn {turn} of one connection", read(connection, len(PAGE)), PAGE)
-        connection.shutdown(socket.SHUT_WR)
-        tally.expect("the end of a connection", read(connection, 1), b"")
+            tally.expect(f"turn {turn} of one connection", wire.ask(FIND), PAGE)
+        wire.finish()
+        tally.expect("the end of a connection", (wire.rest(), wire.was_reset), (b"", False))
 
 
 def cut_messages(port, tally):
     """A message is sent in two parts, cut at each of its bytes."""
     wrong = []
     for place in range(1, len(FIND)):
-        with connect(port) as connection:
-            connection.setsockopt(socket.IPPROTO_TCP, socket.TCP_NODELAY, 1)
-            connection.sendall(FIND[:place])
+        with Wire(port) as wire:
+            wire.send(FIND[:place])
             time.sleep(0.002)
-            connection.sendall(FIND[place:])
-            if read(connection, len(PAGE)) != PAGE:
+            if wire.ask(FIND[place:]) != PAGE:
                 wrong.append(place)
     tally.expect("cut at each byte", wrong, [])
 
@@ -67,75 +64,65 @@ def cut_messages(port, tally):
 def clients_that_leave(port, tally):
     """Clients end or reset their connection in the middle of a head or a body: nothing is done, and the next client is served."""
     for name, part in [("no byte", b""), ("half a head", BULK[:30]), ("half a body", BULK[:-20])]:
-        for way, leave in [("close", socket.socket.close), ("reset", reset)]:
-            connection = connect(port)
-            connection.sendall(part)
+        for way, leave in [("close", Wire.close), ("reset", Wire.reset)]:
+            wire = Wire(port)
+            wire.send(part)
             time.sleep(0.01)
-            leave(connection)
+            leave(wire)
             tally.expect(f"{way} after {name}", replies_to(port, FIND), EMPTY)
-    with connect(port) as connection:
-        connection.sendall(BULK[:-20])
-        connection.shutdown(socket.SHUT_WR)
-        tally.expect("no reply to an unfinished message", read(connection, 1), b"")
-    with connect(port) as connection:
-        connection.sendall(NOT_A_HEAD)
-        tally.expect("bytes that are not a head", read(connection, 1 << 16), BAD_HEAD)
-    connection = connect(port)
-    connection.sendall(FIND * 2000)
+    tally.expect("no reply to an unfinished message", replies_to(port, BULK[:-20]), b"")
+    with Wire(port) as wire:
+        wire.send(NOT_A_HEAD)
+        tally.expect("bytes that are not a head", (wire.rest(), wire.was_reset), (BAD_HEAD, False))
+    wire = Wire(port)
+    wire.send(FIND * 2000)
     time.sleep(0.05)
-    reset(connection)
+    wire.reset()
     tally.expect("reset while replies are written", replies_to(port, FIND), EMPTY)
 
 
 def a_client_that_pauses(port, tally):
     """A client that pauses between messages, or has sent none, does not keep the only session from another client."""
-    with connect(port) as silent, connect(port) as first, connect(port) as second:
-        first.sendall(FIND)
-        tally.expect("the first of two", read(first, len(PAGE)), PAGE)
-        second.sendall(FIND)
-        tally.expect("the second of two", read(second, len(PAGE)), PAGE)
-        first.sendall(FIND + FIND[:30])
-        tally.expect("the first again", read(first, len(PAGE)), PAGE)
+    with Wire(port) as silent, Wire(port) as first, Wire(port) as second:
+        tally.expect("the first of two", first.ask(FIND), PAGE)
+        tally.expect("the second of two", second.ask(FIND), PAGE)
+        tally.expect("the first again", first.ask(FIND + FIND[:30]), PAGE)
         time.sleep(0.2)
-        first.sendall(FIND[30:])
-        tally.expect("a message of which half came with the one before", read(first, len(PAGE)), PAGE)
-        silent.sendall(FIND)
-        tally.expect("the silent one", read(silent, len(PAGE)), PAGE)
+        tally.expect("a message of which half came with the one before", first.ask(FIND[30:]), PAGE)
+        tally.expect("the silent one", silent.ask(FIND), PAGE)
 
 
 def pauses_within_a_message(port, tally):
     """A message is sent in parts. After each part is a pause that, between messages, would give the session to others."""
-    with connect(port) as connection:
+    with Wire(port) as wire:
         for place in range(0, len(FIND), 10):
-            connection.sendall(FIND[place:place + 10])
+            wire.send(FIND[place : place + 10])
             time.sleep(0.05)
-        tally.expect("pauses within a message", read(connection, len(PAGE)), PAGE)
+        tally.expect("pauses within a message", wire.reply(), PAGE)
 
 
 def a_hundred_idle(port, tally):
     """With 100 idle connections, half of which got a reply, a new client is served within 2 seconds. Those that got a reply are served
     again, and after 5 seconds of silence all are closed."""
     replies_to(port, BULK)
-    connections = [connect(port) for _ in range(100)]
+    wires = [Wire(port) for _ in range(100)]
     try:
-        for connection in connections[:50]:
-            connection.sendall(FIND)
-            tally.expect("one of fifty", read(connection, len(PAGE)), PAGE)
+        for wire in wires[:50]:
+            tally.expect("one of fifty", wire.ask(FIND), PAGE)
         begin = time.monotonic()
         tally.expect("behind 100", replies_to(port, FIND), PAGE)
         tally.expect("within 2 seconds", time.monotonic() - begin < 2, True)
-        for connection in connections[:50]:
-            connection.sendall(FIND)
-        again = [read(connection, len(PAGE)) for connection in connections[:50]]
-        tally.expect("fifty at once", again, [PAGE] * 50)
+        for wire in wires[:50]:
+            wire.send(FIND)
+        tally.expect("fifty at once", [wire.reply() for wire in wires[:50]], [PAGE] * 50)
         silent = time.monotonic()
-        tally.expect("none is closed early", [is_closed(connection, 0) for connection in connections[:50]], [False] * 50)
-        closed = [is_closed(connection, silent + 8 - time.monotonic()) for connection in connections]
+        tally.expect("none is closed early", [wire.is_closed(0) for wire in wires[:50]], [False] * 50)
+        closed = [wire.is_closed(silent + 8 - time.monotonic()) for wire in wires]
         tally.expect("closed after silence", closed, [True] * 100)
         tally.expect("not before 5 seconds", time.monotonic() - silent > 4.5, True)
     finally:
-        for connection in connections:
-            connection.close()
+        for wire in wires:
+            wire.close()
 
 
 def busy_clients(port, tally):
@@ -143,21 +130,20 @@ def busy_clients(port, tally):
     last = time.monotonic() + 2
 
     def ask_again_and_again():
-        with connect(port) as connection:
-            served = 0
+        with Wire(port) as wire:
+            replies = set()
             while time.monotonic() < last:
-                connection.sendall(FIND)
-                served += read(connection, len(PAGE)) == PAGE
-            return served
+                replies.add(wire.ask(FIND))
+            return replies
 
     def ask_once_more():
         time.sleep(0.3)
         begin = time.monotonic()
         return replies_to(port, FIND), time.monotonic() - begin < 1
 
-    *counts, other = side_by_side([ask_again_and_again] * 6 + [ask_once_more])
+    *served, other = side_by_side([ask_again_and_again] * 6 + [ask_once_more])
     tally.expect("one more client", other, (PAGE, True))
-    tally.expect("all of them", [served > 0 for served in counts], [True] * 6)
+    tally.expect("all of them", served, [{PAGE}] * 6)
 
 
 def refusals_arrive(port, tally):
@@ -165,9 +151,10 @@ def refusals_arrive(port, tally):
     head = f"POST /db/_bulk_docs HTTP/1.1\r\nContent-Length: {NINE_MEGABYTES}\r\n\r\n".encode()
     for _ in range(4):
         for message in (head, b"POST /db/_bulk_docs HTTP/1.1\r\n\r\n"):
-            with connect(port) as connection:
-                connection.sendall(message + bytes(NINE_MEGABYTES))
-                found = read(connection, 1 << 16)
+            with Wire(port) as wire:
+                wire.send(message + bytes(NINE_MEGABYTES))
+                found = wire.rest()
+            tally.expect("the end of a refusal", wire.was_reset, False)
             if message is head:
                 tally.expect("too large", found, TOO_LARGE)
             else:
@@ -244,7 +231,7 @@ def pages_until(port, written):
 
 def whole_bulks(port, tally):
     """One client writes the same new value to ten documents in each bulk, and another one reshards. On each page three others see ten equal
-    values; after the last bulk was answered, the last value."""
+    values, or none before the first bulk; after the last bulk was answered, the last value."""
     ids = [f"d{number}" for number in range(10)]
     replies, written = [], threading.Event()
 
@@ -292,7 +279,7 @@ def more_clients_than_seats(port, tally):
 
 
 def bad_addresses(launch, tally):
-    """Addresses at which the program cannot listen."""
+    """The program reports an address at which it cannot listen, and ends."""
     with socket.create_server(("127.0.0.1", 0)) as taken:
         for address in [f"127.0.0.1:{taken.getsockname()[1]}", "127.0.0.1", "127.0.0.1:x", "256.0.0.1:1", ""]:
             command = [launch.program, "db", "1", "1", "1", address]
@@ -304,10 +291,10 @@ def few_descriptors(launch, tally):
     """With 16 descriptors and 40 connections a new client is served, since the connections that were idle longest are closed. A client is
     also served after all of them are gone."""
     with listening(launch, 2, descriptors=16) as port:
-        connections = [connect(port) for _ in range(40)]
+        wires = [Wire(port) for _ in range(40)]
         tally.expect("behind 40", replies_to(port, BULK), DONE)
-        for connection in connections:
-            connection.close()
+        for wire in wires:
+            wire.close()
         tally.expect("after 40", replies_to(port, FIND), PAGE)
 
 
@@ -315,9 +302,8 @@ def host_names(launch, tally):
     """The program listens at host names and at IPv6 addresses, and SIGTERM ends it at once."""
     for host in ["localhost", "[::1]"]:
         program, port = start(launch, 1, host=host)
-        with socket.create_connection((host.strip("[]"), port), timeout=SECONDS) as connection:
-            connection.sendall(BULK)
-            tally.expect(f"at {host}", read(connection, len(DONE)), DONE)
+        with Wire(port, host.strip("[]")) as wire:
+            tally.expect(f"at {host}", wire.ask(BULK), DONE)
             program.terminate()
             tally.expect(f"SIGTERM at {host}", program.wait(SECONDS), -signal.SIGTERM)
         program.communicate()
@@ -335,12 +321,11 @@ def deadlines(launch, tally):
         connection.recv(10_000)
 
     def ask_other(port, begin):
-        with socket.create_connection(("127.0.0.1", port), timeout=90) as connection:
-            connection.sendall(FIND)
-            return read(connection, len(EMPTY)), time.monotonic() - begin
+        with Wire(port, seconds=90) as wire:
+            return wire.ask(FIND), time.monotonic() - begin
 
     def behind(act):
-        """The reply to another client that waits for the only session, and whether it waited about 60 seconds."""
+        """Returns the reply to another client that waits for the only session, and whether it waited about 60 seconds."""
         with listening(launch, 1) as port, socket.socket() as connection:
             client = Client(port)
             for part in range(4):

@@ -1,136 +1,122 @@
 #!/usr/bin/env python3
-"""Compares revision trees with a plain program, which keeps the accepted paths and searches them from the first.
+"""Sends all triples of some revision paths, and compares each reply with that of a model, which is checked by plain rules.
 
 usage: trees.py --program PATH [--shards 1,7]
 
 Each sequence of three of seven paths, which may repeat, goes to a document of its own, one path after another, as replication sends them.
-After each path the reply, the served document and its conflicts must be those of the plain program, by CouchDB's rule: the best leaf is
-one that is not deleted, then the higher position, then the greater id. At the end an edit of each known revision must be accepted exactly
-if the revision is a leaf. There is one process `PATH db SHARDS 1 1 -` for each number of shards; a document passes or fails as one. Prints
-the first wrong reply of each document; the last line is 'N passed, M failed'.
+After each path the document is read with its conflicts, and at the end each known revision is edited. The expected replies are those of the
+model (the folder model/). The rules of model/paths.py, which keep the accepted paths and search them from the first, check the model:
+- it accepts a path exactly if the path fits the accepted ones;
+- then it has the same leaves in the same order, best first, and serves the same winner and conflicts;
+- it accepts an edit exactly if the edited revision is a leaf.
+There is one process `PATH db SHARDS 1 1 -` for each number of shards. A document passes or fails as one, first in the model, then in the
+program. Prints the first fault of the model and the first wrong reply of each document; the last line is 'N passed, M failed'.
 """
-import hashlib
 import itertools
+import json
 import sys
 
 from common.arguments import arguments
-from common.messages import get, post, replies_in
+from common.messages import bulk, get, replies_in
 from common.session import ENDS, run_session
 from common.tally import Tally
-from model.documents import text_of
-from model.values import compact
+from model.database import Database
+from model.documents import Document, text_of
+from model.paths import Path, fits, known_in, leaves_of, served_of
 
-# paths: the newest position, the ids from the newest on, and whether the newest revision is deleted
 PATHS = [
-    (1, ["a"], False),
-    (2, ["b", "a"], False),
-    (2, ["b", "c"], True),
-    (2, ["b"], True),
-    (3, ["d", "b", "a"], True),
-    (3, ["e", "b"], False),
-    (2, ["f", "a"], False),
+    Path(1, ["a"], False),
+    Path(2, ["b", "a"], False),
+    Path(2, ["b", "c"], True),
+    Path(2, ["b"], True),
+    Path(3, ["d", "b", "a"], True),
+    Path(3, ["e", "b"], False),
+    Path(2, ["f", "a"], False),
 ]
 
 
-def revisions_of(path):
-    start, ids, _ = path
-    return [(start - i, name) for i, name in enumerate(ids)]
+class ModelFault(Exception):
+    """The model has something else than the rules give."""
 
 
-def parent_of(accepted, revision):
-    """The parent of a revision, from the first path that gives one; None if no path does."""
-    for path in accepted:
-        for child, parent in itertools.pairwise(revisions_of(path)):
-            if child == revision:
-                return parent
-    return None
+class Case:
+    """A document that gets some paths: its messages, each with the reply of the model, up to the first fault of the model if it has one."""
+
+    def __init__(self, name, paths):
+        self.name, self.database, self.accepted = name, Database(), []
+        self.messages, self.replies, self.model_faults = [], [], []
+        try:
+            self.send(paths)
+        except ModelFault as fault:
+            self.model_faults.append(fault)
+
+    def send(self, paths):
+        """Sends the paths, and reads the document after each; then edits each revision."""
+        for path in paths:
+            self.replicate(path)
+            self.read()
+        for revision in known_in(self.accepted):
+            self.edit(revision)
+
+    def ask(self, message):
+        """Adds a message, and returns the value of the model's reply."""
+        [reply], _ = replies_in(self.database.answer(message))
+        self.messages.append(message)
+        self.replies.append(reply)
+        return json.loads(reply.body)
+
+    def check_model(self, what, found, expected):
+        """Compares what the model has after the last message with what the rules give. Raises the difference."""
+        if found != expected:
+            raise ModelFault(f"after {self.messages[-1]!r} the model has the {what} {found}, the rules give {expected}")
+
+    def replicate(self, path):
+        """Sends a path, which is accepted if it fits."""
+        document = {"_id": self.name, "_revisions": {"start": path.start, "ids": path.ids}}
+        refusals = self.ask(bulk([{**document, "_deleted": True} if path.is_deleted else document], new_edits=False))
+        self.check_model("errors", [refusal["error"] for refusal in refusals], [] if fits(self.accepted, path) else ["bad_history"])
+        if fits(self.accepted, path):
+            self.accepted.append(path)
+
+    def read(self):
+        """Reads the document with its conflicts."""
+        value = self.ask(get(f"{self.name}?conflicts=true"))
+        served = [value["_rev"], *value.get("_conflicts", [])] if "_rev" in value else []
+        self.check_model("leaves", self.database.documents.get(self.name, Document()).leaves(), leaves_of(self.accepted))
+        self.check_model("winner and conflicts", served, [*map(text_of, served_of(self.accepted))])
+
+    def edit(self, revision):
+        """Edits a revision, which is accepted if the revision is a leaf. The accepted paths still say which of the other revisions are leaves."""
+        [entry] = self.ask(bulk([{"_id": self.name, "_rev": text_of(revision)}]))
+        self.check_model("outcome", entry.get("error", "ok"), "ok" if revision in leaves_of(self.accepted) else "conflict")
+
+    def fault(self, replies):
+        """Returns the first message whose reply is not that of the model; None if there is none."""
+        for message, expected, found in itertools.zip_longest(self.messages, self.replies, replies):
+            if found != expected:
+                return f"{message!r}\n    replied  {found}\n    expected {expected}"
+        return None
 
 
-def fits(accepted, path):
-    return all(parent_of(accepted, child) in (None, parent) for child, parent in itertools.pairwise(revisions_of(path)))
-
-
-def known_in(accepted):
-    return sorted({revision for path in accepted for revision in revisions_of(path)})
-
-
-def leaves_of(accepted):
-    """The leaves, best first: whether a leaf is not deleted, its position, and its id. The first path with the leaf as its newest revision
-    decides whether it is deleted."""
-    parents = {parent for path in accepted for parent in revisions_of(path)[1:]}
-    leaves = [revision for revision in known_in(accepted) if revision not in parents]
-    marks = {leaf: next(path[2] for path in accepted if revisions_of(path)[0] == leaf) for leaf in leaves}
-    return sorted(((not marks[leaf], *leaf) for leaf in leaves), reverse=True)
-
-
-def served(name, accepted):
-    """The reply to a GET with conflicts."""
-    winner, *others = leaves_of(accepted)
-    if not winner[0]:
-        return 404, {"error": "not_found", "reason": "deleted"}
-    losers = [text_of(leaf[1:]) for leaf in others if leaf[0]]
-    return 200, {"_id": name, "_rev": text_of(winner[1:]), **({"_conflicts": losers} if losers else {})}
-
-
-def replication_of(name, accepted, path):
-    """The body of the bulk with the path, and its reply."""
-    start, ids, deleted = path
-    document = {"_id": name, "_revisions": {"start": start, "ids": ids}, **({"_deleted": True} if deleted else {})}
-    refusal = {"error": "bad_history", "id": name, "reason": "Revision history does not fit the document."}
-    return {"docs": [document], "new_edits": False}, (201, [] if fits(accepted, path) else [refusal])
-
-
-def edit_of(name, accepted, revision):
-    """The body of the bulk that edits the revision, and its reply."""
-    text = text_of(revision)
-    digest = hashlib.md5(compact([False, text, {}]).encode()).hexdigest()
-    made = {"id": name, "ok": True, "rev": f"{revision[0] + 1}-{digest}"}
-    conflict = {"error": "conflict", "id": name, "reason": "Document update conflict."}
-    is_leaf = revision in [leaf[1:] for leaf in leaves_of(accepted)]
-    return {"docs": [{"_id": name, "_rev": text}]}, (201, [made if is_leaf else conflict])
-
-
-def bulk(body):
-    return post("_bulk_docs", compact(body).encode())
-
-
-def exchanges_of(name, paths):
-    """The messages about a document, each with its reply."""
-    accepted = []
-    for path in paths:
-        body, reply = replication_of(name, accepted, path)
-        yield bulk(body), reply
-        if not reply[1]:
-            accepted.append(path)
-        yield get(f"{name}?conflicts=true"), served(name, accepted)
-    for revision in known_in(accepted):
-        body, reply = edit_of(name, accepted, revision)
-        yield bulk(body), reply
-
-
-def fault_of(exchanges, replies):
-    """The first message whose reply is wrong; None if there is none."""
-    for (message, (status, value)), reply in itertools.zip_longest(exchanges, replies):
-        if not reply or (reply.status, reply.body.decode()) != (status, compact(value) + "\n"):
-            return f"{message!r}\n    replied  {reply}\n    expected {status} {compact(value)}"
-    return None
+def run_cases(program, shards, cases, tally):
+    """Sends the messages of all documents to one process. Returns the fault of each document, or None."""
+    output, end = run_session(program, b"".join(message for case in cases for message in case.messages), shards)
+    replies, left = replies_in(output)
+    counts = [len(case.messages) for case in cases]
+    tally.expect(f"{shards} shards: the end", (len(replies), left, end), (sum(counts), b"", ENDS["Eof"]))
+    ends = itertools.accumulate(counts)
+    return [case.fault(replies[end - count : end]) for case, count, end in zip(cases, counts, ends)]
 
 
 def main():
     args, tally = arguments(__doc__, shards="1,7"), Tally()
-    documents = [list(exchanges_of(f"d{place}", paths)) for place, paths in enumerate(itertools.product(PATHS, repeat=3))]
-    given = b"".join(message for exchanges in documents for message, _ in exchanges)
-    faults, numbers = [[] for _ in documents], args.shards.split(",")
-    for shards in numbers:
-        output, end = run_session(args.program, given, shards)
-        replies, left = replies_in(output)
-        tally.expect(f"{shards} shards: the end", (len(replies), left, end), (sum(map(len, documents)), b"", ENDS["Eof"]))
-        for exchanges, found in zip(documents, faults):
-            fault = fault_of(exchanges, replies[: len(exchanges)])
-            replies = replies[len(exchanges) :]
-            found += [f"{shards} shards: {fault}"] if fault else []
-    for place, found in enumerate(faults):
-        tally.count(f"document {place}", found)
+    cases = [Case(f"d{place}", paths) for place, paths in enumerate(itertools.product(PATHS, repeat=3))]
+    for case in cases:
+        tally.count(f"document {case.name} in the model", case.model_faults)
+    numbers = args.shards.split(",")
+    faults = {shards: run_cases(args.program, shards, cases, tally) for shards in numbers}
+    for place, case in enumerate(cases):
+        tally.count(f"document {case.name}", [f"{shards} shards: {faults[shards][place]}" for shards in numbers if faults[shards][place]])
     print(f"each document on {len(numbers)} numbers of shards:")
     return tally.end()
 

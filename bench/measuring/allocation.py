@@ -20,7 +20,7 @@ SETTINGS = {
 
 
 def allocation(args):
-    """The table: each program without the settings, with them, and with more freed blocks kept for reuse as well."""
+    """Returns the table: each program without the settings, with them, and with more freed blocks kept for reuse as well."""
     corpus, wanted, found = args.corpus(args.usual), rows.Measure([1], FEW, args.share), {}
     programs = {"mangod": lambda corpus, tunables: Program(args.program, corpus, tunables=tunables)}
     if "rust" in args.systems and built():

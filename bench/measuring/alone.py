@@ -23,8 +23,8 @@ MANY_SHARDS = (64, 32)
 DELETED = 100000
 
 
-def placed_anew(program, shards):
-    """The wall-clock time of a reshard."""
+def time_reshard(program, shards):
+    """Reshards, and returns the wall-clock time that this takes."""
     clock = time.monotonic()
     status, body = program.connection.exchange(message("POST", "_placement", {"shards": shards}))
     if status != b"200":
@@ -33,33 +33,33 @@ def placed_anew(program, shards):
 
 
 def short(pair):
-    """The name of a pair of shards and workers above a column."""
+    """Returns the name of a pair of shards and workers above a column."""
     return "{} {}".format(*pair)
 
 
-def worked(path, corpus, pair):
-    """The wall-clock times of a scan, of an index build, and of a reshard from one shard to 16, in milliseconds."""
+def measure_workers(path, corpus, pair):
+    """Returns the wall-clock times of a scan, of an index build, and of a reshard from one shard to 16 (None: from more shards), in milliseconds."""
     with contextlib.closing(Program(path, corpus, pair)) as program:
         load(program, corpus)
         client = program.client()
-        asked = [(client.prepare(request), request.answer) for request in corpus.requests("scan", 10, 1)]
-        times = [run(client, asked)[1] / len(asked), build(program, "kind").clock]
-        times.append(placed_anew(program, 16) if pair[0] == 1 else None)
+        prepared = [(client.prepare(request), request.answer) for request in corpus.requests("scan", 10, 1)]
+        times = [run(client, prepared)[1] / len(prepared), build(program, "kind").clock]
+        times.append(time_reshard(program, 16) if pair[0] == 1 else None)
     say(titled(pair), times)
     return [one and one * 1e3 for one in times]
 
 
 def workers(args):
-    """The table of what several workers gain."""
+    """Returns the table of what several workers gain."""
     corpus = args.corpus(args.usual)
-    made = [worked(args.program, corpus, pair) for pair in WORKERS]
+    made = [measure_workers(args.program, corpus, pair) for pair in WORKERS]
     titles = ["one document without an index", "an index on two fields", "a reshard to 16 shards, with that index"]
     rows = {title: [one[place] for one in made] for place, title in enumerate(titles)}
     return grid(f"ms by the clock, {corpus.count:,} documents; shards and workers", map(short, WORKERS), rows)
 
 
 def edit_often(program, count):
-    """The cost of `count` edits of one document, one for each bulk."""
+    """Edits one document `count` times, once in each bulk. Returns the cost."""
     revision = None
     before, clock = program.processor(), time.monotonic()
     for number in range(count):
@@ -72,7 +72,7 @@ def edit_often(program, count):
 
 
 def edits(args):
-    """The table of the processor time of edits of one document, by their number."""
+    """Returns the table of the processor time of edits of one document, by their number."""
     numbers, used = [max(20, int(args.share * count)) for count in (4000, 8000, 16000)], []
     for count in numbers:
         with contextlib.closing(Program(args.program, args.corpus(BULK))) as program:
@@ -81,16 +81,16 @@ def edits(args):
 
 
 def crowd(args):
-    """The table of `GET`s, queries and commits by 1, 4 and 16 clients, with each pair of shards and workers."""
+    """Returns the table of `GET`s, queries and commits by 1, 4 and 16 clients, with each pair of shards and workers."""
     corpus = args.corpus(args.usual)
-    made = [crowded(args, corpus, pair) for pair in PAIRS]
+    made = [measure_crowd(args, corpus, pair) for pair in PAIRS]
     rows = {name: [one[name] for one in made] for name in made[0]}
     title = f"requests a second, clients: {' / '.join(map(str, CROWDS))}; {corpus.count:,} documents; shards and workers"
     return grid(title, map(short, PAIRS), rows)
 
 
-def crowded(args, corpus, pair):
-    """The requests a second of one database: for each kind, a figure for each number of clients."""
+def measure_crowd(args, corpus, pair):
+    """Returns the requests a second of one database: for each kind, a figure for each number of clients."""
     with contextlib.closing(Program(args.program, corpus, pair, sessions=max(CROWDS))) as program:
         load(program, corpus)
         for which in INDEXES:
@@ -104,7 +104,7 @@ def crowded(args, corpus, pair):
 
 
 def many(program, kind, clients, share):
-    """The figures of clients that send requests of a kind for some time. A client of commits sends each of its documents once."""
+    """Returns the figures of clients that send requests of a kind for some time. A client of commits sends each of its documents once."""
     number = max(20, int(4000 * share)) if kind == "commit" else 1000
     lists = [program.corpus.requests(kind, number, f"{clients}-{one}") for one in range(clients)]
     if kind == "commit":
@@ -113,7 +113,7 @@ def many(program, kind, clients, share):
 
 
 def by_wrk(program, clients):
-    """The `GET`s a second of clients of wrk, which take less of the processors than those in Python."""
+    """Returns the `GET`s a second of clients of wrk, which take less of the processors than those in Python."""
     args = ["wrk", "-t1", f"-c{clients}", "-d2s", f"http://127.0.0.1:{program.port}/db/{program.corpus.name(1)}"]
     text = subprocess.run(args, capture_output=True, text=True, check=True).stdout
     if "Non-2xx" in text or "Socket errors" in text:
@@ -122,46 +122,46 @@ def by_wrk(program, clients):
 
 
 def skips(args):
-    """The table of the processor time of a row that a page skips, where the range decides, with each pair."""
+    """Returns the table of the processor time of a row that a page skips, if the range alone decides which rows match, with each pair."""
     corpus = args.corpus(args.usual)
     rows = min(SKIPPED, corpus.count // 2)
     title = f"a row of {rows:,} that a page skips: processor time, ns"
-    made = {title: [skipped(args, corpus, pair, rows) for pair in PAIRS]}
+    made = {title: [cost_of_skip(args, corpus, pair, rows) for pair in PAIRS]}
     return grid(f"{corpus.count:,} documents; shards and workers", map(short, PAIRS), made)
 
 
-def skipped(args, corpus, pair, rows):
-    """The processor time of a skipped row, in nanoseconds: that of a page that skips many rows, less that of one that skips none."""
+def cost_of_skip(args, corpus, pair, rows):
+    """Returns the processor time of a skipped row, in nanoseconds: that of a page that skips many rows, less that of one that skips none."""
     with contextlib.closing(Program(args.program, corpus, pair)) as program:
         load(program, corpus)
         program.index("price")
-        none, many = (shown_after(program, skip, max(20, int(4000 * args.share))) for skip in (0, rows))
+        none, many = (cost_of_page(program, skip, max(20, int(4000 * args.share))) for skip in (0, rows))
     cost = (many - none) / rows * 1e9
     say(f"{titled(pair)}, a skipped row: {cost:.1f} ns")
     return cost
 
 
-def shown_after(program, skip, count):
-    """The processor time of a page that skips some documents of a range of prices and shows one."""
+def cost_of_page(program, skip, count):
+    """Returns the processor time of a page that skips some documents of a range of prices and shows one."""
     corpus, before = program.corpus, program.processor()
     for number in range(count):
         rank = number % (corpus.count - skip)
-        asked = {"selector": {corpus.path("price"): {"$gte": corpus.prices[rank]}}, "limit": 1, "skip": skip}
-        status, body = program.connection.exchange(message("POST", "_find", asked))
+        query = {"selector": {corpus.path("price"): {"$gte": corpus.prices[rank]}}, "limit": 1, "skip": skip}
+        status, body = program.connection.exchange(message("POST", "_find", query))
         if status != b"200" or [one["_id"] for one in json.loads(body)["docs"]] != [corpus.name(corpus.at(rank + skip))]:
             raise SystemExit(f"a page that skips {skip} documents was answered by {status} {body[:300]}")
     return (program.processor() - before) / count
 
 
 def catalogs(args):
-    """The table of the time that it takes to define many indexes on 64 shards."""
+    """Returns the table of the time that it takes to define many indexes on 64 shards."""
     numbers = [max(5, int(min(1, 20 * args.share) * count)) for count in MANY_INDEXES]
-    seconds = [defined(args, number) for number in numbers]
+    seconds = [time_definitions(args, number) for number in numbers]
     return grid(f"indexes of {BULK:,} documents on 64 shards", [f"{number:,}" for number in numbers], {"seconds by the clock": seconds})
 
 
-def defined(args, count):
-    """The wall-clock time of the definition of some indexes on the same member."""
+def time_definitions(args, count):
+    """Defines `count` indexes on one member. Returns the wall-clock time that this takes."""
     with contextlib.closing(Program(args.program, args.corpus(BULK), MANY_SHARDS)) as program:
         load(program, program.corpus)
         clock = time.monotonic()
@@ -171,18 +171,18 @@ def defined(args, count):
 
 
 def deleted(args):
-    """The table of the memory that a document takes after it was made and deleted."""
+    """Returns the table of the memory that a document takes after it was made and deleted."""
     count = 1000 if args.smallest else DELETED
     with contextlib.closing(Program(args.program, args.corpus(BULK))) as program:
         empty = program.size()
         for at in range(0, count, BULK):
-            made = edited(program, [{"_id": f"deleted{number:07}", "n": number} for number in range(at, at + BULK)])
-            edited(program, [{"_id": one["id"], "_rev": one["rev"], "_deleted": True} for one in made])
+            made = write_bulk(program, [{"_id": f"deleted{number:07}", "n": number} for number in range(at, at + BULK)])
+            write_bulk(program, [{"_id": one["id"], "_rev": one["rev"], "_deleted": True} for one in made])
         return grid("a document that was made and deleted", [f"{count:,} documents"], {"bytes": [(program.size() - empty) / count]})
 
 
-def edited(program, documents):
-    """The reply to a bulk of documents, each of which is accepted."""
+def write_bulk(program, documents):
+    """Writes a bulk, and returns the value of its reply. A document that is not accepted ends the run."""
     status, body = program.connection.exchange(message("POST", "_bulk_docs", {"docs": documents}))
     rows = json.loads(body)
     if status != b"201" or not all(row.get("rev") for row in rows):

@@ -40,19 +40,20 @@ class Counted(Piped):
     def control(self, *args):
         subprocess.run(["callgrind_control", *args, str(self.process.pid)], check=True, capture_output=True)
 
-    def count(self, asked, warm):
-        """The instructions and the reads from memory of a request. The first `warm` requests fill the simulated cache uncounted."""
+    def count(self, prepared, warm):
+        """Sends the requests. Returns the instructions and the reads from memory of one. The first `warm` requests fill the simulated cache
+        uncounted."""
         self.control("--instr=on")
-        run(self.connection, asked[:warm])
+        run(self.connection, prepared[:warm])
         self.control("--zero")
-        run(self.connection, asked[warm:])
+        run(self.connection, prepared[warm:])
         self.control("--dump")
         self.control("--instr=off")
         found = self.newest()
-        return found["Ir"] / (len(asked) - warm), found["DLmr"] / (len(asked) - warm)
+        return found["Ir"] / (len(prepared) - warm), found["DLmr"] / (len(prepared) - warm)
 
     def newest(self):
-        """The sums of the last dump."""
+        """Returns the sums of the last dump."""
         name = max(glob.glob(f"{self.folder}/counts.*"), key=lambda one: int(one.rpartition(".")[2]))
         with open(name) as counts:
             lines = dict(line.rstrip("\n").split(": ", 1) for line in counts if line.startswith(("events: ", "totals: ")))
@@ -60,21 +61,21 @@ class Counted(Piped):
 
 
 def counted(path, corpus, pair, kinds, requests, cache):
-    """For each kind, the instructions and the reads from memory of a request, all with one database."""
+    """Returns for each kind the instructions and the reads from memory of a request, all with one database."""
     with tempfile.TemporaryDirectory() as folder, contextlib.closing(Counted(path, corpus, pair, cache, folder)) as program:
         program.fill()
         found = {}
         for kind in kinds:
             # each scan reads all documents, so a few scans suffice
             number = max(2, requests // 20) if kind == "scan" else requests
-            asked = [(program.connection.prepare(one), one.answer) for one in corpus.requests(kind, number + number // 2, 1)]
-            found[kind] = program.count(asked, number // 2)
+            prepared = [(program.connection.prepare(one), one.answer) for one in corpus.requests(kind, number + number // 2, 1)]
+            found[kind] = program.count(prepared, number // 2)
         return found
 
 
 def of_sizes(path, sizes):
-    """For each pair of shards and workers, such as `16/4`, and each kind: the instructions and the reads, rounded. The pairs are counted side
-    by side, since counts do not depend on what else the machine does."""
+    """Returns for each pair of shards and workers, such as `16/4`, and each kind: the instructions and the reads, rounded. The pairs are counted
+    side by side, since counts do not depend on what else the machine does."""
     corpus, wanted = Corpus(sizes["documents"], sizes["shape"], sizes["ids"]), parse_pairs(sizes["shards"])
     with futures.ThreadPoolExecutor(os.cpu_count()) as pool:
         made = list(pool.map(lambda pair: counted(path, corpus, pair, sizes["kinds"], sizes["requests"], sizes["cache"]), wanted))
@@ -85,7 +86,7 @@ def of_sizes(path, sizes):
 
 
 def counts(args):
-    """The counts of the gate with more documents, for the program and for plain Rust: for each program and pair, and each kind."""
+    """Returns the counts of the gate with more documents, for the program and for plain Rust: for each program and pair, and each kind."""
     sizes = {**GATE, **({"documents": 1000, "shards": "1", "requests": 4} if args.smallest else MANY)}
     programs = {"mangod": (args.program, sizes)}
     if not args.smallest and "rust" in args.systems and built():
@@ -96,7 +97,7 @@ def counts(args):
 
 
 def counts_table(found):
-    """A table of instructions and reads from memory, with a column for each program."""
+    """Yields the lines of a table of instructions and reads from memory, with a column for each program."""
     if not found:
         return
     yield f"| instructions, and reads from memory | {' | '.join(found)} |"

@@ -60,33 +60,33 @@ class Corpus:
         return self.shape.body(i, i % self.groups, f"kind{i % KINDS}", self.price(i))
 
     def path(self, member):
-        """The path of a member that requests use."""
+        """Returns the path of a member that requests use."""
         return self.shape.paths[member]
 
     def number(self, name):
-        """The number of the document with this id; for the id of a new document, the number of the document that it copies."""
+        """Returns the number of the document with this id; for the id of a new document, the number of the document that it copies."""
         return int(name.partition(":")[2][:7] or name[1:8])
 
     def columns(self, which):
-        """The paths of an index."""
+        """Returns the paths of an index."""
         return [self.path(member) for member in INDEXES[which]]
 
     def text(self, i):
-        """The text of a document that no other document has."""
+        """Returns the text of a document that no other document has."""
         return member_at(self.path("text"), self.body(i))
 
     def numbers(self):
-        """The numbers of the documents in a random order, in which they are loaded."""
+        """Returns the numbers of the documents in a random order, in which they are loaded."""
         order = list(range(self.count))
         random.Random(1).shuffle(order)
         return order
 
     def at(self, rank):
-        """The number of the document for which `rank` documents are cheaper."""
+        """Returns the number of the document for which `rank` documents are cheaper."""
         return self.prices[rank] * self.unprice % PRIME
 
     def depth(self):
-        """The number of pages by price before the deep one: 1,000, or all but the last if there are fewer."""
+        """Returns the number of pages by price before the deep one: 1,000, or all but the last if there are not so many."""
         return min(DEPTH, self.count // PAGE - 1)
 
     def requests(self, kind, number, seed):
@@ -104,12 +104,12 @@ class Corpus:
         return Request("equality", (group,), Answer(IN_GROUP, self.name(group), self.name(group + (IN_GROUP - 1) * self.groups)))
 
     def ask_falling(self, dice, seed, turn):
-        """A page below a price, most expensive first."""
+        """Returns the request for a page below a price, most expensive first."""
         rank = dice.randrange(PAGE, self.count)
         return Request("falling", (self.prices[rank],), Answer(PAGE, self.name(self.at(rank - 1)), self.name(self.at(rank - PAGE))))
 
     def ask_two(self, dice, seed, turn):
-        """A page of one kind from a price on, if there are enough documents of the kind."""
+        """Returns the request for a page of one kind from a price on; the page is shorter if there are too few documents of the kind."""
         start = dice.randrange(max(1, self.count - 2 * PAGE * KINDS))
         kind = dice.randrange(KINDS)
         found = []
@@ -121,7 +121,7 @@ class Corpus:
         return Request("two", (f"kind{kind}", self.prices[start]), Answer(len(found), self.name(found[0]), self.name(found[-1])))
 
     def ask_deep(self, dice, seed, turn):
-        """The page by price after the thousandth one."""
+        """Returns the request for the page after the first `depth()` pages by price."""
         rank = self.depth() * PAGE
         before = self.at(rank - 1)
         return Request("deep", (self.price(before), self.name(before)), Answer(PAGE, self.name(self.at(rank)), self.name(self.at(rank + PAGE - 1))))
@@ -138,7 +138,7 @@ class Corpus:
         return self.ask_commit(dice, seed, turn) if turn % 10 == 9 else self.ask_get(dice, seed, turn)
 
     def bookmark(self, price, last):
-        """The bookmark after the document with this price, for pages by price."""
+        """Returns the bookmark after the document with this price, for pages by price."""
         place = compact(["_design/m", "price", "asc", [price], last])
         return base64.urlsafe_b64encode(place.encode()).decode().rstrip("=")
 

@@ -4,17 +4,17 @@ from .rows import REQUESTS
 
 
 def growing(rows, figure):
-    """The panels of a picture, one for each row; none if only one number of documents was measured."""
-    def panels(measured):
+    """Returns a function that gives the panels of a picture, one for each row; none if only one number of documents was measured."""
+    def panels(measurement):
         drawn = {}
         for row, title in rows.items():
             lines = {}
-            for system in measured.systems:
-                points = [(size, value) for size in measured.sizes if (value := measured.median(size, system, row, figure)) and value > 0]
+            for system in measurement.systems:
+                points = [(size, value) for size in measurement.sizes if (value := measurement.median(size, system, row, figure)) and value > 0]
                 if points:
                     lines[system] = points
             drawn[title] = lines
-        return drawn if len(measured.sizes) > 1 else {}
+        return drawn if len(measurement.sizes) > 1 else {}
     return panels
 
 

@@ -3,7 +3,7 @@ from .tables import spelled
 
 
 def grid(title, columns, rows):
-    """A table: the text above its first column, the names of the others, and a list of cells for each row. A cell is a number, several
+    """Returns a table: the text above its first column, the names of the others, and a list of cells for each row. A cell is a number, several
     numbers, a text, or None."""
     return {"title": title, "columns": list(columns), "rows": rows}
 
@@ -17,7 +17,7 @@ def shown(value):
 
 
 def lines(found):
-    """The lines of a table in Markdown."""
+    """Yields the lines of a table in Markdown."""
     yield f"| {found['title']} | {' | '.join(found['columns'])} |"
     yield "|---" * (len(found["columns"]) + 1) + "|"
     for name, cells in found["rows"].items():

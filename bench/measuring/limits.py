@@ -25,7 +25,7 @@ BYTES = ("__mem", "__str", "mem")
 
 
 def group(file, symbol):
-    """The group of a function that `perf` names."""
+    """Returns the group of a function that `perf` names."""
     if symbol.startswith("[k]"):
         return "the kernel"
     name = symbol.split(" ", 1)[-1]
@@ -40,7 +40,7 @@ def group(file, symbol):
 
 
 def shares(name):
-    """The share of each group in a file that `perf record` wrote."""
+    """Returns the share of each group in a file that `perf record` wrote."""
     args = ["perf", "report", "-i", name, "--stdio", "--sort", "dso,sym", "-t", ";"]
     text = subprocess.run(args, capture_output=True, text=True, errors="replace").stdout
     found = {}
@@ -52,8 +52,8 @@ def shares(name):
     return found
 
 
-def profiled(program, work):
-    """The greatest shares of the processor time that the program takes during some work, as a text."""
+def profile(program, work):
+    """Does some work. Returns the greatest shares of the processor time that the program takes for it, as a text."""
     with tempfile.TemporaryDirectory() as folder:
         name = os.path.join(folder, "perf.data")
         args = ["perf", "record", "--quiet", "-e", "cpu-clock", "-F", "1999", "-p", str(program.process.pid), "-o", name]
@@ -67,19 +67,19 @@ def profiled(program, work):
 
 
 def limits(args):
-    """The table of the rows, each with what takes its time. Empty if `perf` is not installed."""
+    """Returns the table of the rows, each with what takes its time. Empty if `perf` is not installed."""
     rows = {}
     if not shutil.which("perf"):
         say("perf is not here: limits are left out")
         return grid("where the processor time goes", ["shares"], rows)
     corpus = args.corpus(args.usual)
     with contextlib.closing(Program(args.program, corpus)) as program:
-        rows["load"] = [profiled(program, lambda: load(program, corpus))]
+        rows["load"] = [profile(program, lambda: load(program, corpus))]
         for which in INDEXES:
             program.index(which)
         for kind in KINDS:
-            rows[REQUESTS[kind][0]] = [profiled(program, lambda: alone(program, kind, SECONDS * args.share, "limits"))]
-        rows["an index that is built"] = [profiled(program, lambda: [program.index("kind", f"limits{one}") for one in range(BUILDS)])]
+            rows[REQUESTS[kind][0]] = [profile(program, lambda: alone(program, kind, SECONDS * args.share, "limits"))]
+        rows["an index that is built"] = [profile(program, lambda: [program.index("kind", f"limits{one}") for one in range(BUILDS)])]
     for title, (text,) in rows.items():
         say(f"{title}: {text}")
     return grid(f"where the processor time goes, {corpus.count:,} documents", ["the greatest shares"], rows)

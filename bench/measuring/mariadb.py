@@ -2,7 +2,7 @@
 protocol.
 
 A new server is made in a temporary folder, with only a Unix socket, and without waits for a disk. Each connection prepares its statements
-once. EXPLAIN must show that each statement but the scan reads an index.
+once. EXPLAIN must show that each statement but the scan and the commit reads an index.
 """
 import os
 import shutil
@@ -11,6 +11,7 @@ import subprocess
 import tempfile
 
 from .documents import INDEXES, PAGE, compact
+from .receive import receive
 from .server import Server
 
 SETTINGS = [
@@ -19,7 +20,7 @@ SETTINGS = [
     "max-allowed-packet=64M",
 ]
 ROW = "SELECT id, body FROM docs WHERE "
-# without FORCE its optimizer reads all documents of a kind where the price is low
+# without FORCE the optimizer reads all documents of a kind where the price is low
 FORCED = "SELECT id, body FROM docs FORCE INDEX (by_kind) WHERE "
 # the type of the generated column for each member
 TYPES = {"group": "BIGINT", "price": "BIGINT", "kind": "VARCHAR(16)"}
@@ -35,12 +36,12 @@ def program():
 
 
 def column(member):
-    """The generated column of a member: its name is not that of a word of SQL."""
+    """Returns the name of the generated column of a member; it is not a word of SQL."""
     return f"its_{member}"
 
 
-def asked_of(corpus):
-    """The statement for each kind of request."""
+def statements_of(corpus):
+    """Returns the statement for each kind of request."""
     group, kind, price = map(column, ("group", "kind", "price"))
     return {
         "get": ROW + "id = ?",
@@ -54,18 +55,18 @@ def asked_of(corpus):
 
 
 def values_of(request):
-    """The values of a statement: the deep page names its price twice."""
+    """Returns the values of a statement: the deep page names its price twice."""
     return (request.about[0], *request.about) if request.kind == "deep" else request.about
 
 
 def sized(data):
-    """Bytes after their length."""
+    """Returns bytes after their length."""
     size = len(data)
     return (bytes([size]) if size < 251 else b"\xfc" + size.to_bytes(2, "little") if size < 1 << 16 else b"\xfd" + size.to_bytes(3, "little")) + data
 
 
 def bound(number, values):
-    """The body of a command that executes a prepared statement."""
+    """Returns the body of a command that executes a prepared statement."""
     types = b"".join(NUMBER if isinstance(value, int) else TEXT for value in values)
     parts = (value.to_bytes(8, "little") if isinstance(value, int) else sized(value.encode()) for value in values)
     return EXECUTE + number + b"\0\1\0\0\0" + bytes((len(values) + 7) // 8) + b"\1" + types + b"".join(parts)
@@ -74,7 +75,7 @@ def bound(number, values):
 class Connection:
     """A connection that sends each command after it has read the answer to the one before."""
 
-    def __init__(self, path, asked):
+    def __init__(self, path, statements):
         self.socket, self.rest = socket.socket(socket.AF_UNIX), b""
         self.socket.connect(path)
         self.packet()
@@ -83,28 +84,22 @@ class Connection:
         if self.packet()[:1] == b"\xfe":
             self.send(b"", 3)
             self.packet()
-        self.asked = {kind: self.prepared(statement) for kind, statement in asked.items()}
+        self.statements = {kind: self.prepared(statement) for kind, statement in statements.items()}
 
     def send(self, body, number=0):
         self.socket.sendall(len(body).to_bytes(3, "little") + bytes([number]) + body)
 
     def packet(self):
-        """The body of the next packet."""
+        """Returns the body of the next packet."""
         while len(self.rest) < 4 or len(self.rest) < (end := 4 + int.from_bytes(self.rest[:3], "little")):
-            self.rest += self.more()
+            self.rest += receive(self.socket, "MariaDB")
         body, self.rest = self.rest[4:end], self.rest[end:]
         if body[:1] == b"\xff":
             raise OSError(f"MariaDB: {body[3:]!r}")
         return body
 
-    def more(self):
-        piece = self.socket.recv(1 << 18)
-        if not piece:
-            raise OSError("MariaDB has closed the connection")
-        return piece
-
     def prepared(self, statement):
-        """The number of a prepared statement, as it is sent."""
+        """Prepares a statement. Returns its number, as it is sent."""
         self.send(PREPARE + statement.encode())
         answer = self.packet()
         for _ in range(int.from_bytes(answer[5:7], "little") + int.from_bytes(answer[7:9], "little")):
@@ -117,7 +112,7 @@ class Connection:
         data, at, end, packets, last = self.rest, 0, 0, [], None
         while last is None:
             while len(data) < at + 4 or len(data) < (end := at + 4 + int.from_bytes(data[at : at + 3], "little")):
-                data += self.more()
+                data += receive(self.socket, "MariaDB")
             code = data[at + 4]
             if code == 0xFF:
                 raise OSError(f"MariaDB: {data[at + 7 : end]!r}")
@@ -136,7 +131,7 @@ class Connection:
         return self.exchange(len(body).to_bytes(3, "little") + b"\0" + body)
 
     def prepare(self, request):
-        body = bound(self.asked[request.kind], values_of(request))
+        body = bound(self.statements[request.kind], values_of(request))
         return len(body).to_bytes(3, "little") + b"\0" + body
 
     def ask(self, message, answer):
@@ -179,11 +174,11 @@ class MariaDB(Server):
     def client(self):
         client = self.first_client()
         client.query("USE bench")
-        client.asked = {kind: client.prepared(statement) for kind, statement in asked_of(self.corpus).items()}
+        client.statements = {kind: client.prepared(statement) for kind, statement in statements_of(self.corpus).items()}
         return client
 
     def pages(self):
-        """The size of the file of the table and its indexes in bytes."""
+        """Returns the size of the file of the table and its indexes in bytes."""
         return os.path.getsize(os.path.join(self.data, "bench", "docs.ibd"))
 
     def prepare_bulk(self, numbers):
@@ -206,7 +201,7 @@ class MariaDB(Server):
 
     def settle(self):
         self.connection.query("ANALYZE TABLE docs")
-        for kind, statement in asked_of(self.corpus).items():
+        for kind, statement in statements_of(self.corpus).items():
             if kind not in ("scan", "commit"):
                 self.check_plan(kind, statement, self.corpus.requests(kind, 1, "plan")[0])
 

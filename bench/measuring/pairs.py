@@ -26,19 +26,20 @@ TOGETHER = {kind: f"{ALONE[kind].partition(':')[0]}, {CLIENTS} clients: requests
 
 
 def alone(program, kind, seconds, seed):
-    """The cost of requests of one client, one after another, until the program has used some seconds of processor time."""
+    """Lets one client send requests, one after another, until the program has used some seconds of processor time. Returns the
+    cost."""
     corpus, client = program.corpus, program.connection
     before, count, clock = program.processor(), 0, 0
     while program.processor() - before < seconds:
         chunk = max(2, min(CHUNK[kind], int(CHUNK[kind] * seconds)))
-        asked = [(client.prepare(one), one.answer) for one in corpus.requests(kind, chunk, f"{seed}-{count}")]
-        clock += processes.run(client, asked)[1]
+        prepared = [(client.prepare(one), one.answer) for one in corpus.requests(kind, chunk, f"{seed}-{count}")]
+        clock += processes.run(client, prepared)[1]
         count += chunk
     return processes.Use(count, program.processor() - before, clock)
 
 
 def figures(args, corpus, pair, turn):
-    """The figures of one database: the title of each row, and its figure."""
+    """Returns the figures of one database: the title of each row, and its figure."""
     seconds, rows = SECONDS * args.share, {}
     with contextlib.closing(Program(args.program, corpus, pair, sessions=CLIENTS + 1)) as program:
         load(program, corpus)
@@ -56,7 +57,7 @@ def figures(args, corpus, pair, turn):
 
 
 def measure_pairs(args):
-    """The figures of each row, for each number of documents and each pair. The pairs are measured in turn, again and again, so that a slow
+    """Returns the figures of each row, for each number of documents and each pair. The pairs are measured in turn, again and again, so that a slow
     minute of the machine affects all of them."""
     found = {}
     for count in args.pairs_documents:
@@ -67,7 +68,7 @@ def measure_pairs(args):
 
 
 def pairs_tables(found):
-    """A table for each number of documents, with a column for each pair of shards and workers."""
+    """Yields a table for each number of documents, with a column for each pair of shards and workers."""
     for count, rows in found.items():
         lines = [f"| {int(count):,} documents; shards and workers | {' | '.join('{} {}'.format(*pair) for pair in PAIRS)} |"]
         lines.append("|---" * (len(PAIRS) + 1) + "|")

@@ -17,7 +17,7 @@ def text(x, y, words, anchor="middle", size=10):
 
 
 def short(number):
-    """A short text for a power of ten."""
+    """Returns a short text for a power of ten."""
     for size, letter in ((10**6, "M"), (10**3, "k")):
         if number >= size:
             return f"{number / size:g}{letter}"
@@ -25,7 +25,7 @@ def short(number):
 
 
 def powers(values):
-    """The powers of ten that enclose some values."""
+    """Returns the powers of ten that enclose some values."""
     low, high = math.floor(math.log10(min(values))), math.ceil(math.log10(max(values)))
     return list(range(low, max(high, low + 1) + 1))
 

@@ -47,22 +47,22 @@ class Piped(Program):
 
 
 def figures(path, corpus, pair, share, turn):
-    """The processor time of each kind of request in microseconds, and of the load; and the memory of a document. All with one database."""
+    """Returns the processor time of each kind of request in microseconds, and of the load; and the memory of a document. All with one database."""
     with contextlib.closing(Piped(path, corpus, pair)) as program:
         found = {"load": load(program, corpus).figures()["processor_us"]}
         found["memory"] = program.size() / corpus.count
         for which in INDEXES:
             program.index(which)
         for kind, number in REQUESTS.items():
-            asked = [(program.connection.prepare(one), one.answer) for one in corpus.requests(kind, max(20, int(number * share)), turn)]
+            prepared = [(program.connection.prepare(one), one.answer) for one in corpus.requests(kind, max(20, int(number * share)), turn)]
             before = program.processor()
-            run(program.connection, asked)
-            found[kind] = (program.processor() - before) / len(asked) * 1e6
+            run(program.connection, prepared)
+            found[kind] = (program.processor() - before) / len(prepared) * 1e6
     return found
 
 
 def span(values):
-    """The text of the least and the greatest of some figures."""
+    """Returns the text of the least and the greatest of some figures."""
     return " to ".join(sorted({f"{value:,.1f}" for value in (min(values), max(values))}, key=lambda text: float(text.replace(",", ""))))
 
 

@@ -5,7 +5,7 @@ from .rows import REQUESTS
 from .shapes import VARIANTS
 
 SIZES = [1000, 10000, 100000, 1000000]
-# the greatest database with all rows; tables with a single number of documents have it
+# the greatest number of documents with all rows; tables for a single number of documents are for this one
 USUAL = 100000
 FEW = ["get", "equality", "commit"]
 MANY_CLIENTS = [1, 4, 16]
@@ -22,19 +22,19 @@ class Step:
 
 
 def usual(sizes):
-    """The greatest size up to 100,000, or the least."""
+    """Returns the greatest size up to 100,000; if all are greater, the least."""
     return max([size for size in sizes if size <= USUAL], default=min(sizes))
 
 
 def one_variant(shape, ids, sizes, rows, clients):
-    """The steps of a measurement of one variant."""
+    """Returns the steps of a measurement of one variant."""
     variant = next(name for name, one in VARIANTS.items() if one == (shape, ids))
     return [Step(variant, sizes, rows, clients)]
 
 
 def whole(sizes):
-    """The steps of docs/PERFORMANCE.md: all rows up to 100,000 flat documents, with 16 clients at the most of these; nested documents, and
-    three rows of ids with a long common front, beside them; and two rows of more documents by one client."""
+    """Returns the steps of docs/PERFORMANCE.md: all rows with up to 100,000 flat documents, with 16 clients too at the greatest number of these;
+    at that number also nested documents, and three rows with long ids; and with more documents two rows by one client."""
     most, rows = usual(sizes), list(REQUESTS)
     steps = [Step("flat", [size for size in sizes if size < most], rows, [1, 4])]
     steps += [Step("flat", [most], rows, MANY_CLIENTS), Step("nested", [most], rows, [1, 4]), Step("flat, long ids", [most], FEW, [1])]

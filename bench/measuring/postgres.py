@@ -2,7 +2,7 @@
 
 A new cluster is made in a temporary folder, with only a Unix socket, and without waits for a disk. Started by root, it runs as the
 user postgres. The table is unlogged. Each connection prepares its statements once, and plans them once (plan_cache_mode is
-force_generic_plan). EXPLAIN must show that each statement but the scan reads an index. Processor time and memory are those of all its
+force_generic_plan). EXPLAIN must show that each statement but the scan and the commit reads an index. Processor time and memory are those of all its
 processes.
 """
 import glob
@@ -16,6 +16,7 @@ import time
 
 from . import processes
 from .documents import PAGE, compact
+from .receive import receive
 
 SETTINGS = {
     "listen_addresses": "''", "fsync": "off", "synchronous_commit": "off", "full_page_writes": "off", "autovacuum": "off",
@@ -28,7 +29,7 @@ JSON_WORDS = {"equality": {0}, "falling": {0}, "two": {0, 1}, "deep": {0}, "scan
 
 
 def programs():
-    """The folder of initdb and pg_ctl; None if PostgreSQL is not installed."""
+    """Returns the folder of initdb and pg_ctl; None if PostgreSQL is not installed."""
     found = shutil.which("initdb") or max(glob.glob("/usr/lib/postgresql/*/bin/initdb"), default=None)
     return found and os.path.dirname(os.path.realpath(found))
 
@@ -37,8 +38,8 @@ def member(path):
     return "->".join(["body", *(f"'{step}'" for step in path.split("."))])
 
 
-def asked_of(corpus):
-    """The statement for each kind of request."""
+def statements_of(corpus):
+    """Returns the statement for each kind of request."""
     group, kind, price, text = (member(corpus.path(name)) for name in ("group", "kind", "price", "text"))
     return {
         "get": ROW + "id = $1",
@@ -59,22 +60,23 @@ def part(kind, *pieces):
 class Connection:
     """A connection with these statements prepared."""
 
-    def __init__(self, folder, asked):
+    def __init__(self, folder, statements):
         self.socket = socket.socket(socket.AF_UNIX)
         self.socket.connect(os.path.join(folder, ".s.PGSQL.5432"))
         self.rest = b""
         words = b"user\0postgres\0database\0postgres\0\0"
         self.exchange(struct.pack("!ii", len(words) + 8, 196608) + words)
-        for kind, statement in asked.items():
+        for kind, statement in statements.items():
             self.exchange(part(b"P", kind.encode(), b"\0", statement.encode(), b"\0", struct.pack("!h", 0)) + part(b"S"))
 
     def exchange(self, text, until=b"Z"):
-        """Sends bytes, and returns the messages of the answer up to the first of the kind `until`."""
+        """Sends bytes, and returns the messages of the answer up to the first of the kind `until`. Raises `OSError` if one is an error, or if
+        PostgreSQL closes the connection before."""
         self.socket.sendall(text)
         data, at, parts = self.rest, 0, []
         while True:
             while len(data) < at + 5 or len(data) < (end := at + 1 + int.from_bytes(data[at + 1 : at + 5], "big")):
-                data += self.socket.recv(1 << 18)
+                data += receive(self.socket, "PostgreSQL")
             kind = data[at : at + 1]
             if kind == b"E":
                 raise OSError(f"PostgreSQL: {data[at + 5 : end]!r}")
@@ -127,7 +129,7 @@ class PostgreSQL:
         self.wait_until_still()
 
     def wait_until_still(self):
-        """Waits until its memory stays the same, at most three seconds: at its start it grows and shrinks."""
+        """Waits until the memory of PostgreSQL no longer changes, at most three seconds: after a start it grows and shrinks."""
         sizes = []
         while len(sizes) < 15 and sizes[-3:] != sizes[-1:] * 3 or len(sizes) < 3:
             sizes.append(self.size())
@@ -141,7 +143,7 @@ class PostgreSQL:
             raise SystemExit(f"{program}: {done.stderr}")
 
     def client(self):
-        return Connection(self.folder, asked_of(self.corpus))
+        return Connection(self.folder, statements_of(self.corpus))
 
     def processor(self):
         return processes.family_processor(self.pid)
@@ -150,7 +152,7 @@ class PostgreSQL:
         return processes.family_memory(self.pid)
 
     def pages(self):
-        """The size of the table and its indexes in bytes."""
+        """Returns the size of the table and its indexes in bytes."""
         parts = self.connection.query("SELECT pg_total_relation_size('docs')")
         return int(next(text for kind, text in parts if kind == b"D")[6:])
 
@@ -172,7 +174,7 @@ class PostgreSQL:
     def settle(self):
         self.connection.query("VACUUM ANALYZE docs")
         client = self.client()
-        for kind in asked_of(self.corpus):
+        for kind in statements_of(self.corpus):
             if kind not in ("scan", "commit"):
                 self.check_plan(client, self.corpus.requests(kind, 1, "plan")[0])
         client.socket.close()

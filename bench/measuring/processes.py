@@ -10,19 +10,19 @@ TICK = os.sysconf("SC_CLK_TCK")
 
 
 def processor(pid):
-    """The processor time, user and system, of a process and all its threads, in seconds, to the nanosecond: the clock of
+    """Returns the processor time, user and system, of a process and all its threads, in seconds, to the nanosecond: the clock of
     clock_getcpuclockid(3)."""
     return time.clock_gettime((~pid << 3) | 2)
 
 
 def stat(pid):
-    """The fields of /proc/PID/stat from the state on, which follows the name."""
+    """Returns the fields of /proc/PID/stat from the state on, which follows the name."""
     with open(f"/proc/{pid}/stat") as file:
         return file.read().rpartition(")")[2].split()
 
 
 def children(pid):
-    """The child processes of a process that have not ended."""
+    """Yields the child processes of a process that have not ended."""
     for other in filter(str.isdigit, os.listdir("/proc")):
         try:
             if int(stat(other)[1]) == pid:
@@ -32,7 +32,7 @@ def children(pid):
 
 
 def family_processor(pid):
-    """The processor time in seconds of a process, its children, and its ended children (these to the tick)."""
+    """Returns the processor time in seconds of a process, its children, and its ended children (these to the tick)."""
     total = processor(pid) + sum(map(int, stat(pid)[13:15])) / TICK
     for child in children(pid):
         try:
@@ -43,14 +43,14 @@ def family_processor(pid):
 
 
 def memory(pid):
-    """The resident anonymous and shared memory of a process in bytes. A page that several processes share counts by its share."""
+    """Returns the resident anonymous and shared memory of a process in bytes. A page that several processes share counts by its share."""
     with open(f"/proc/{pid}/smaps_rollup") as file:
         fields = dict(line.split()[:2] for line in file if line.startswith("Pss_"))
     return (int(fields["Pss_Anon:"]) + int(fields["Pss_Shmem:"])) * 1024
 
 
 def family_memory(pid):
-    """The memory of a process and its children in bytes."""
+    """Returns the memory of a process and its children in bytes."""
     return memory(pid) + sum(memory(child) for child in children(pid))
 
 
@@ -64,7 +64,7 @@ class Use:
         return Use(self.requests + other.requests, self.processor + other.processor, self.clock + other.clock, self.clients)
 
     def figures(self):
-        """The microseconds of processor time and of waiting for each request, and the requests of all clients in a second."""
+        """Returns the microseconds of processor time and of waiting for each request, and the requests of all clients in a second."""
         return {
             "requests": self.requests,
             "processor_us": self.processor / self.requests * 1e6,
@@ -96,7 +96,7 @@ def run_for(client, prepared, seconds):
 
 
 def one_client(system, requests, pipe, work):
-    """The process of a client: reports that it is ready, waits for the start, reports the result of its work or its fault, and waits until
+    """Runs a client in its process: reports that it is ready, waits for the start, reports the result of its work or its fault, and waits until
     that was read."""
     try:
         client = system.client()
@@ -109,7 +109,7 @@ def one_client(system, requests, pipe, work):
         pipe.send(f"{system.name}: {type(fault).__name__}: {fault}")
 
 
-def reported(pipe):
+def receive_report(pipe):
     """Receives a report of a client. A fault ends the run."""
     try:
         word = pipe.recv()
@@ -122,7 +122,7 @@ def reported(pipe):
 
 def at_once(system, lists, work):
     """Runs a client for each list of requests, each in a process of its own. Returns the results of their work, the processor time of the
-    program, and the wall-clock time, in seconds."""
+    system, and the wall-clock time, in seconds."""
     clients = []
     for requests in lists:
         ours, theirs = multiprocessing.Pipe()
@@ -131,11 +131,11 @@ def at_once(system, lists, work):
         theirs.close()
         clients.append((process, ours))
     for _, pipe in clients:
-        reported(pipe)
+        receive_report(pipe)
     before, clock = system.processor(), time.monotonic()
     for _, pipe in clients:
         pipe.send("start")
-    given = [reported(pipe) for _, pipe in clients]
+    given = [receive_report(pipe) for _, pipe in clients]
     clock, used = time.monotonic() - clock, system.processor() - before
     for process, pipe in clients:
         pipe.send("end")
@@ -144,20 +144,20 @@ def at_once(system, lists, work):
 
 
 def side_by_side(system, lists):
-    """The cost of the requests, with a client for each list."""
+    """Returns the cost of the requests, with a client for each list."""
     spent, used, clock = at_once(system, lists, run)
     return Use(sum(map(len, lists)), sum(one[0] for one in spent) if system.in_process else used, clock, len(lists))
 
 
 def for_a_time(system, lists, seconds):
-    """The cost of requests that a client for each list sends again and again, for some seconds of wall-clock time."""
+    """Returns the cost of requests that a client for each list sends again and again, for some seconds of wall-clock time."""
     counts, used, clock = at_once(system, lists, functools.partial(run_for, seconds=seconds))
     return Use(sum(counts), used, clock, len(lists))
 
 
-def measured(system, lists):
-    """The cost of the requests. A system may measure them itself (`run_lists`). If a system runs inside its clients, a single client is this
-    process."""
+def cost_of(system, lists):
+    """Returns the cost of the requests. A system may measure them itself (`run_lists`). If a system runs inside its clients, a single client is
+    this process."""
     if hasattr(system, "run_lists"):
         return system.run_lists(lists)
     if not (system.in_process and len(lists) == 1):

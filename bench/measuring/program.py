@@ -5,6 +5,7 @@ import socket
 import subprocess
 
 from .documents import PAGE, compact
+from .receive import receive
 from .server import Server
 
 # the settings of the C library that suit large databases best: docs/PERFORMANCE.md says what each does
@@ -23,7 +24,7 @@ def parse_pairs(text):
 
 
 def titled(pair):
-    """The name of a pair of shards and workers in tables."""
+    """Returns the name of a pair of shards and workers in tables."""
     shards, workers = pair
     return f"{shards} shard{'s' * (shards > 1)}, {workers} worker{'s' * (workers > 1)}"
 
@@ -44,24 +45,18 @@ class Connection:
     def exchange(self, text):
         """Sends a message; returns the status and the body of the reply."""
         self.socket.sendall(text)
-        data = self.socket.recv(1 << 18)
+        data = receive(self.socket, "the program")
         while (end := data.find(b"\r\n\r\n")) < 0:
-            data += self.more()
+            data += receive(self.socket, "the program")
         at = data.index(b"Content-Length: ") + 16
         whole = end + 4 + int(data[at : data.index(b"\r\n", at)])
         if len(data) < whole:
             pieces, have = [data], len(data)
             while have < whole:
-                pieces.append(self.more())
+                pieces.append(receive(self.socket, "the program"))
                 have += len(pieces[-1])
             data = b"".join(pieces)
         return data[9:12], data[end + 4 :]
-
-    def more(self):
-        piece = self.socket.recv(1 << 18)
-        if not piece:
-            raise OSError("the program has closed the connection")
-        return piece
 
     def prepare(self, request):
         about = request.about
@@ -93,7 +88,7 @@ class Connection:
 
 
 def tuned(tunables):
-    """The environment of a program with some settings of the C library."""
+    """Returns the environment of a program with some settings of the C library."""
     return {**os.environ, "GLIBC_TUNABLES": tunables}
 
 
@@ -124,8 +119,8 @@ class Program(Server):
 
     def index(self, which, name=None):
         """Builds an index; `name` is that of a further one on the same members."""
-        asked = {"index": {"fields": self.corpus.columns(which)}, "ddoc": "m" if name is None else "further", "name": name or which}
-        status, body = self.connection.exchange(message("POST", "_index", asked))
+        definition = {"index": {"fields": self.corpus.columns(which)}, "ddoc": "m" if name is None else "further", "name": name or which}
+        status, body = self.connection.exchange(message("POST", "_index", definition))
         if status != b"200" or json.loads(body)["result"] != "created":
             raise SystemExit(f"an index was answered by {status} {body}")
 

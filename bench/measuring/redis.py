@@ -1,10 +1,11 @@
-"""Measures Redis for comparison, as far as it goes: a text by its id, and a commit of one text. Nothing is written to a disk."""
+"""Measures Redis for comparison, with the requests that it has: a text by its id, and a commit of one text. Nothing is written to a disk."""
 import shutil
 import socket
 import subprocess
 
 from .documents import compact
 from .program import free_port
+from .receive import receive
 from .server import Server
 
 
@@ -25,16 +26,15 @@ class Connection:
         self.socket.setsockopt(socket.IPPROTO_TCP, socket.TCP_NODELAY, 1)
 
     def exchange(self, text):
-        """Sends a command; returns the answer: a line, or a text after a line with its length."""
+        """Sends a command; returns the answer: a line, or a text after a line with its length. Raises `OSError` if Redis closes the
+        connection before the answer is complete."""
         self.socket.sendall(text)
         data = b""
         while True:
-            data += self.socket.recv(1 << 16)
+            data += receive(self.socket, "Redis", 1 << 16)
             end = data.find(b"\r\n") + 2
             if end >= 2 and (data[:1] != b"$" or len(data) == end + int(data[1 : end - 2]) + 2):
                 return data
-            if not data:
-                raise OSError("Redis has closed the connection")
 
     def prepare(self, request):
         return command("GET", request.about[0]) if request.kind == "get" else command("SET", *request.about)

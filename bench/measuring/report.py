@@ -6,7 +6,7 @@ from .tables import Results
 
 
 def rounded(value):
-    """The figures as they are kept in a file, with at most six digits."""
+    """Returns the figures as they are kept in a file, with at most six digits."""
     if isinstance(value, float):
         return float(f"{value:.6g}")
     if isinstance(value, dict):
@@ -15,7 +15,7 @@ def rounded(value):
 
 
 def report(found):
-    """All tables of a measurement as Markdown, after a line on the machine, the commit and the command."""
+    """Yields all tables of a measurement as Markdown, after a line on the machine, the commit and the command."""
     results = Results()
     results.add_all(found["runs"])
     yield f"{found['machine']}, commit {found['commit']}, `{found['command']}`"

@@ -46,7 +46,7 @@ class Measure:
     share: float
 
     def least(self, kind, clients):
-        """The least number of requests of a kind that each client sends."""
+        """Returns the least number of requests of a kind that each client sends."""
         return max(-(-LEAST // clients), int(REQUESTS[kind][1] * min(1, self.share)))
 
 
@@ -55,7 +55,7 @@ def say(*words):
 
 
 def load(system, corpus):
-    """The cost of loading the documents. Preparing the bulks is not counted."""
+    """Loads the documents, and returns the cost. Preparing the bulks is not counted."""
     numbers = corpus.numbers()
     used = clock = 0
     for at in range(0, corpus.count, BULK * CHUNK):
@@ -101,7 +101,7 @@ def measure(make, corpus, wanted, turn):
 
 
 def requests(system, corpus, wanted, turn):
-    """The figures of each kind of request, with each number of clients."""
+    """Returns the figures of each kind of request, with each number of clients."""
     rows = {}
     if max(wanted.clients) > 1:
         system.open_to_clients()
@@ -116,11 +116,11 @@ def requests(system, corpus, wanted, turn):
 
 
 def row(system, kind, clients, wanted, turn):
-    """The cost of requests of a kind, after a warm-up: about as many as fill the share of SECONDS. Besides the warm-up, writes add at most
+    """Returns the cost of requests of a kind, after a warm-up: about as many as fill the share of SECONDS. Besides the warm-up, writes add at most
     about as many documents as were loaded, unless the least number asks for more."""
     def sent(count, part):
         seeds = [f"{turn}-{clients}-{client}-{kind}-{part}" for client in range(clients)]
-        return processes.measured(system, [system.corpus.requests(kind, count, seed) for seed in seeds])
+        return processes.cost_of(system, [system.corpus.requests(kind, count, seed) for seed in seeds])
 
     seconds, least = SECONDS * wanted.share, wanted.least(kind, clients)
     estimate = sent(max(2, least // 2), "warm-up").processor / max(2, least // 2) / clients

@@ -1,4 +1,4 @@
-"""Measures a server in plain Rust (bench/peer) for comparison. It takes the same arguments and the same requests."""
+"""Measures a server in plain Rust (bench/peer) for comparison. It takes the arguments and the requests of the program."""
 import os
 import subprocess
 
@@ -11,7 +11,7 @@ CRATES = "/usr/share/cargo/registry"
 
 
 def built():
-    """The path of the program, built with Debian's cargo from Debian's crates; None if these are not installed."""
+    """Returns the path of the program, built with Debian's cargo from Debian's crates; None if these are not installed."""
     if not (os.path.exists(CARGO) and os.path.isdir(CRATES)):
         return None
     home = os.path.join(FOLDER, "target", "home")

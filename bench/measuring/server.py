@@ -10,7 +10,7 @@ class Server:
     in_process = False
 
     def connected(self):
-        """The first client, as soon as the system accepts one."""
+        """Returns the first client, as soon as the system accepts one. Ends the run if the system ends, or does not accept one in half a minute."""
         for _ in range(600):
             time.sleep(0.05)
             try:
@@ -24,7 +24,7 @@ class Server:
         return self.client()
 
     def last_words(self):
-        """What it wrote when it did not start, if that is kept."""
+        """Returns what the system wrote when it did not start; empty if that is not kept."""
         return ""
 
     def processor(self):

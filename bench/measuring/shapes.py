@@ -2,7 +2,7 @@
 
 
 def member_at(path, value):
-    """The member of a value at a path."""
+    """Returns the member of a value at a path."""
     for step in path.split("."):
         value = value[step]
     return value

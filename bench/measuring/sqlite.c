@@ -3,8 +3,8 @@
    usage: sqlite DATABASE LOCKING REQUESTS
 
    REQUESTS is a file of records, each ended by the byte 30, with the byte 31 between its parts. The first has the number of statements, and
-   as many records follow, a statement each. Each further one is a request: the number of its statement, how many rows are right (-1: it is
-   no query), the ids of the first and the last row, and the values, each a letter and its text: i for a whole number, t for a text. The
+   as many records follow, a statement each. Each further one is a request: the number of its statement, the right number of rows (-1: it is
+   not a query), the ids of the first and the last row, and the values, each a letter and its text: i for a whole number, t for a text. The
    program writes a line when it has read them, waits for a byte, and sends them. A fifth of them are a warm-up; of the others it writes the
    number, and the seconds of processor time and by the clock. A wrong answer ends it with status 1. */
 #include <sqlite3.h>
@@ -44,7 +44,7 @@ static void set(const char *setting, const char *value) {
     if (sqlite3_exec(database, text, NULL, NULL, NULL) != SQLITE_OK) fail(text);
 }
 
-/* Reads the next record, without its end. Returns NULL behind the last. */
+/* Reads the next record, without its end. Returns NULL after the last. */
 static char *record(FILE *file) {
     char *text = NULL;
     size_t size = 0;

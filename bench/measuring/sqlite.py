@@ -23,9 +23,9 @@ def member(path):
     return f"json_extract(body,'$.{path}')"
 
 
-def asked_of(corpus):
-    """The statement for each kind of request. Its index alone serves each, without a sort; a comparison of row values would scan the
-    index."""
+def statements_of(corpus):
+    """Returns the statement for each kind of request. An index serves each but the scan and the commit, without a sort; a comparison of row
+    values would scan the index."""
     group, kind, price, text = (member(corpus.path(name)) for name in ("group", "kind", "price", "text"))
     return {
         "get": ROW + "id = ?",
@@ -50,10 +50,10 @@ class Connection:
     """A connection to the database, which compares replies with the right answers."""
 
     def __init__(self, database, corpus):
-        self.execute, self.asked = database.execute, asked_of(corpus)
+        self.execute, self.statements = database.execute, statements_of(corpus)
 
     def prepare(self, request):
-        return self.asked[request.kind], request.about
+        return self.statements[request.kind], request.about
 
     def ask(self, message, answer):
         cursor = self.execute(*message)
@@ -93,7 +93,7 @@ class SQLite:
         return processes.memory(os.getpid())
 
     def pages(self):
-        """The size of its pages in bytes."""
+        """Returns the size of its pages in bytes."""
         return self.database.execute("SELECT page_count * page_size FROM pragma_page_count(), pragma_page_size()").fetchone()[0]
 
     def prepare_bulk(self, numbers):
@@ -146,11 +146,11 @@ class SQLiteInC(SQLite):
 
     def write_requests(self, requests, client):
         """Writes the requests of a client to a file, and returns its name."""
-        asked = asked_of(self.corpus)
+        statements = statements_of(self.corpus)
         kinds = sorted({one.kind for one in requests})
         name = self.file(f"requests-{client}")
         with open(name, "w", newline="") as file:
-            file.writelines(f"{record}\x1e" for record in [len(kinds), *(asked[kind] for kind in kinds)])
+            file.writelines(f"{record}\x1e" for record in [len(kinds), *(statements[kind] for kind in kinds)])
             for one in requests:
                 answer = [-1, "", ""] if one.answer is None else [one.answer.count, one.answer.first, one.answer.last]
                 values = [f"{'i' if isinstance(word, int) else 't'}{word}" for word in one.about]

@@ -33,18 +33,18 @@ class Results:
                         self.add(variant, int(count), system, rows)
 
     def counts(self, variant):
-        """The numbers of documents of a variant that were measured."""
+        """Returns the numbers of documents of a variant that were measured."""
         return sorted(self.runs.get(variant, {}))
 
     def systems(self):
-        """The names of the systems that were measured."""
+        """Returns the names of the systems that were measured."""
         return list(dict.fromkeys(system for counts in self.runs.values() for systems in counts.values() for system in systems))
 
     def values(self, variant, count, system, row, figure):
         return [rows[row][figure] for rows in self.runs.get(variant, {}).get(count, {}).get(system, []) if row in rows]
 
     def table(self, variant, title, rows):
-        """A table with a line for each row and number of documents, and a column for each system; None if nothing was measured."""
+        """Returns a table with a line for each row and number of documents, and a column for each system; None if nothing was measured."""
         systems = self.systems()
         lines = [f"| {title} | documents | {' | '.join(systems)} |", "|---|---|" + "---|" * len(systems)]
         for what, row, figure, factor in rows:

@@ -10,6 +10,7 @@ import tempfile
 
 from .documents import PAGE
 from .program import free_port
+from .receive import receive
 from .server import Server
 
 SCRIPT = """
@@ -46,7 +47,7 @@ def program():
 
 
 def packed(value):
-    """A JSON value as MessagePack. Its numbers must be whole, not negative, and of at most 64 bits."""
+    """Returns a JSON value as MessagePack. Its numbers must be whole, not negative, and of at most 64 bits."""
     if isinstance(value, bool):
         return b"\xc3" if value else b"\xc2"
     if isinstance(value, int):
@@ -62,7 +63,7 @@ def packed(value):
 
 
 def message(kind, body):
-    """The bytes of a request: its length, its header with the kind, and its body."""
+    """Returns the bytes of a request: its length, its header with the kind, and its body."""
     text = packed({0: kind, 1: 0}) + packed(body)
     return b"\xce" + len(text).to_bytes(4, "big") + text
 
@@ -79,7 +80,7 @@ class Connection:
         self.socket.setsockopt(socket.IPPROTO_TCP, socket.TCP_NODELAY, 1)
         greeting = b""
         while len(greeting) < 128:
-            greeting += self.socket.recv(128 - len(greeting))
+            greeting += receive(self.socket, "Tarantool", 128 - len(greeting))
 
     def exchange(self, text, count=1):
         """Sends bytes, and returns what is read until the given number of answers have come."""
@@ -87,10 +88,7 @@ class Connection:
         data, end = b"", 0
         for _ in range(count):
             while len(data) < end + 5 or len(data) < end + 5 + int.from_bytes(data[end + 1 : end + 5], "big"):
-                piece = self.socket.recv(1 << 18)
-                if not piece:
-                    raise OSError("Tarantool has closed the connection")
-                data += piece
+                data += receive(self.socket, "Tarantool")
             # the header of an answer begins with 0 and its code as 32 bits; code 0 is success
             if data[end + 5 : end + 12] != b"\x83\x00\xce\x00\x00\x00\x00":
                 raise OSError(f"Tarantool: {data[end : end + 300]!r}")
@@ -134,7 +132,7 @@ class Tarantool(Server):
         self.connection = self.connected()
 
     def first_client(self):
-        """A connection, if there is a space already."""
+        """Returns a connection. Raises `OSError` if there is no space yet."""
         connection = self.client()
         connection.exchange(selection(0, EQUAL, ["none"]))
         return connection

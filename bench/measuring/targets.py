@@ -1,6 +1,7 @@
 """The targets of the program's speed and memory, each with what a measurement found.
 
-A target is a text, and a function from a measurement to figures, each with whether it is within the target.
+A target is a text, and a function from a measurement to figures, each with whether it is within the target. The functions below make such
+functions; their docstrings say which figures these give.
 """
 import statistics
 
@@ -14,10 +15,10 @@ INDEXED = ["equality", "falling", "two", "deep"]
 
 def against(kinds, other, most=1.0):
     """The ratio of processor time to that of another system, for some rows, each size and each number of clients."""
-    def figures(measured):
-        for size in measured.sizes:
-            for row in [f"{kind} {number}" for kind in kinds for number in measured.found["clients"]]:
-                ours, theirs = (measured.median(size, system, row) for system in (OURS, other))
+    def figures(measurement):
+        for size in measurement.sizes:
+            for row in [f"{kind} {number}" for kind in kinds for number in measurement.found["clients"]]:
+                ours, theirs = (measurement.median(size, system, row) for system in (OURS, other))
                 if ours and theirs:
                     yield ours / theirs, ours / theirs <= most
     return figures
@@ -25,26 +26,26 @@ def against(kinds, other, most=1.0):
 
 def growth(kind, most):
     """The ratio of a row at the greatest number of documents to the same row at the smallest."""
-    def figures(measured):
-        few, many = (measured.median(size, OURS, f"{kind} 1") for size in (measured.sizes[0], measured.sizes[-1]))
-        if few and many and len(measured.sizes) > 1:
+    def figures(measurement):
+        few, many = (measurement.median(size, OURS, f"{kind} 1") for size in (measurement.sizes[0], measurement.sizes[-1]))
+        if few and many and len(measurement.sizes) > 1:
             yield many / few, many / few <= most
     return figures
 
 
 def load_rate(least):
     """The rate of a load, as a part of that of plain Rust, with flat and with nested documents."""
-    def figures(measured):
+    def figures(measurement):
         for variant in ("flat", "nested"):
-            ours, theirs = (measured.median(measured.usual, system, "load", variant=variant) for system in (OURS, RUST))
+            ours, theirs = (measurement.median(measurement.usual, system, "load", variant=variant) for system in (OURS, RUST))
             if ours and theirs:
                 yield theirs / ours, theirs / ours >= least
     return figures
 
 
 def bytes_of(row, variant, most):
-    def figures(measured):
-        value = measured.median(measured.usual, OURS, row, "bytes", variant)
+    def figures(measurement):
+        value = measurement.median(measurement.usual, OURS, row, "bytes", variant)
         if value:
             yield value, value <= most
     return figures
@@ -52,9 +53,9 @@ def bytes_of(row, variant, most):
 
 def index_row(most):
     """The memory of a row of an index: the mean of three indexes."""
-    def figures(measured):
+    def figures(measurement):
         for variant in ("flat", "nested"):
-            few, many = (measured.median(measured.usual, OURS, row, "bytes", variant) for row in ("memory", "indexed"))
+            few, many = (measurement.median(measurement.usual, OURS, row, "bytes", variant) for row in ("memory", "indexed"))
             if few and many:
                 yield (many - few) / 3, (many - few) / 3 <= most
     return figures
@@ -62,8 +63,8 @@ def index_row(most):
 
 def writers(least):
     """The ratio of the commits of four clients in a second to those of one."""
-    def figures(measured):
-        one, four = (measured.median(measured.usual, OURS, f"commit {number}", "a_second") for number in (1, 4))
+    def figures(measurement):
+        one, four = (measurement.median(measurement.usual, OURS, f"commit {number}", "a_second") for number in (1, 4))
         if one and four:
             yield four / one, four / one >= least
     return figures
@@ -71,17 +72,17 @@ def writers(least):
 
 def pairs_at_most(kinds, place, most):
     """The ratio of processor time with a pair of shards and workers to that with one shard and one worker."""
-    def figures(measured):
+    def figures(measurement):
         for kind in kinds:
-            if ALONE[kind] in measured.pair_rows():
-                values = [statistics.median(one) for one in measured.pair_rows()[ALONE[kind]]]
+            if ALONE[kind] in measurement.pair_rows():
+                values = [statistics.median(one) for one in measurement.pair_rows()[ALONE[kind]]]
                 yield values[PAIRS.index(place)] / values[0], values[PAIRS.index(place)] / values[0] <= most
     return figures
 
 
 def counted(kind, most):
-    def figures(measured):
-        kinds = measured.found["counts"].get("mangod 1/1")
+    def figures(measurement):
+        kinds = measurement.found["counts"].get("mangod 1/1")
         if kinds:
             yield kinds[kind][0], kinds[kind][0] <= most
     return figures
@@ -89,8 +90,8 @@ def counted(kind, most):
 
 def counted_pairs(kinds, place, most):
     """The ratio of the instructions with a pair of shards and workers to those with one shard and one worker."""
-    def figures(measured):
-        one, other = (measured.found["counts"].get(f"mangod {name}") for name in ("1/1", "{}/{}".format(*place)))
+    def figures(measurement):
+        one, other = (measurement.found["counts"].get(f"mangod {name}") for name in ("1/1", "{}/{}".format(*place)))
         for kind in kinds if one and other else []:
             yield other[kind][0] / one[kind][0], other[kind][0] / one[kind][0] <= most
     return figures
@@ -98,25 +99,25 @@ def counted_pairs(kinds, place, most):
 
 def worker_share(row, columns, most):
     """The time of four workers as a part of that of one, for pairs of columns of the table of workers."""
-    def figures(measured):
-        cells = next((cells for name, cells in measured.grid("workers")["rows"].items() if row in name), None)
+    def figures(measurement):
+        cells = next((cells for name, cells in measurement.grid("workers")["rows"].items() if row in name), None)
         for one, four in columns if cells else []:
             yield cells[four] / cells[one], cells[four] / cells[one] <= most
     return figures
 
 
 def cells_at_most(part, most):
-    """The figures of a table of one row."""
-    def figures(measured):
-        for cells in measured.grid(part)["rows"].values():
+    """The figures of all cells of a table."""
+    def figures(measurement):
+        for cells in measurement.grid(part)["rows"].values():
             yield from ((cell, cell <= most) for cell in cells)
     return figures
 
 
 def many_indexes(most):
     """The ratio of the time that an index takes among the most indexes to the time that it takes among the fewest."""
-    def figures(measured):
-        found = measured.grid("catalogs")
+    def figures(measurement):
+        found = measurement.grid("catalogs")
         for cells in found["rows"].values():
             few, many = (int(found["columns"][place].replace(",", "")) for place in (0, -1))
             ratio = cells[-1] / many / (cells[0] / few)
@@ -126,7 +127,7 @@ def many_indexes(most):
 
 def each(*parts):
     """The figures of several functions."""
-    return lambda measured: [figure for part in parts for figure in part(measured)]
+    return lambda measurement: [figure for part in parts for figure in part(measurement)]
 
 
 def by_pairs(ratios, kinds):
@@ -160,7 +161,7 @@ TARGETS = [
     ("where the range decides, a row that a page skips takes at most 40 ns, with each pair of shards and workers", cells_at_most("skips", 40)),
     ("on 64 shards an index takes at most 1.25 times as long to define if there are four times as many", many_indexes(1.25)),
 ]
-# so many figures are shown each; of more, the least and the greatest
+# up to this many figures are all shown; of more, the least and the greatest
 SHOWN = 6
 
 
@@ -168,11 +169,11 @@ def spelled(value):
     return f"{value:,.2f}" if value < 100 else f"{value:,.0f}"
 
 
-def targets(measured):
-    """The table of the targets."""
+def targets(measurement):
+    """Yields the lines of the table of the targets."""
     yield "| Target, in every cell: each number of documents and of clients | Met | Found |\n|---|---|---|"
     for title, figures in TARGETS:
-        found = list(figures(measured))
+        found = list(figures(measurement))
         if found:
             values, met = [value for value, _ in found], sum(within for _, within in found)
             verdict = "yes" if met == len(found) else f"no: {met} of {len(found)}" if met else "no"

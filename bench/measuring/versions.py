@@ -9,7 +9,7 @@ from .rust import CARGO
 
 
 def first_line(*args):
-    """The first line that a program writes; None if it is not installed."""
+    """Returns the first line that a program writes; None if it is not installed."""
     if not args[0] or not shutil.which(args[0]):
         return None
     done = subprocess.run(args, capture_output=True, text=True)
@@ -17,7 +17,7 @@ def first_line(*args):
 
 
 def versions():
-    """The version of each system that is installed, by its name."""
+    """Returns the version of each system that is installed, by its name."""
     folder = postgres.programs()
     said = {
         "PostgreSQL": first_line(f"{folder}/postgres", "--version") if folder else None,

@@ -70,10 +70,10 @@ def work(system, beside, mark, seconds, begun):
     beside(system, mark, time.monotonic() + seconds)
 
 
-def waited(system, kind, beside, seconds):
-    """The time of each request of a reader, in seconds, while the other client works; sorted."""
+def time_reader(system, kind, beside, seconds):
+    """Sends the requests of a reader while the other client works. Returns the time of each, in seconds, sorted."""
     client = system.client()
-    asked = [(client.prepare(one), one.answer) for one in system.corpus.requests(kind, 5000, "waits")]
+    prepared = [(client.prepare(one), one.answer) for one in system.corpus.requests(kind, 5000, "waits")]
     begun = multiprocessing.Event()
     worker = multiprocessing.Process(target=work, args=(system, beside, kind, seconds, begun), daemon=True) if beside else None
     gc.collect()
@@ -83,7 +83,7 @@ def waited(system, kind, beside, seconds):
         begun.wait(60)
     times, end = [], time.monotonic() + seconds
     while len(times) < LEAST or (worker.is_alive() if worker else time.monotonic() < end):
-        text, answer = asked[len(times) % len(asked)]
+        text, answer = prepared[len(times) % len(prepared)]
         start = time.monotonic()
         client.ask(text, answer)
         times.append(time.monotonic() - start)
@@ -97,19 +97,19 @@ def waited(system, kind, beside, seconds):
 
 
 def percentiles(times):
-    """The median, 99 %, 99.9 % and the longest of the waits, in microseconds."""
+    """Returns the median, 99 %, 99.9 % and the longest of the waits, in microseconds."""
     return [times[min(len(times) - 1, int(len(times) * part))] * 1e6 for part in PARTS]
 
 
 def systems(args):
-    """The functions that start each measured system: the program with one shard and one worker, and what is installed of the others."""
+    """Returns the functions that start each measured system: the program with one shard and one worker, and what is installed of the others."""
     made = [lambda corpus: Program(args.program, corpus)]
     made += [PlainRust] if "rust" in args.systems and built() else []
     return made + ([PostgreSQL] if "postgres" in args.systems and programs() else [])
 
 
 def waits(args):
-    """The table of a reader's waits, with a column for each system."""
+    """Returns the table of a reader's waits, with a column for each system."""
     corpus, seconds, columns = args.corpus(args.usual), SECONDS * args.share, {}
     for make in systems(args):
         for what, beside in BESIDE.items():
@@ -122,14 +122,14 @@ def waits(args):
                     system.index(which)
                 system.settle()
                 for kind in KINDS:
-                    column[kind, what] = percentiles(waited(system, kind, beside, seconds))
+                    column[kind, what] = percentiles(time_reader(system, kind, beside, seconds))
                     say(f"{system.name}: {kind} beside {what}:", *(f"{one:,.0f}" for one in column[kind, what]))
     rows = {f"{title}, beside {what}": [one.get((kind, what)) for one in columns.values()] for kind, title in KINDS.items() for what in BESIDE}
     return grid(f"µs, {corpus.count:,} documents, a reader's request: median / 99 % / 99.9 % / longest", columns, rows)
 
 
-def started(make, corpus, count):
-    """The milliseconds from a start to the first reply, and the kB of memory then: the medians of some starts."""
+def measure_starts(make, corpus, count):
+    """Returns the milliseconds from a start to the first reply, and the kB of memory then: the medians of some starts."""
     times, sizes = [], []
     for _ in range(count):
         begin = time.monotonic()
@@ -141,9 +141,9 @@ def started(make, corpus, count):
 
 
 def starts(args):
-    """The table of the times from the start to the first reply."""
+    """Returns the table of the times from the start to the first reply."""
     made = {"{}/{}".format(*pair): lambda corpus, pair=pair: Program(args.program, corpus, pair) for pair in PAIRS}
     made.update({"plain Rust": PlainRust} if "rust" in args.systems and built() else {})
-    found = [started(make, args.corpus(BULK), max(2, int(STARTS * args.share))) for make in made.values()]
+    found = [measure_starts(make, args.corpus(BULK), max(2, int(STARTS * args.share))) for make in made.values()]
     rows = dict(zip(("ms by the clock", "kB of memory"), map(list, zip(*found))))
     return grid("from the start to the first reply, without documents", made, rows)

@@ -103,7 +103,7 @@ class Conversation:
 
 
 def values_in(text):
-    """The texts of the JSON values at the beginning of a text, and the rest of it."""
+    """Returns the texts of the JSON objects at the beginning of a text, and the rest of it."""
     values = []
     text = text.lstrip()
     while text.startswith("{"):
@@ -166,8 +166,8 @@ def expected_of(kind, text, more):
 
 
 def entries_in(text):
-    """The entries of a file, without empty lines and comments: the line number, the first character, the rest of the line, and the
-    stripped lines that continue it."""
+    """Returns the entries of a file, without empty lines and comments: the line number, the first character, the rest of the line, and the stripped
+    lines that continue it."""
     entries = []
     for number, line in enumerate(text.splitlines(), start=1):
         if not line.strip() or line.startswith("# "):
@@ -201,7 +201,7 @@ def add_entry(conversation, line, kind, text, more):
 
 
 def conversations_in(file):
-    """The conversations of a file. Exits with a message if a line is malformed."""
+    """Returns the conversations of a file. Exits with a message if a line is malformed."""
     conversations = []
     line = 0
     try:
@@ -228,7 +228,7 @@ def conversations_in(file):
 
 
 def all_conversations(folder=FOLDER):
-    """The conversations of a folder, by their names."""
+    """Returns the conversations of a folder, by their names."""
     conversations = [found for file in sorted(folder.glob("*.txt")) for found in conversations_in(file)]
     names = [conversation.name for conversation in conversations]
     repeated = {name for name in names if names.count(name) > 1}
@@ -238,7 +238,7 @@ def all_conversations(folder=FOLDER):
 
 
 def select(only, folder=FOLDER):
-    """The conversations of a folder with these names, or in files with these names; all if there are no names."""
+    """Returns the conversations of a folder with these names, or in files with these names; all if there are no names."""
     conversations = all_conversations(folder)
     for name in only:
         if name not in conversations and not (folder / f"{name}.txt").exists():
@@ -251,7 +251,7 @@ def numbers_in(text):
 
 
 def with_reshards(exchanges, counts):
-    """The exchanges, with a reshard between every two that are answered."""
+    """Returns the exchanges, with a reshard between every two that are answered."""
     numbers = itertools.cycle(counts)
     done = Expected('200 {"ok":true}', 200, b'{"ok":true}')
     resharded = []
@@ -264,7 +264,7 @@ def with_reshards(exchanges, counts):
 
 
 def model_faults(conversation):
-    """The expected replies that the model does not give. Each message of the conversation must be complete."""
+    """Yields the expected replies that the model does not give. Each message of the conversation must be complete."""
     database = Database()
     for exchange in conversation.exchanges:
         (found,), _ = replies_in(database.answer(exchange.message))
@@ -272,7 +272,7 @@ def model_faults(conversation):
 
 
 def reply_faults(exchanges, replies, shards):
-    """The faults of the replies to these exchanges, whose messages are complete: the line of the file, and what is wrong."""
+    """Yields the faults of the replies to these exchanges, whose messages are complete: the line of the file, and what is wrong."""
     for place, exchange in enumerate(exchanges):
         if place >= len(replies):
             yield exchange.line, f"{exchange.text}\n    no reply"

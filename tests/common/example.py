@@ -1,9 +1,10 @@
-"""Runs the programs of examples/ that other scripts than tests/examples.py test."""
+"""Runs programs of examples/ for the scripts that test one of them alone."""
 import subprocess
 import sys
-from pathlib import Path
 
-EXAMPLES = Path(__file__).resolve().parent.parent.parent / "examples"
+from common.modules import TOP
+
+EXAMPLES = TOP / "examples"
 SECONDS = 60
 
 

@@ -29,39 +29,39 @@ class Reply:
 
 
 def message(method, target, body=b""):
-    """A request with a length. The target begins with `/`."""
+    """Returns a request with a length. The target begins with `/`."""
     return b"%s %s HTTP/1.1\r\nContent-Length: %d\r\n\r\n%s" % (method.encode(), target.encode(), len(body), body)
 
 
 def post(target, body):
-    """A POST to a target below /db/."""
+    """Returns a POST to a target below /db/."""
     return message("POST", f"/db/{target}", body)
 
 
 def post_json(target, value):
-    """A POST of a value to a target below /db/."""
+    """Returns a POST of a value to a target below /db/."""
     return post(target, json.dumps(value).encode())
 
 
 def bulk(documents, **members):
-    """A POST of documents to _bulk_docs, with further members of its body."""
+    """Returns a POST of documents to _bulk_docs, with further members of its body."""
     return post_json("_bulk_docs", {"docs": documents, **members})
 
 
 def get(target):
-    """A GET of a target below /db/, without a length."""
+    """Returns a GET of a target below /db/, without a length."""
     return b"GET /db/%s HTTP/1.1\r\n\r\n" % target.encode()
 
 
 def reply(status, text, silent=False):
-    """The bytes of a reply. `silent`: without the body, but with its length, as a reply to HEAD."""
+    """Returns the bytes of a reply. `silent`: without the body, but with its length, as a reply to HEAD."""
     body = text.encode() + b"\n"
     head = f"HTTP/1.1 {status} {PHRASES[status]}\r\nContent-Type: application/json\r\nContent-Length: {len(body)}\r\n\r\n"
     return head.encode() + (b"" if silent else body)
 
 
 def replies_in(output):
-    """The complete replies at the beginning of the output, and the rest of it."""
+    """Returns the complete replies at the beginning of the output, and the rest of it."""
     replies = []
     while True:
         head, end, rest = output.partition(b"\r\n\r\n")
@@ -73,12 +73,12 @@ def replies_in(output):
 
 
 def body_of(one):
-    """The body of the bytes of one request or reply."""
+    """Returns the body of the bytes of one request or reply."""
     return one.partition(b"\r\n\r\n")[2]
 
 
 def status_of(one):
-    """The status of the bytes of a reply; None if the reply is incomplete."""
+    """Returns the status of the bytes of a reply; None if the reply is incomplete."""
     head, end, body = one.partition(b"\r\n\r\n")
     found = re.search(rb"\r\nContent-Length: ([0-9]+)", head)
     return int(head.split(b" ")[1]) if end and found and len(body) == int(found[1]) else None

@@ -49,12 +49,12 @@ class Proxy:
         self.rest.start()
 
     def child(self):
-        """The process of the program."""
+        """Returns the process of the program."""
         [child] = Path(f"/proc/{self.process.pid}/task/{self.process.pid}/children").read_text().split()
         return int(child)
 
     def status(self):
-        """The exit status of the proxy, and the last line that it wrote."""
+        """Returns the exit status of the proxy, and the last line that it wrote."""
         status = self.process.wait(SECONDS)
         self.rest.join(SECONDS)
         return status, self.lines[-1] if self.lines else ""

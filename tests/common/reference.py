@@ -6,11 +6,10 @@ An example is a block ```http-request (a line with the method and the target, th
 import re
 import sys
 from dataclasses import dataclass
-from pathlib import Path
 
 from common.messages import Reply, message
+from common.modules import TOP
 
-TOP = Path(__file__).resolve().parent.parent.parent
 REFERENCE = TOP / "docs" / "REFERENCE.md"
 BLOCK = re.compile(r"^```(http-request|http-reply)\n(.*?)^```$", re.MULTILINE | re.DOTALL)
 HEADING = re.compile(r"^## (.*)$", re.MULTILINE)
@@ -47,7 +46,7 @@ def examples_in(section, heading):
 
 
 def sections_of(document):
-    """Each heading of a document that has examples, with its examples."""
+    """Yields each heading of a document that has examples, with its examples."""
     pieces = HEADING.split(document)
     for heading, section in zip(pieces[1::2], pieces[2::2]):
         examples = examples_in(section, heading)

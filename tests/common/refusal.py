@@ -1,4 +1,4 @@
-"""The shim refuse/refuse.c. It is compiled when a test begins; a file that is shared with the program says what it refuses."""
+"""Controls the shim refuse/refuse.c. It is compiled when a test begins; a file that is shared with the program says what it refuses."""
 import contextlib
 import mmap
 import os
@@ -32,18 +32,18 @@ class Refusal:
         struct.pack_into("<q", self.words, 8 * word, value)
 
     def calls(self, kind):
-        """The number of calls of a kind since the last reset."""
+        """Returns the number of calls of a kind since the last reset."""
         return self.word(KINDS[kind] + CALLS)
 
     def refused(self, kind):
-        """The number of calls of a kind that were refused since the last reset."""
+        """Returns the number of calls of a kind that were refused since the last reset."""
         return self.word(KINDS[kind] + REFUSED)
 
     def word(self, word):
         return struct.unpack_from("<q", self.words, 8 * word)[0]
 
     def reset(self, piece=0, takes_none=False, whole_writes=False):
-        """Sets all counts to 0, and refuses nothing. If `piece` is not 0, each read moves at most so many bytes; so does each write, unless
+        """Sets all counts to 0, and refuses nothing. If `piece` is not 0, each read moves at most that many bytes; so does each write, unless
         `whole_writes`. With `takes_none`, a refused write takes no byte instead of failing."""
         for word in range(PIECE):
             self.put(word, 0)
@@ -68,7 +68,7 @@ class Refusal:
 
 @contextlib.contextmanager
 def refusals():
-    """Compiles the shim, which needs a C compiler."""
+    """Compiles the shim, which needs a C compiler, yields its `Refusal`, and removes its files afterwards."""
     folder = Path(tempfile.mkdtemp())
     try:
         yield Refusal(folder)

@@ -21,7 +21,7 @@ def free_port():
 
 
 def descriptor_limit(descriptors):
-    """A function that limits the descriptors of a new program before it runs; None if no number is given."""
+    """Returns a function that limits the descriptors of a new program before it runs; None if no number is given."""
     if descriptors is None:
         return None
     return lambda: resource.setrlimit(resource.RLIMIT_NOFILE, (descriptors, descriptors))

@@ -1,4 +1,5 @@
-"""Connections that send bytes and read replies."""
+"""Connections to the program. A `Wire` carries bytes, which a test chooses and compares itself; how the connection ends is a value. A `Client`
+carries JSON values through Python's http.client, which checks the form of each reply and raises if the connection ends."""
 import contextlib
 import http.client
 import json
@@ -11,44 +12,74 @@ SECONDS = 60
 
 
 class Wire:
-    """A client that sends bytes and reads the bytes of replies. `unread` has the bytes that were received and not yet returned."""
+    """A connection that sends bytes, and reads bytes or whole replies. It raises no error when the other side ends the connection: what is
+    read is then shorter. `was_reset` says whether the other side reset it. `unread` has the bytes that were received and not yet returned."""
 
-    def __init__(self, port):
-        self.socket = socket.create_connection(("127.0.0.1", port), timeout=SECONDS)
+    def __init__(self, port, host="127.0.0.1", seconds=SECONDS):
+        self.socket = socket.create_connection((host, port), timeout=seconds)
         self.socket.setsockopt(socket.IPPROTO_TCP, socket.TCP_NODELAY, 1)
-        self.unread = b""
-
-    def more(self):
-        """Reads more bytes. False if the connection has ended."""
-        try:
-            piece = self.socket.recv(1 << 20)
-        except ConnectionError:
-            piece = b""
-        self.unread += piece
-        return bool(piece)
-
-    def reply(self):
-        """The next whole reply, or as much of it as came before the connection ended. `Content-Length` must be its last field."""
-        while not (found := LENGTH.search(self.unread)) and self.more():
-            pass
-        end = found.end() + int(found[1]) if found else len(self.unread)
-        while len(self.unread) < end and self.more():
-            pass
-        taken, self.unread = self.unread[:end], self.unread[end:]
-        return taken
+        self.unread, self.was_reset = b"", False
 
     def send(self, message):
         """Sends a message. False if the connection has ended."""
         try:
             self.socket.sendall(message)
         except ConnectionError:
+            self.was_reset = True
             return False
         return True
+
+    def more(self):
+        """Reads more bytes. False if the connection has ended."""
+        try:
+            piece = self.socket.recv(1 << 20)
+        except ConnectionError:
+            self.was_reset, piece = True, b""
+        self.unread += piece
+        return bool(piece)
+
+    def take(self, count):
+        """Returns the first `count` of the unread bytes."""
+        taken, self.unread = self.unread[:count], self.unread[count:]
+        return taken
+
+    def read(self, count):
+        """Returns the next `count` bytes, or fewer if the connection ends."""
+        while len(self.unread) < count and self.more():
+            pass
+        return self.take(count)
+
+    def reply(self):
+        """Returns the next whole reply, or as much of it as came before the connection ended. `Content-Length` must be its last field."""
+        while not (found := LENGTH.search(self.unread)) and self.more():
+            pass
+        return self.read(found.end() + int(found[1])) if found else self.take(len(self.unread))
+
+    def rest(self):
+        """Returns all bytes that come until the connection ends."""
+        while self.more():
+            pass
+        return self.take(len(self.unread))
 
     def ask(self, message):
         """Sends a message, and reads its reply."""
         self.send(message)
         return self.reply()
+
+    def more_within(self, seconds):
+        """Reads more bytes. False if the connection has ended; None if within some seconds neither bytes nor the end came."""
+        usual = self.socket.gettimeout()
+        self.socket.settimeout(max(seconds, 0.01))
+        try:
+            return self.more()
+        except TimeoutError:
+            return None
+        finally:
+            self.socket.settimeout(usual)
+
+    def is_closed(self, seconds):
+        """Whether the next thing from the other side is the end of the connection, and comes within some seconds."""
+        return self.more_within(seconds) is False
 
     def finish(self):
         """Ends the output of the connection; replies can still be read."""
@@ -57,15 +88,41 @@ class Wire:
         except OSError:
             pass
 
-    def rest(self):
-        """All bytes that come until the connection ends."""
-        while self.more():
-            pass
-        taken, self.unread = self.unread, b""
-        return taken
+    def reset(self):
+        """Closes the connection with a reset."""
+        self.socket.setsockopt(socket.SOL_SOCKET, socket.SO_LINGER, struct.pack("ii", 1, 0))
+        self.close()
 
     def close(self):
         self.socket.close()
+
+    def __enter__(self):
+        return self
+
+    def __exit__(self, *_):
+        self.close()
+
+
+def exchange(port, data):
+    """Sends bytes on a connection of their own, then ends its output. Returns all that comes back, and whether the connection was reset."""
+    with Wire(port) as wire:
+        wire.send(data)
+        wire.finish()
+        return wire.rest(), wire.was_reset
+
+
+def bytes_back(port, data):
+    """Sends bytes on a connection of their own. Returns all that comes back, also if the connection ends with a reset."""
+    return exchange(port, data)[0]
+
+
+def replies_to(port, messages):
+    """Sends messages on a connection of their own. Returns all that comes back. Raises `ConnectionResetError` if the connection ends with a
+    reset."""
+    found, was_reset = exchange(port, messages)
+    if was_reset:
+        raise ConnectionResetError(f"the connection was reset after {found[-300:]!r}")
+    return found
 
 
 class Client:
@@ -75,6 +132,7 @@ class Client:
         self.connection = http.client.HTTPConnection("127.0.0.1", port, timeout=SECONDS)
 
     def ask(self, method, target, body=None):
+        """Sends a request. Returns the status and the value of the reply."""
         text = body if body is None or isinstance(body, str) else json.dumps(body)
         self.connection.request(method, target, text and text.encode())
         reply = self.connection.getresponse()
@@ -88,51 +146,3 @@ def ask_once(port, method, target, body=None):
     """Sends one request on a connection of its own. Returns the status and the value of the reply."""
     with contextlib.closing(Client(port)) as client:
         return client.ask(method, target, body)
-
-
-def connect(port):
-    return socket.create_connection(("127.0.0.1", port), timeout=SECONDS)
-
-
-def read(connection, count):
-    """Reads `count` bytes, or fewer if the connection ends."""
-    found = b""
-    while len(found) < count:
-        piece = connection.recv(count - len(found))
-        if not piece:
-            break
-        found += piece
-    return found
-
-
-def replies_to(port, messages):
-    """Sends messages in one piece, then ends the output. Returns all that comes back, at most 16 MiB. A reset raises an error."""
-    with connect(port) as connection:
-        connection.sendall(messages)
-        connection.shutdown(socket.SHUT_WR)
-        return read(connection, 1 << 24)
-
-
-def bytes_back(port, data):
-    """Sends bytes, then ends the output. Returns all that comes back, until the connection ends or is reset."""
-    with contextlib.closing(Wire(port)) as wire:
-        wire.send(data)
-        wire.finish()
-        return wire.rest()
-
-
-def reset(connection):
-    """Closes a connection with a reset."""
-    connection.setsockopt(socket.SOL_SOCKET, socket.SO_LINGER, struct.pack("ii", 1, 0))
-    connection.close()
-
-
-def is_closed(connection, seconds):
-    """Whether the other side ends or resets a connection within some seconds."""
-    connection.settimeout(max(seconds, 0.01))
-    try:
-        return connection.recv(1) == b""
-    except ConnectionError:
-        return True
-    except socket.timeout:
-        return False

@@ -40,12 +40,12 @@ class Source:
             self.news.notify_all()
 
     def best(self, name):
-        """The leaves that are not deleted, the winner first."""
+        """Returns the leaves that are not deleted, the winner first."""
         leaves = self.documents[name].items()
         return sorted((revision for revision, (_, _, deleted) in leaves if not deleted), key=order, reverse=True)
 
     def served(self, name):
-        """What the program and CouchDB must give for `GET ?conflicts=true` of a document; None for a deleted one."""
+        """Returns what the program and CouchDB must give for `GET ?conflicts=true` of a document; None for a deleted one."""
         best = self.best(name)
         if not best:
             return None
@@ -53,7 +53,7 @@ class Source:
         return {"_id": name, "_rev": best[0], **conflicts, **json.loads("{%s}" % self.documents[name][best[0]][1])}
 
     def rows(self, since, limit, wait):
-        """The reply to `_changes?style=all_docs`."""
+        """Returns the reply to `_changes?style=all_docs`."""
         with self.news:
             if wait:
                 self.news.wait_for(lambda: self.sequence > since, wait)
@@ -79,7 +79,7 @@ class Source:
         return '{"results":[%s]}' % ",".join(found)
 
     def answer(self, method, target, fields, body):
-        """The status and the bytes of a reply."""
+        """Returns the status and the bytes of a reply."""
         self.requests.append((method, target))
         if fields.get("Authorization") != USER:
             return 401, b'{"error":"unauthorized","reason":"Name or password is incorrect."}'
@@ -87,7 +87,7 @@ class Source:
         return status, text.encode()
 
     def reply(self, method, target, body):
-        """The status and the text of a reply to a user with a right password."""
+        """Returns the status and the text of a reply to a user with a right password."""
         parts = urlsplit(target)
         query = {name: values[0] for name, values in parse_qs(parts.query).items()}
         if self.faults:

@@ -18,19 +18,19 @@ EMPTY = (200, {"docs": [], "bookmark": "nil"})
 
 
 def reverse_made(text):
-    """A text with each revision and id that the server made in reverse."""
+    """Returns a text with each revision and id that the server made in reverse."""
     return MADE.sub(lambda found: found[0][::-1], text)
 
 
 def reverse_members(value):
-    """A value with the members of its objects in reverse order."""
+    """Returns a value with the members of its objects in reverse order."""
     if isinstance(value, dict):
         return {name: reverse_members(value[name]) for name in reversed(list(value))}
     return [reverse_members(item) for item in value] if isinstance(value, list) else value
 
 
 def own_reply(method, target, body):
-    """The reply to a request that only CouchDB serves; None for another request."""
+    """Returns the reply to a request that only CouchDB serves; None for another request."""
     if target == "":
         return {"PUT": (201, {"ok": True}), "DELETE": (200, {"ok": True}), "GET": (200, {"db_name": "db"})}[method]
     if method == "GET" and target in ("_all_docs", "_changes", "_design/by"):
@@ -43,7 +43,7 @@ def own_reply(method, target, body):
 
 
 def couchdb_reply(method, target, status, value):
-    """A reply of the program in the form of CouchDB."""
+    """Returns a reply of the program in the form of CouchDB."""
     if isinstance(value, dict) and "reason" in value:
         return status, {**value, "reason": "another text"}
     if "revs=true" in target:
@@ -66,7 +66,7 @@ class Front:
         self.port, self.planted, self.requests = port, planted or (lambda method, target, reply: reply), []
 
     def answer(self, method, path, _, body):
-        """The status and the bytes of a reply."""
+        """Returns the status and the bytes of a reply."""
         target, text = path.removeprefix("/db").removeprefix("/"), body.decode()
         self.requests.append((method, target))
         reply = own_reply(method, target, text)

@@ -37,7 +37,7 @@ def refuse_constant(text):
 
 
 def whole_number(text):
-    """A whole number, as an int if it fits 64 bits, else as a float; `-0` as a float, too."""
+    """Returns a whole number, as an int if it fits 64 bits, else as a float; `-0` as a float, too."""
     number = int(text)
     return number if -(2**63) <= number < 2**63 and text != "-0" else float(number)
 
@@ -55,7 +55,7 @@ def parse(data):
 
 
 def value_of(body):
-    """The value of a body. Raises the refusal of one that is not JSON, or that the program does not read."""
+    """Returns the value of a body. Raises the refusal of one that is not JSON, or that the program does not read."""
     try:
         value = parse(body)
         compact(value).encode()
@@ -66,7 +66,7 @@ def value_of(body):
 
 
 def path_of(document, new_edits):
-    """The revisions that a document of a bulk gives, newest first; None if it gives none."""
+    """Returns the revisions that a document of a bulk gives, newest first; None if it gives none."""
     path = None
     if "_rev" in document:
         found = is_text(document["_rev"]) and re.fullmatch(r"([1-9][0-9]{0,9})-(.*)", document["_rev"], re.DOTALL)
@@ -84,7 +84,7 @@ def path_of(document, new_edits):
 
 
 def edit_of(document, new_edits):
-    """The edit of a document of a bulk: its id, its path, whether it deletes, and its body."""
+    """Returns the edit of a document of a bulk: its id, its path, whether it deletes, and its body."""
     special = {name for name in document if name.startswith("_")}
     deleted = document.get("_deleted", False)
     require(special <= MEMBERS and isinstance(deleted, bool), BAD_MEMBER)
@@ -95,7 +95,7 @@ def edit_of(document, new_edits):
 
 
 def bulk_of(body):
-    """The edits of a bulk, and its `new_edits`."""
+    """Returns the edits of a bulk, and its `new_edits`."""
     require(isinstance(body, dict) and isinstance(body.get("docs"), list) and all(isinstance(document, dict) for document in body["docs"]))
     new_edits = body.get("new_edits", True)
     require(isinstance(new_edits, bool))
@@ -103,7 +103,7 @@ def bulk_of(body):
 
 
 def columns_of(fields):
-    """The paths of an array of columns, and their directions."""
+    """Returns the paths of an array of columns, and their directions."""
     paths, directions = [], set()
     require(isinstance(fields, list))
     for field in fields:
@@ -122,7 +122,7 @@ def design_id(ddoc):
 
 
 def definition_of(body):
-    """The ddoc and the name of an index, its columns and their direction."""
+    """Returns the ddoc and the name of an index, its columns and their direction."""
     require(isinstance(body, dict) and isinstance(body.get("index"), dict))
     for name in ("ddoc", "name"):
         require(is_text(body.get(name, "x")) and body.get(name, "x"))
@@ -147,7 +147,7 @@ def bookmark_text(parts):
 
 
 def bookmark_of(text):
-    """The parts of a bookmark: ddoc, name and direction of its index, and key and id of its row; None for `nil`."""
+    """Returns the parts of a bookmark: ddoc, name and direction of its index, and key and id of its row; None for `nil`."""
     if text in (None, "nil"):
         return None
     try:
@@ -161,7 +161,7 @@ def bookmark_of(text):
 
 
 def query_of(body):
-    """The parts of a query. Raises its first fault."""
+    """Returns the parts of a query. Raises its first fault."""
     require(isinstance(body, dict) and isinstance(body.get("selector"), dict))
     limit, skip = body.get("limit", 25), body.get("skip", 0)
     require(all(is_whole(number) and 0 <= number <= MOST for number in (limit, skip)))

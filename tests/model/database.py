@@ -16,7 +16,7 @@ NO_INDEX = (400, "no_usable_index", "No index exists for this sort, try indexing
 
 
 def reply_of(status, value):
-    """The bytes of a reply with this value as its body."""
+    """Returns the bytes of a reply with this value as its body."""
     return reply(status, compact(value))
 
 
@@ -32,7 +32,7 @@ class Database:
         self.counter = 0
 
     def answer(self, message):
-        """The bytes of the reply to a complete message on one of the routes."""
+        """Returns the bytes of the reply to a complete message on one of the routes."""
         head, _, body = message.partition(b"\r\n\r\n")
         method, target, _ = head.split(b"\r\n")[0].decode().split(" ")
         try:
@@ -42,7 +42,7 @@ class Database:
             return reply_of(status, {"error": error, "reason": reason})
 
     def execute(self, method, target, body):
-        """The status and the value of the reply to a command."""
+        """Returns the status and the value of the reply to a command."""
         path, _, query = target.partition("?")
         steps = path.split("/")[2:]
         if method == "POST":
@@ -111,8 +111,8 @@ class Database:
         return 200, {"ok": True}
 
     def serving_index(self, query):
-        """The index that serves a query, its columns, and the front of its bookmarks. Raises the refusal if there is none or the
-        bookmark does not fit."""
+        """Returns the index that serves a query, its columns, and the front of its bookmarks. Raises the refusal if there is none or the bookmark
+        does not fit."""
         index = ranges.choose_index(self.indexes, query["atoms"], query["sort"], query["hint"])
         bodies.require(index is not False, NO_INDEX)
         columns = self.indexes[index][0] if index else ["_id"]
@@ -122,7 +122,7 @@ class Database:
         return index, columns, front
 
     def rows(self, query, columns):
-        """The rows of all documents that a query matches: the order of the key, the bytes of the id, the key and the id."""
+        """Yields the rows of all documents that a query matches: the order of the key, the bytes of the id, the key and the id."""
         paths = [*map(steps_of, columns)]
         for name, document in self.documents.items():
             served = document.served(name)
@@ -145,7 +145,7 @@ class Database:
         return 200, {"bookmark": bookmark, "docs": [self.shown(row[3], query) for row in rows]}
 
     def shown(self, name, query):
-        """A document as the page of a query shows it."""
+        """Returns a document as the page of a query shows it."""
         served = self.documents[name].served(name, query["conflicts"])
         return projection(served, query["fields"]) if query["fields"] else served
 

@@ -17,7 +17,7 @@ class Document:
         self.bodies = {}
 
     def leaves(self):
-        """The leaves, best first: those that are not deleted, by position and id, and then the deleted ones, by position and id."""
+        """Returns the leaves, best first: those that are not deleted, by position and id, and then the deleted ones, by position and id."""
         inner = set(self.parents.values())
         leaves = [revision for revision in self.parents if revision not in inner]
         return sorted(leaves, key=lambda revision: (not self.bodies[revision][0], revision), reverse=True)
@@ -49,7 +49,7 @@ class Document:
         return made
 
     def chain(self, revision):
-        """A revision and all older ones, newest first."""
+        """Returns a revision and all older ones, newest first."""
         found = []
         while revision:
             found.append(revision)
@@ -57,7 +57,7 @@ class Document:
         return found
 
     def served(self, name, conflicts=False):
-        """The document as it is served; None if it is deleted."""
+        """Returns the document as it is served; None if it is deleted."""
         winner, *others = self.leaves()
         deleted, body = self.bodies[winner]
         if deleted:

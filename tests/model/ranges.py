@@ -4,7 +4,7 @@ from model.values import order, steps_of
 
 
 def count_bounded(columns, atoms):
-    """How many columns of an index a query bounds: those fixed by `$eq`, and the first one after them if it is bounded."""
+    """Returns how many columns of an index a query bounds: those fixed by `$eq`, and the first one after them if it is bounded."""
     count = 0
     for column in columns:
         names = [name for name, _ in bounds(atoms, steps_of(column))]
@@ -15,7 +15,7 @@ def count_bounded(columns, atoms):
 
 
 def choose_index(indexes, atoms, sort, hint):
-    """The ddoc and name of the index that serves a query; None for `_all_docs`, False if no index can serve it."""
+    """Returns the ddoc and name of the index that serves a query; None for `_all_docs`, False if no index can serve it."""
     needed = [*([name] for name in ("_id", "_rev")), *map(steps_of, sort), *(atom[0] for atom in atoms if needs_part(atom))]
     paths = [steps_of(path) for path in sort]
     usable = []
@@ -35,7 +35,7 @@ def choose_index(indexes, atoms, sort, hint):
 
 
 def tightest(limits, upper):
-    """The tightest of the bounds of one side: its value, and whether it is inclusive. None if there is no bound."""
+    """Returns the tightest of the bounds of one side: its value, and whether it is inclusive. None if there is no bound."""
     if not limits:
         return None
     side = min if upper else max
@@ -45,7 +45,7 @@ def tightest(limits, upper):
 
 
 def range_of(columns, atoms):
-    """The range of a query: empty, or the fixed values and the two ends of the column after them."""
+    """Returns the range of a query: empty, or the fixed values and the two ends of the column after them."""
     equal = []
     for column in columns:
         limits = list(bounds(atoms, steps_of(column)))
@@ -59,7 +59,7 @@ def range_of(columns, atoms):
 
 
 def range_with(equal, limits):
-    """The range with these fixed values, and with these bounds of the column after them."""
+    """Returns the range with these fixed values, and with these bounds of the column after them."""
     lower = tightest([limit for limit in limits if limit[0] in ("$gt", "$gte")], False)
     upper = tightest([limit for limit in limits if limit[0] in ("$lt", "$lte")], True)
     if lower and upper:

@@ -110,7 +110,7 @@ def holds(selector, value, negated=False):
 
 
 def atoms(selector, negated=False, steps=()):
-    """The operators that every match fulfils: the steps, the name, the argument, and whether the operator is negated."""
+    """Returns the operators that every match fulfils: the steps, the name, the argument, and whether the operator is negated."""
     kind, *parts = selector
     if kind == "test":
         return [(list(steps), *parts, negated)]
@@ -131,7 +131,7 @@ def needs_part(atom):
 
 
 def bounds(atoms_found, steps):
-    """The operators that bound the part at these steps, with their arguments."""
+    """Yields the operators that bound the part at these steps, with their arguments."""
     for path, name, argument, negated in atoms_found:
         if path == steps and name in OPPOSITES:
             name = OPPOSITES[name] if negated else name

@@ -10,7 +10,7 @@ def compact(value):
 
 
 def order(value):
-    """A sort key that orders values by type: null, false and true, numbers, strings, arrays, objects."""
+    """Returns a sort key that orders values by type: null, false and true, numbers, strings, arrays, objects."""
     if value is None:
         return (0,)
     if isinstance(value, bool):
@@ -25,13 +25,13 @@ def order(value):
 
 
 def steps_of(path):
-    """The steps of a path; None if one of them is empty."""
+    """Returns the steps of a path; None if one of them is empty."""
     steps = path.replace("\\.", "\0").split(".")
     return None if "" in steps else [step.replace("\0", ".") for step in steps]
 
 
 def part_at(value, steps):
-    """The part of a value to which the steps lead, or MISSING."""
+    """Returns the part of a value to which the steps lead, or MISSING."""
     for step in steps:
         if isinstance(value, dict) and step in value:
             value = value[step]
@@ -43,7 +43,7 @@ def part_at(value, steps):
 
 
 def projection(value, paths):
-    """An object with the parts of a value that the paths name."""
+    """Returns an object with the parts of a value that the paths name."""
     found = {}
     for steps in map(steps_of, paths):
         part, place = part_at(value, steps), found

@@ -15,8 +15,8 @@ MOST = 2**31 - 1
 
 @dataclass
 class Shape:
-    """What makes an input of a size; the larger size in the gate and in full; and the power of the size with which it may cost:
-    1, or 2 where the input costs a product of two parts that both grow."""
+    """How an input of a given size is made; the larger size in the gate and with --full; and the power of the size to which its cost may
+    grow: 1, or 2 where the cost is a product of two parts that both grow."""
 
     make: Callable
     gate: int
@@ -43,13 +43,13 @@ def document(name, *members):
 
 
 def page(names):
-    """The body of a page of ids alone, of the index of all documents."""
+    """Returns the body of a page of ids alone, of the index of all documents."""
     last = json.dumps([None, "_all_docs", "asc", [names[-1]], names[-1]], separators=(",", ":")).encode()
     bookmark = base64.urlsafe_b64encode(last).rstrip(b"=")
     return b'{"bookmark":"%s","docs":[%s]}\n' % (bookmark, b",".join(b'{"_id":"%s"}' % name.encode() for name in names))
 
 
 def revision(parent, body=b"{}"):
-    """The id of the new revision of a document with this body over a parent; the first revision has no parent (None)."""
+    """Returns the id of the new revision of a document with this body over a parent; the first revision has no parent (None)."""
     text = b"null" if parent is None else b'"%s"' % parent
     return hashlib.md5(b"[false,%s,%s]" % (text, body)).hexdigest().encode()

@@ -42,7 +42,7 @@ def nor_arms(n):
 
 
 def arguments_by_elements(n):
-    """`$in` with n arguments on n elements: a product."""
+    """`$in` with n arguments on n elements: the cost is their product."""
     given = replicas([document(b"a", b'"v":[%s]' % arguments(n, 10**6))])
     return given + find(b'{"v":{"$in":[%s]}}' % arguments(n)), NOTHING
 
@@ -98,7 +98,7 @@ def arms_under_a_path(n):
 
 
 def atoms_under_a_path(n):
-    """n operators below a path of n steps, all of which are asked: each has its whole path, so a product."""
+    """n operators below a path of n steps, all of them required. Each keeps the whole path, so the cost is a product."""
     steps = b".".join([b"s"] * n)
     arms = b",".join(b'{"$gt":%d}' % i for i in range(n))
     return find(b'{"%s":{"$and":[%s]}}' % (steps, arms)), NOTHING
@@ -111,8 +111,8 @@ def many_fields(n):
 
 
 def columns(n):
-    """An index of n columns, a document that has all of them, and a query that bounds all of them: a product of columns and
-    atoms."""
+    """An index of n columns, a document that has all of them, and a query that bounds all of them: the cost is a product of
+    columns and atoms."""
     names = [b"c%d" % i for i in range(n)]
     index = post("_index", b'{"index":{"fields":[%s]},"ddoc":"x","name":"i"}' % b",".join(b'"%s"' % name for name in names))
     edit = replicas([document(b"a", *(b'"%s":1' % name for name in names))])
@@ -124,7 +124,7 @@ def created(n):
 
 
 def indexes(n):
-    """n indexes, one after another: a commit costs each definition, so a product."""
+    """n indexes, one after another: each commit copies all definitions, so the cost is a product."""
     return created(n), b'{"id":"_design/x","name":"i%04d","result":"created"}\n' % (n - 1)
 
 

@@ -57,7 +57,7 @@ def repeated_name(n):
 
 
 def members(n):
-    """A document of n members, and the document."""
+    """A document of n members, and a look-up of it."""
     lengths = (itertools.product(LETTERS, repeat=length) for length in itertools.count(1))
     names = itertools.islice(itertools.chain.from_iterable(lengths), n)
     inside = [(bytes(name), b"1") for name in names]

@@ -40,8 +40,8 @@ def leaves(n):
 
 
 def falling_leaves(n):
-    """n leaves of one document, in one bulk, the best one first: each new revision moves the newer ones above it, of which there
-    are at most four times the root of the older ones."""
+    """n leaves of one document, in one bulk, the best one first: each new revision moves the newer ones above it, which are
+    at most four times as many as the square root of the number of the older ones."""
     return replicas([b'{"_id":"d","_rev":"1-%06x"}' % (n - i) for i in range(n)]), ADDED
 
 
@@ -52,12 +52,12 @@ def low_leaves(n):
 
 
 def leaves_one_by_one(n):
-    """n leaves of one document, in a bulk each: a product of bulks and leaves."""
+    """n leaves of one document, in a bulk each: the cost is a product of bulks and leaves."""
     return b"".join(replicas([b'{"_id":"d","_rev":"1-%06x"}' % i]) for i in range(n)), ADDED
 
 
 def conflicts(n):
-    """n leaves of one document, and the document with its conflicts."""
+    """n leaves of one document, and a look-up of it with its conflicts."""
     ids = [b"1-%06x" % i for i in range(n)]
     served = b'{"_conflicts":[%s],"_id":"d","_rev":"%s"}\n' % (b",".join(b'"%s"' % rev for rev in ids[-2::-1]), ids[-1])
     bulk = replicas([b'{"_id":"d","_rev":"%s"}' % rev for rev in ids])
@@ -106,7 +106,7 @@ def documents_without_an_id(n):
 
 
 def refused_at_the_end(n):
-    """n documents of which the last one is bad, so that none is written."""
+    """n documents and a bad one after them, so that none is written."""
     every = [document(b"%06x" % i) for i in range(n)] + [b'{"_id":"_x"}']
     return replicas(every) * 4, b'{"error":"doc_validation","reason":"Bad document id."}\n'
 

@@ -11,13 +11,14 @@ pub record Conversation : Type 0 where
   pub written : List ℕ
   pub end : SessionEnd
 
--- these sessions took a service from the first state to the last; each began in the state that the one before left
+-- these sessions, one after another, took a service from the state `old` to the state `new`; each began in the state that the one before
+-- it left
 abbrev pub InTurn : {S : Type 0} → (S → Asked → Option Answer → S → Type 0) → List ℕ → S → List Conversation → S → Type 0
 InTurn answers db old [] new = new ≡ old
 InTurn {S} answers db old (c ∷ cs) new =
     (mid : S) × Converses answers db c.end (record { old = old; bytes = c.bytes; text = c.written; new = mid })
     × InTurn answers db mid cs new
 
--- sessions of the database of this name took a seat from the first state to the last, one after another
+-- some sessions of the database of this name, one after another, took a seat from the state `old` to the state `new`
 abbrev pub IsServed : List ℕ → SeatView → SeatView → Type 0
 IsServed db old new = (conversations : List Conversation) × InTurn (Answered db) db old conversations new

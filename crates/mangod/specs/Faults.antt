@@ -8,21 +8,22 @@ use Rattle.mangod.specs.declared.faults.AfterFault.TheVariants.{Again, Never, Wi
 use Rattle.mangod.specs.declared.faults.Disposal.{Disposal}
 use Rattle.mangod.specs.declared.faults.Disposal.TheVariants.{Close, CloseGently, Keep}
 
--- descriptors or buffers ran out: ENFILE, EMFILE or ENOBUFS
+-- whether the number means that descriptors or buffers ran out: ENFILE, EMFILE or ENOBUFS
 abbrev pub is_shortage : ℤ → Bool
 is_shortage number = int_eq number (pos 23) || (int_eq number (pos 24) || int_eq number (pos 105))
 
--- the fault is of one connection only: ENONET, EPROTO, ENOPROTOOPT or EHOSTDOWN
+-- whether the number means a fault that concerns one connection only: ENONET, EPROTO, ENOPROTOOPT or EHOSTDOWN
 abbrev pub is_of_one_connection : ℤ → Bool
 is_of_one_connection number =
     int_eq number (pos 64) || (int_eq number (pos 71) || (int_eq number (pos 92) || int_eq number (pos 112)))
 
--- what to do after a failed accept, by the number of the error, if its kind does not say
+-- what to do after a failed accept if the kind of its error does not decide: by the number of the error (`None`: it has no number)
 abbrev pub after_number : Option ℤ → AfterFault
 after_number None = Never
 after_number (Some number) = if is_shortage number then WithMore else if is_of_one_connection number then Again else Never
 
--- what to do with a connection, by its session's end and whether its input was ended in a pause between messages
+-- what to do with a connection, by its session's end and whether the session's input was ended between two messages, though the client
+-- may still send more
 abbrev pub disposal_after : SessionEnd → Bool → Disposal
 disposal_after Eof true = Keep
 disposal_after Refused paused = CloseGently

@@ -14,7 +14,7 @@ const SESSIONS: usize = 16;
 
 /// Parses the arguments `DB SHARDS WORKERS SESSIONS ADDR`; `None` if they are wrong. Allocates nothing.
 ///
-/// SHARDS is 1 to 64, WORKERS is 1 to 32, and SESSIONS is 1 to 16. ADDR is any text.
+/// DB is a database name, SHARDS is 1 to 64, WORKERS is 1 to 32, and SESSIONS is 1 to 16. ADDR is any text.
 pub(crate) fn settings(args: &[String]) -> Option<Settings<'_>>
     ensures { option_map settings_seen result ≡ settings_of (map (λ arg. string_bytes arg) args.now) }
 {
@@ -30,7 +30,7 @@ pub(crate) fn settings(args: &[String]) -> Option<Settings<'_>>
     }
 }
 
-/// The number of sessions asked for; 1 if the arguments are wrong.
+/// Returns the number of sessions asked for; 1 if the arguments are wrong.
 pub(crate) fn sessions(asked: Option<Settings<'_>>) -> usize
     ensures { result ≡ sessions_in (option_map settings_seen asked.entry) }
 {
@@ -40,7 +40,7 @@ pub(crate) fn sessions(asked: Option<Settings<'_>>) -> usize
     }
 }
 
-// The settings of a name, an address and three numbers; `None` if one of them is wrong.
+// Makes the settings of a name, an address and three numbers; `None` if the name is not a database name or a number is `None`.
 fn check_settings<'a>(
     db: &'a str,
     addr: &'a str,
@@ -92,7 +92,7 @@ fn is_name_byte(byte: u8) -> bool
     byte.is_ascii_lowercase() || byte.is_ascii_digit() || b"_$()+-".contains(&byte)
 }
 
-// Parses a decimal number from 1 to `most`; `None` for anything else.
+// Parses a decimal number from 1 to `most`, which may begin with zeros; `None` for anything else.
 fn number(arg: &str, most: usize) -> Option<usize>
     requires { most ≤ 1000 }
     ensures value { result ≡ number_of arg.now most }

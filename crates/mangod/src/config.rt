@@ -1,6 +1,6 @@
 ghost use Rattle.std.specs.Prelude.{◌≤◌};
 
-/// The settings of the program: its parsed arguments. The texts are borrowed from them.
+/// The settings of the program: its parsed arguments. The texts are borrowed.
 #[derive(Clone, Copy)]
 pub(crate) struct Settings<'a> {
     pub(crate) db: &'a str,

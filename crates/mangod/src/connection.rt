@@ -1,4 +1,5 @@
-//! The reader and the writer of a session's connection. They keep to time limits, and end the input when the client pauses.
+//! The reader and the writer of a session's connection. They enforce time limits, and end the session's input when the client pauses or the
+//! session's turn is over.
 ghost use Rattle.std.specs.Prelude.{◌≡◌, ◌≤◌, length};
 ghost use Rattle.std.specs.Io.{ReadsAtMost};
 
@@ -28,7 +29,7 @@ pub(crate) struct Connection<'a, H> {
 }
 
 impl<'a, H: Clock> Connection<'a, H> {
-    /// A connection that is idle now.
+    /// Makes a connection on which nothing has been read or written. Its session began at `began`.
     pub(crate) fn new(
         rt: &'a H,
         stream: &'a TcpStream,
@@ -48,12 +49,15 @@ impl<'a, H: Clock> Connection<'a, H> {
         }
     }
 
-    /// Whether the input was ended in a pause between two messages. The client may still send more.
+    /// Whether the session's input was ended between two messages: in a pause, or because the session's turn was over. The client may still
+    /// send more.
     pub(crate) fn has_paused(&self) -> bool {
         self.has_paused.get()
     }
 
     /// Enters a phase. `is_new`: a message, a reply or a silence begins now, and its time is counted from now.
+    ///
+    /// Errors: that of the clock if `is_new`; the phase then stays as it was.
     fn enter(&self, phase: Phase, is_new: bool) -> io::Result<()> {
         if is_new {
             self.since.set(Instant::now(self.rt)?);
@@ -62,7 +66,7 @@ impl<'a, H: Clock> Connection<'a, H> {
         Ok(())
     }
 
-    /// Ends the input of this session, though the client may still send more.
+    /// Ends the input of this session: returns 0, the number of bytes of a read at the end. The client may still send more.
     fn pause(&self) -> usize
         ensures { result ≡ 0 }
     {
@@ -70,9 +74,9 @@ impl<'a, H: Clock> Connection<'a, H> {
         0
     }
 
-    /// The seconds left for the current message or reply.
+    /// Returns the seconds left for the current message or reply.
     ///
-    /// Errors: `TimedOut` if it has taken too long.
+    /// Errors: `TimedOut` if it has taken too long, and that of the clock.
     fn seconds_left(&self) -> io::Result<u64> {
         match seconds_left(self.since.get().elapsed(self.rt)?) {
             0 => Err(io::Error::from(ErrorKind::TimedOut)),
@@ -80,7 +84,7 @@ impl<'a, H: Clock> Connection<'a, H> {
         }
     }
 
-    /// Sets the read timeout of the socket, unless it has this value already.
+    /// Sets the read timeout of the socket, unless it has this value already. Errors: those of the socket.
     fn limit_read(&self, millis: u64) -> io::Result<()> {
         if self.read_millis.get() != millis {
             self.stream
@@ -90,7 +94,7 @@ impl<'a, H: Clock> Connection<'a, H> {
         Ok(())
     }
 
-    /// Sets the write timeout of the socket, unless it has this value already.
+    /// Sets the write timeout of the socket, unless it has this value already. Errors: those of the socket.
     fn limit_write(&self, seconds: u64) -> io::Result<()> {
         if self.write_seconds.get() != seconds {
             self.stream
@@ -100,8 +104,10 @@ impl<'a, H: Clock> Connection<'a, H> {
         Ok(())
     }
 
-    /// Reads between messages. Ends the input of this session if no byte comes soon, or if its turn is over and no thread watches the
-    /// other connections.
+    /// Reads between messages. Ends the input of this session if no byte comes in `PAUSE_MILLIS`, or if the session's turn is over and no
+    /// thread watches the lobby.
+    ///
+    /// Errors: those of the clock and the socket.
     fn read_idle(&self, piece: &mut [u8]) -> io::Result<usize>
         ensures { ReadsAtMost result piece.new }
     {
@@ -116,7 +122,9 @@ impl<'a, H: Clock> Connection<'a, H> {
         }
     }
 
-    /// Reads within a message.
+    /// Reads within a message. Waits for a byte as long as the message may still take.
+    ///
+    /// Errors: `TimedOut` if the message has taken too long, and those of the clock and the socket.
     fn read_more(&self, piece: &mut [u8]) -> io::Result<usize>
         ensures { ReadsAtMost result piece.new }
     {
@@ -126,7 +134,7 @@ impl<'a, H: Clock> Connection<'a, H> {
     }
 }
 
-// Whether a read that failed with this kind only found no byte.
+// Whether an error of this kind only means that no byte has come in time.
 fn is_nothing_yet(kind: ErrorKind) -> bool {
     matches!(
         kind,
@@ -134,16 +142,17 @@ fn is_nothing_yet(kind: ErrorKind) -> bool {
     )
 }
 
-/// Reads from a connection. The last of the bytes that have come is given by a read of its own: a reply after that read shows that
-/// everything read is answered (see `Phase`).
+/// Reads from a connection. If the socket gives several bytes at once, the last one is held back for a read of its own: a reply after that
+/// read shows that everything read is answered (see `Phase`).
 #[derive(Drop)]
 pub(crate) struct Incoming<'a, H> {
     connection: &'a Connection<'a, H>,
+    /// The byte held back for the next read.
     kept: Option<u8>,
 }
 
 impl<'a, H: Clock> Incoming<'a, H> {
-    /// A reader that has read nothing.
+    /// Makes a reader that has read nothing.
     pub(crate) fn new(connection: &'a Connection<'a, H>) -> Incoming<'a, H> {
         Incoming {
             connection,
@@ -193,14 +202,14 @@ impl<H: Clock> Read for Incoming<'_, H> {
     }
 }
 
-/// Writes to a connection.
+/// Writes to a connection. A write fails with `TimedOut` once the reply has taken too long.
 #[derive(Drop)]
 pub(crate) struct Outgoing<'a, H> {
     connection: &'a Connection<'a, H>,
 }
 
 impl<'a, H: Clock> Outgoing<'a, H> {
-    /// A writer that has written nothing.
+    /// Makes a writer that has written nothing.
     pub(crate) fn new(connection: &'a Connection<'a, H>) -> Outgoing<'a, H> {
         Outgoing { connection }
     }

@@ -12,8 +12,9 @@ use std::sync::Wait;
 use std::thread::Threads;
 use std::time::{Clock, Instant};
 
-/// Takes from the lobby connections on which bytes have come, and serves them one after another, until the listener fails. An error of one
-/// client ends only its own connection. A connection whose client pauses goes back to the lobby.
+/// Takes from the lobby connections on which bytes have come, and serves them one after another, until the listener or the poll fails. An
+/// error of one client ends only its own connection. A connection goes back to the lobby if its client pauses, if the session's turn is
+/// over between two messages and no other thread watches the lobby, or if it is to be closed once its client has read the last reply.
 pub(crate) fn serve_connections<H: Wait + Threads + Sync + Clock, S: Service>(
     rt: &H,
     alloc: Global,
@@ -36,7 +37,8 @@ pub(crate) fn serve_connections<H: Wait + Threads + Sync + Clock, S: Service>(
     }
 }
 
-// Holds a session over a connection, until the session ends or its client pauses. Returns what to do with the connection.
+// Holds a session over a connection, until the session ends, the client pauses or the session's turn is over. Returns what to do with the
+// connection; `Close` if the clock fails.
 fn converse<H: Wait + Threads + Sync + Clock, S: Service>(
     rt: &H,
     alloc: Global,

@@ -1,5 +1,5 @@
 ghost use Rattle.std.specs.Prelude.{◌≡◌};
-ghost use Rattle.mangod.specs.Exits.{ending_of};
+ghost use Rattle.mangod.specs.Exits.{exit_of};
 
 use mg_http::SessionEnd;
 
@@ -28,16 +28,16 @@ pub(crate) const CANNOT_LISTEN: Exit = Exit {
     line: "mangod: cannot listen",
 };
 
-/// The listener failed: no more clients can be accepted.
+/// The listener or the poll failed: no more clients can be served.
 pub(crate) const STOPPED: Exit = Exit {
     status: 1,
     line: "",
 };
 
-/// The exit status and the line for standard error after a session (empty: no line). Allocates nothing.
+/// Returns the exit status and the line for standard error after a session with this end (empty: no line). Allocates nothing.
 pub(crate) fn ending(end: &SessionEnd) -> (u8, &'static str)
-    ensures status { result.0 ≡ (ending_of end.now).status }
-    ensures line { result.1.now ≡ (ending_of end.now).line }
+    ensures status { result.0 ≡ (exit_of end.now).status }
+    ensures line { result.1.now ≡ (exit_of end.now).line }
 {
     match end {
         SessionEnd::Eof | SessionEnd::Closed => (0, ""),
@@ -49,11 +49,11 @@ pub(crate) fn ending(end: &SessionEnd) -> (u8, &'static str)
 }
 
 impl Exit {
-    ghost use Rattle.mangod.specs.View.{ending_seen};
+    ghost use Rattle.mangod.specs.View.{exit_seen};
 
-    /// How the program ends after a session with this end.
+    /// Returns how the program ends after a session with this end.
     pub(crate) fn after(end: &SessionEnd) -> Exit
-        ensures { ending_seen result ≡ ending_of end.now }
+        ensures { exit_seen result ≡ exit_of end.now }
     {
         let (status, line) = ending(end);
         Exit { status, line }

@@ -10,16 +10,16 @@ use std::io::ErrorKind;
 pub(crate) enum AfterFault {
     /// Accept again: the fault concerns one connection only.
     Again,
-    /// Accept at the next event: no connection is waiting.
+    /// Accept again at the next event of the listener: no connection is waiting.
     AtAnEvent,
-    /// Accept once there are more descriptors or more memory.
+    /// Accept again soon: descriptors or memory ran out.
     WithMore,
     /// Accept no more: the listener failed.
     Never,
 }
 
-/// What to do after a failed accept, by the kind of the error and its number on Linux. A signal is not a failure here: std repeats
-/// an interrupted accept.
+/// Returns what to do after a failed accept, by the kind of the error and its number on Linux (`None`: it has no number). Interruption by
+/// a signal does not occur here: std repeats an interrupted accept.
 pub(crate) fn after_fault(kind: ErrorKind, number: Option<i32>) -> AfterFault
     ensures aborted { kind ≡ ErrorKind.ConnectionAborted → result ≡ AfterFault.Again }
     ensures none { kind ≡ ErrorKind.WouldBlock → result ≡ AfterFault.AtAnEvent }
@@ -66,7 +66,7 @@ pub(crate) enum Disposal {
     Close,
 }
 
-/// What to do with a connection after a session with this end. `has_paused`: the session's input was ended between two messages,
+/// Returns what to do with a connection after a session with this end. `has_paused`: the session's input was ended between two messages,
 /// though the client may still send more.
 pub(crate) fn disposal_after(end: SessionEnd, has_paused: bool) -> Disposal
     ensures { result ≡ disposal_after end has_paused }

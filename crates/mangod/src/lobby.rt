@@ -15,11 +15,11 @@ use std::time::{Clock, Duration, Instant};
 
 /// The token of the listener in events. The token of a connection is its key, which is smaller.
 const LISTENER: Token = Token(usize::MAX);
-/// The time in milliseconds between two searches for silent connections, and the longest wait for an event.
+/// The shortest time in milliseconds between two searches for silent connections, and the longest wait for an event.
 const SEARCH_MILLIS: u64 = 500;
-/// The time in milliseconds until the next accept after descriptors or memory ran out.
+/// The longest time in milliseconds until the next accept after descriptors or memory ran out.
 const SHORTAGE_MILLIS: u64 = 20;
-/// The most bytes dropped from a connection that is being closed.
+/// How many bytes are dropped from a connection that is being closed. After that, the connection is closed at once.
 const MOST_DROPPED: u64 = 16_777_216;
 /// The number of connections for which room is reserved at the start.
 const GUESTS: usize = 1_024;
@@ -44,6 +44,7 @@ struct Watch {
     poll: Poll,
     /// Room for one event.
     events: Events<Global>,
+    /// Room for the bytes that one read drops.
     spill: Vec<u8>,
     /// Whether a connection may be waiting to be accepted.
     is_accepting: bool,
@@ -59,14 +60,14 @@ struct Guest {
     stream: TcpStream,
     /// When it entered the lobby.
     since: Instant,
-    /// The most bytes still to be dropped before it is closed; `None`: its next message is awaited.
+    /// How many more bytes are dropped before the connection is closed at once; `None`: its next message is awaited.
     dropping: Option<u64>,
 }
 
 impl Lobby {
-    /// An empty lobby.
+    /// Opens an empty lobby, which accepts the connections of `listener`.
     ///
-    /// Errors: those of the system, and `OutOfMemory`.
+    /// Errors: those of the system and of the clock, and `OutOfMemory` if an allocation fails. The listener is then dropped.
     pub(crate) fn open<H: Net + Clock>(
         rt: &H,
         alloc: Global,
@@ -94,12 +95,14 @@ impl Lobby {
         })
     }
 
-    /// Whether some thread watches the connections here.
+    /// Whether some thread watches the connections here, or waits to do so.
     pub(crate) fn is_watched(&self) -> bool {
         self.watchers.load(Ordering::SeqCst) > 0
     }
 
-    /// Waits for a connection on which bytes have come, or whose client has gone, and takes it. `None`: the listener or the poll failed.
+    /// Waits for a connection on which bytes have come, or whose client has gone, and takes it out of the lobby. Meanwhile it accepts new
+    /// connections and closes silent ones; while descriptors or memory are short, it closes the oldest one whenever `SHORTAGE_MILLIS` pass
+    /// without an event. `None`: the listener or the poll failed.
     pub(crate) fn next<H: Wait + Clock>(&self, rt: &H) -> Option<TcpStream> {
         self.watchers.fetch_add(1, Ordering::SeqCst);
         let taken = self.wait(rt, &mut self.watch.lock(rt));
@@ -107,6 +110,7 @@ impl Lobby {
         taken
     }
 
+    // Does what `next` does, on the thread that holds `watch`.
     fn wait<H: Wait + Clock>(&self, rt: &H, watch: &mut Watch) -> Option<TcpStream> {
         for _ in rt.forever() {
             let wait = self.accept(rt, watch)?;
@@ -128,7 +132,8 @@ impl Lobby {
         unreachable!()
     }
 
-    /// Accepts a connection if one may be waiting. Returns how long to wait for the next event; `None`: the listener failed.
+    /// Accepts a connection if one may be waiting, and admits it; closes it if `TCP_NODELAY` cannot be set. Returns the longest wait for
+    /// the next event; `None`: the listener failed.
     fn accept<H: Wait + Clock>(&self, rt: &H, watch: &mut Watch) -> Option<Duration> {
         if !watch.is_accepting {
             return Some(Duration::from_millis(SEARCH_MILLIS));
@@ -157,20 +162,21 @@ impl Lobby {
         Some(Duration::from_millis(millis))
     }
 
-    /// Admits a connection whose client may send another message.
+    /// Admits a connection whose client may send another message. Closes it if memory runs out, the clock fails, or it cannot be watched.
     pub(crate) fn admit_paused<H: Wait + Clock>(&self, rt: &H, stream: TcpStream) {
         self.admit(rt, stream, None);
     }
 
     /// Admits a connection that is to be closed once its client has read the last reply. Nothing more is written to it, and what still
-    /// comes is dropped: if it were closed with unread bytes, the system would reset it, and the reply might be lost.
+    /// comes is dropped: if the connection were closed with unread bytes, the system would reset it, and the reply might be lost. If the
+    /// system refuses this, or for a reason given at `admit`, the connection is closed at once.
     pub(crate) fn admit_closing<H: Wait + Clock>(&self, rt: &H, stream: TcpStream) {
         if stream.shutdown(Shutdown::Write).is_ok() && stream.set_nonblocking(true).is_ok() {
             self.admit(rt, stream, Some(MOST_DROPPED));
         }
     }
 
-    // Admits a connection. Closes it if it cannot be watched.
+    // Admits a connection. Closes it if memory runs out, the clock fails, or it cannot be watched.
     fn admit<H: Wait + Clock>(&self, rt: &H, stream: TcpStream, dropping: Option<u64>) {
         let Ok(since) = Instant::now(rt) else {
             return;
@@ -194,7 +200,8 @@ impl Lobby {
         }
     }
 
-    // Takes the connection of an event out of the lobby; if it is being closed, drops what has come on it instead.
+    // Takes the connection of an event out of the lobby; if it is being closed, drops what has come on it instead. A connection that cannot
+    // be unregistered is closed.
     fn take<H: Wait>(&self, rt: &H, key: usize, spill: &mut [u8]) -> Option<TcpStream> {
         let mut guests = self.guests.lock(rt);
         let guest = guests.get_mut(key)?;
@@ -211,7 +218,7 @@ impl Lobby {
         Some(guest.stream)
     }
 
-    // Closes the connection that has been here longest, to free its descriptor and memory for another.
+    // Closes the connection that has been here longest, if there is one, to free its descriptor and memory for another.
     fn close_oldest<H: Wait>(&self, rt: &H) {
         let mut guests = self.guests.lock(rt);
         let oldest = guests
@@ -223,8 +230,8 @@ impl Lobby {
         }
     }
 
-    // Closes the connections that have been here for too long, unless the last search was just now. A connection whose client sends leaves
-    // the lobby, so those that are still here are silent or are being closed.
+    // Closes the connections that have been here for too long, at most once in `SEARCH_MILLIS`. A connection whose client sends leaves the
+    // lobby, so those that are still here are silent or are being closed.
     fn close_silent<H: Wait + Clock>(&self, rt: &H, watch: &mut Watch) {
         let Ok(now) = Instant::now(rt) else {
             return;
@@ -240,13 +247,14 @@ impl Lobby {
 }
 
 impl Watch {
-    /// The token of the event; `None`: there was no event.
+    /// Returns the token of the event; `None`: there was no event.
     fn token(&self) -> Option<Token> {
         self.events.iter().next().map(|event| event.token())
     }
 }
 
-// Drops what has come. Returns how many bytes may still be dropped; `None`: the connection is to be closed now.
+// Drops what has come. Returns how many bytes may still be dropped; `None`: the connection is to be closed now, since `most` bytes were
+// dropped, the client has closed it, or a read failed.
 fn drop_bytes(stream: &TcpStream, spill: &mut [u8], most: u64) -> Option<u64> {
     let mut left = most;
     let mut stream = stream;

@@ -1,4 +1,4 @@
-//! `mangod DB SHARDS WORKERS SESSIONS ADDR`: the database over standard input and output (ADDR is `-`), or over TCP.
+//! `mangod DB SHARDS WORKERS SESSIONS ADDR` serves one database over TCP, or over standard input and output if ADDR is `-`.
 #![tactic(auto)]
 
 mod arguments;
@@ -24,7 +24,7 @@ use std::process::ExitCode;
 use std::sync::ledger::Blank;
 
 fn main(rt: HostRuntime) -> ExitCode {
-    let ending = match env::args(&rt) {
+    let exit = match env::args(&rt) {
         Ok(args) => match args.skip(1).collect::<Vec<String>>(rt.alloc()) {
             Ok(args) => {
                 let asked = settings(&args);
@@ -44,8 +44,8 @@ fn main(rt: HostRuntime) -> ExitCode {
             _ => WRONG_ARGUMENTS,
         },
     };
-    if !ending.line.is_empty() {
-        let _ = eprintln!(rt; "{}", ending.line);
+    if !exit.line.is_empty() {
+        let _ = eprintln!(rt; "{}", exit.line);
     }
-    ExitCode::from(ending.status)
+    ExitCode::from(exit.status)
 }

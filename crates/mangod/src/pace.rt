@@ -7,17 +7,17 @@ use std::time::Duration;
 
 /// The most seconds that a message may take from its first byte to its last, and that a reply may take.
 const MESSAGE_SECONDS: u64 = 60;
-/// The seconds that a connection may wait in the lobby. The next search after that closes it.
+/// The seconds that a connection may wait in the lobby. The next search for silent connections after that closes it.
 const SILENCE_SECONDS: u64 = 5;
-/// The milliseconds after which a session gives way between two messages, if no thread watches the other connections.
+/// The milliseconds after which a session gives way between two messages, if no thread watches the lobby.
 const TURN_MILLIS: u64 = 5;
 /// The most milliseconds that a session waits for the next message before its connection goes back to the lobby.
 pub(crate) const PAUSE_MILLIS: u64 = 20;
 
 /// What a session is doing on its connection, as its reads and writes show.
 ///
-/// A session reads only while a message is incomplete, and writes a reply only once the message is complete. So a reply that follows a
-/// read of a single byte answers a message that ended with this byte, and then everything read is answered.
+/// A session reads only while a message is incomplete, and writes a reply only once the message is complete. Therefore a reply that follows
+/// a read of a single byte answers a message that ended with this byte, and then everything read is answered.
 #[derive(Clone, Copy, PartialEq, Debug)]
 pub(crate) enum Phase {
     /// Everything read is answered.
@@ -33,7 +33,7 @@ pub(crate) enum Phase {
 }
 
 impl Phase {
-    /// The phase when the session reads again.
+    /// Returns the phase when the session reads again.
     pub(crate) fn at_read(self) -> Phase
         ensures { result ≡ at_read self }
     {
@@ -44,7 +44,7 @@ impl Phase {
         }
     }
 
-    /// The phase after a read of `count` bytes.
+    /// Returns the phase after a read of `count` bytes, which are at least one.
     pub(crate) fn after_bytes(count: usize) -> Phase
         ensures { result ≡ after_bytes count }
     {
@@ -55,7 +55,7 @@ impl Phase {
         }
     }
 
-    /// The phase when the session writes bytes of a reply.
+    /// Returns the phase when the session writes bytes of a reply.
     pub(crate) fn at_write(self) -> Phase
         ensures { result ≡ at_write self }
     {
@@ -66,14 +66,14 @@ impl Phase {
     }
 }
 
-/// The seconds left for a message or a reply that has taken this long; 0 if it has taken too long.
+/// Returns the seconds left for a message or a reply that has taken this long; 0 if it has taken too long.
 pub(crate) fn seconds_left(taken: Duration) -> u64
     ensures { result ≡ 60 - as_nanos taken / 10 ^ 9 }
 {
     MESSAGE_SECONDS.saturating_sub(taken.as_secs())
 }
 
-/// Whether a connection has been silent for too long.
+/// Whether a connection that has been silent this long is closed.
 pub(crate) fn is_silent_too_long(silent: Duration) -> bool
     ensures { result ≡ nat_le (5 * 10 ^ 9) (as_nanos silent) }
 {

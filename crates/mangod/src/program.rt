@@ -7,7 +7,7 @@ ghost use Rattle.mg_engine.specs.Stands.{Stands, shard_count};
 ghost use Rattle.mg_engine.specs.World.{empty_world};
 ghost use Rattle.mg_shard.specs.Placement.{md5_place};
 ghost use Rattle.mangod.specs.Program.{IsEndOfListening, RunsOneSession, RunsWith};
-ghost use Rattle.mangod.specs.View.{ending_seen, settings_seen};
+ghost use Rattle.mangod.specs.View.{exit_seen, settings_seen};
 
 use crate::config::Settings;
 use crate::ends::{CANNOT_LISTEN, Exit, NO_MEMORY, STOPPED, WRONG_ARGUMENTS};
@@ -25,9 +25,9 @@ use std::sync::ledger::Blank;
 use std::thread::Threads;
 use std::time::Clock;
 
-/// Runs the program. If the address is `-`, it holds one session over the input and the output; else it listens at the address and holds
-/// sessions with the clients that connect. Wrong arguments (`asked` is `None`) end it at once. The commit log (`commit_log`) and the ledger
-/// (`blank`) are those of the database `D`.
+/// Runs the program, and returns its exit. If the address is `-`, the program holds one session over the input and the output; otherwise it
+/// listens at the address and holds sessions with the clients that connect. Wrong arguments (`asked` is `None`) end it at once. The
+/// commit log (`commit_log`) and the ledger (`blank`) are those of the database `D`.
 pub(crate) fn run<
     D: Database + Send + Sync,
     H: Wait
@@ -59,7 +59,7 @@ pub(crate) fn run<
     requires writing { has_failed writer.old ≡ false }
     ensures { RunsWith (option_map settings_seen asked.entry)
         (Consumes (R.remaining (inner_of reader.old)) (R.remaining (inner_of reader.new)))
-        (Appends (W.contents (inner_of writer.old)) (W.contents (inner_of writer.new))) (ending_seen result) }
+        (Appends (W.contents (inner_of writer.old)) (W.contents (inner_of writer.new))) (exit_seen result) }
 {
     let Some(settings) = asked else {
         return WRONG_ARGUMENTS;
@@ -70,7 +70,8 @@ pub(crate) fn run<
     listen::<D, H>(rt, settings, blank, commit_log)
 }
 
-// Holds one session, over a database that is empty at the start.
+// Holds one session, over a database that is empty at the start. Returns the exit after the session, or `NO_MEMORY` if the database could
+// not be made.
 fn hold_session<H: Wait + Threads + Sync + AllocGlobal, R: Read, W: Write>(
     rt: &H,
     settings: Settings<'_>,
@@ -81,7 +82,7 @@ fn hold_session<H: Wait + Threads + Sync + AllocGlobal, R: Read, W: Write>(
     requires writing { has_failed writer.old ≡ false }
     ensures { RunsOneSession settings.entry.db.now
         (Consumes (R.remaining (inner_of reader.old)) (R.remaining (inner_of reader.new)))
-        (Appends (W.contents (inner_of writer.old)) (W.contents (inner_of writer.new))) (ending_seen result) }
+        (Appends (W.contents (inner_of writer.old)) (W.contents (inner_of writer.new))) (exit_seen result) }
 {
     match solo(rt, &settings) {
         Ok(mut service) => {
@@ -91,7 +92,8 @@ fn hold_session<H: Wait + Threads + Sync + AllocGlobal, R: Read, W: Write>(
     }
 }
 
-// Listens, and holds sessions with the clients that connect, each at a seat of a database that is empty at the start.
+// Listens, and holds sessions with the clients that connect, each at a seat of a database that is empty at the start. Returns only if
+// memory runs out at the start or at the end, the address or the lobby cannot be opened, or the listener or the poll fails.
 fn listen<
     D: Database + Send + Sync,
     H: Wait
@@ -110,7 +112,7 @@ fn listen<
     requires commit_log { commit_log ≡ D.commit_log }
     requires ledger { (blank.name ≡ D.name) × (blank.parts ≡ D.parts) }
     requires parts { blank.parts ≡ settings.sessions }
-    ensures { IsEndOfListening (ending_seen result) }
+    ensures { IsEndOfListening (exit_seen result) }
 {
     let alloc = rt.alloc();
     let opened = Live::<D, WaitForReaders<H>>::open(
@@ -139,7 +141,7 @@ fn listen<
     let _ = eprintln!(rt; "mangod: listening");
     match serve(&rt, alloc, &settings, &lobby, seats) {
         Ok(seats) => {
-            // Its result changes no status: the listener has failed by then.
+            // Whether closing succeeds does not change the exit status: the listener or the poll has failed by then.
             let _closed = live.close(&rt, seats);
             STOPPED
         }
@@ -147,7 +149,7 @@ fn listen<
     }
 }
 
-// A service of an empty database.
+// Makes a service of an empty database. Errors: `NoMemory` if an allocation fails.
 fn solo<H: AllocGlobal>(rt: &H, settings: &Settings<'_>) -> Result<Solo<Md5Placement>, NoMemory>
     ensures stands { IfOk result
         (λ solo. Stands (λ p id shards. md5_place id shards) solo.engine (empty_world settings.now.db.now)) }

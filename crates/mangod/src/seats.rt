@@ -15,7 +15,8 @@ use std::thread;
 use std::thread::Threads;
 use std::time::Clock;
 
-/// A service for each seat, with the number of workers of the settings.
+/// Makes a service for each seat, with the number of workers of the settings. Errors: `NoMemory` if an allocation fails; then all seats
+/// are dropped.
 fn services<D: Database, C: EndsWriter>(
     alloc: Global,
     seats: Vec<Seat<D, C>>,
@@ -34,11 +35,11 @@ fn services<D: Database, C: EndsWriter>(
     Ok(services)
 }
 
-/// Serves connections at all seats, each seat on a thread of its own, one connection after another, until the listener fails. Then
-/// returns the seats; sessions of the database took each seat to its new state. If a thread cannot be started, its seat waits until
-/// another thread has ended.
+/// Serves connections at all seats, each seat on a thread of its own, one connection after another, until the listener or the poll fails.
+/// Then returns the seats; the sessions took each seat to its new state. If a thread cannot be started, its seat waits until another
+/// thread has ended.
 ///
-/// Errors: `NoMemory` if memory ran out; then all seats are dropped.
+/// Errors: `NoMemory` if memory ran out; then all seats are dropped, and some may have served no connection.
 pub(crate) fn serve<
     D: Database + Send + Sync,
     H: Wait + Threads + Clock + Send + Sync + Copy + Drop,
@@ -55,12 +56,12 @@ pub(crate) fn serve<
         → IsServed D.db (slice_index_or seats.items i d) (slice_index_or after.items i d)) }
 {
     let services = services(alloc, seats, settings)?;
-    let after = attend_all(rt, alloc, settings.db, lobby, services)?;
+    let after = serve_seats(rt, alloc, settings.db, lobby, services)?;
     Ok(after)
 }
 
-// Serves the connections of all seats, each on a thread of its own.
-fn attend_all<D: Database + Send + Sync, H: Wait + Threads + Clock + Send + Sync + Copy + Drop>(
+// Serves connections at all seats, each seat on a thread of its own. Errors: `NoMemory` if memory ran out; then all seats are dropped.
+fn serve_seats<D: Database + Send + Sync, H: Wait + Threads + Clock + Send + Sync + Copy + Drop>(
     rt: &H,
     alloc: Global,
     db: &str,
@@ -79,13 +80,13 @@ fn attend_all<D: Database + Send + Sync, H: Wait + Threads + Clock + Send + Sync
         &|service: SeatService<D, WaitForReaders<H>>| -> Seat<D, WaitForReaders<H>>
             requires { db.now ≡ D.db }
             ensures { IsServed D.db service.seat result }
-        { attend(rt, alloc, db, lobby, service) },
+        { serve_seat(rt, alloc, db, lobby, service) },
     )?;
     Ok(after)
 }
 
-// Serves the connections of one seat.
-fn attend<D: Database, C: EndsWriter, H: Wait + Threads + Clock + Sync>(
+// Serves connections at one seat, until the listener or the poll fails. Returns the seat.
+fn serve_seat<D: Database, C: EndsWriter, H: Wait + Threads + Clock + Sync>(
     rt: &H,
     alloc: Global,
     db: &str,

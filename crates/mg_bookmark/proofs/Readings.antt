@@ -1,4 +1,4 @@
--- A text is read as a place exactly where it is that place's spelling.
+-- A text is read as a place exactly if it is that place's spelling.
 use Rattle.std.proofs.Common.{◌≡◌, ◌≢◌, ◌↔◌, ℕ, List, Bool, true, false, ◌&&◌, cond, Option, Some, None, option_map, if◌then◌else◌, refl, ap, ◌∙◌, subst, codes}
 use Rattle.std.specs.Option.{option_and_then}
 use Rattle.std.specs.Str.{IsUtf8, bytes_eq, is_utf8}
@@ -21,11 +21,11 @@ use Rattle.mg_bookmark.proofs.Spellings.{utf8-bytes}
 
 -- ---- what is spelled is read
 
--- the bytes of an encoding
+-- decoding an encoding gives the bytes
 pub decoded_again : (bytes : List ℕ) → IsBytes bytes → decoded_of url_safe_no_pad (encode_of url_safe_no_pad bytes) ≡ Some bytes
 decoded_again bytes low = decoded_of-ok url_safe_no_pad (encode_of url_safe_no_pad bytes) bytes (decode_of-encode_of url_safe_no_pad bytes refl low)
 
--- the value of a text
+-- a value is found in each of its texts
 value_in_text : (bytes : List ℕ) (v : Value) → Reads bytes v → value_in bytes ≡ Some v
 value_in_text bytes v r = rw (is_utf8-from_IsUtf8 bytes r.1.0) (rw r.1.1 r.2)
 
@@ -37,7 +37,7 @@ direction_again : (d : Direction) → direction_named (direction_name d) ≡ Som
 direction_again Asc = refl
 direction_again Desc = refl
 
--- the place of its array
+-- a place is found in its array
 place_again : (p : RowPlace) → place_in (place_value p) ≡ Some p
 place_again p = rw (ddoc_again p.ddoc) (rw (direction_again p.direction) refl)
 
@@ -55,7 +55,7 @@ read_of_spelled t p s =
 
 -- ---- what is read is spelled
 
--- the value that bytes are found to be
+-- bytes in which a value is found are a text of it
 text_of_value : (bytes : List ℕ) (v : Value) → value_in bytes ≡ Some v → Reads bytes v
 text_of_value bytes v = of_test (is_utf8 bytes) refl
   where
@@ -129,7 +129,7 @@ none_spelled t none p s = let some = read_of_spelled t p s in cc
 one_place : (t : List ℕ) (p q : RowPlace) → Spells t p → Spells t q → p ≡ q
 one_place t p q a b = let first = read_of_spelled t p a in let second = read_of_spelled t q b in cc
 
--- ---- what a client gives back
+-- ---- what a client sends back
 
 pub bookmark_of_place : (t : List ℕ) (r : Option RowPlace) → t ≢ codes "nil" → place_read t ≡ r → bookmark_read t ≡ option_map Some r
 bookmark_of_place t r other e = of_test (bytes_eq t (codes "nil")) refl

@@ -1,4 +1,4 @@
--- What the steps of reading a spelling say together.
+-- Lemmas of the steps of reading a spelling.
 use Rattle.std.proofs.Common.{◌≡◌, ◌⊎◌, inl, inr, ℕ, zero, suc, ◌+◌, ◌/◌, ◌%◌, ◌<◌, List, [], ◌∷◌, ◌++◌, Bool, true, false, cond, ltb, leb, Option, Some, refl, sym, ap, ◌∙◌, ◌≢◌, length, subst, slice_index, arith}
 use Rattle.std.proofs.Math.Utf8.{encode, scalar, scalars}
 use Rattle.std.specs.List.{AllByRecursion}
@@ -11,7 +11,7 @@ use Rattle.mg_value.specs.View.{items_view}
 use Rattle.mg_value.specs.declared.value.Json.{Json}
 use Rattle.mg_bookmark.specs.Bookmark.{RowPlace, place_value}
 
--- each is a byte
+-- each number is a byte
 abbrev Low : List ℕ → Type 0
 Low xs = AllByRecursion (λ x. x < 256) xs
 
@@ -22,7 +22,7 @@ test_go b false e = inr e
 test : (c n : ℕ) → (ltb c n ≡ true) ⊎ (ltb c n ≡ false)
 test c n = test_go (ltb c n) (ltb c n) refl
 
--- a character's number
+-- the number of a character is below 1114112
 character-low : (c : ℕ) → scalar c ≡ true → c < 1114112
 character-low c h = elim (test c 55296) as (λ _. c < 1114112) [
   | inl low ↦ let below = ltb-true c 55296 low in omega arith
@@ -42,7 +42,7 @@ cond_low : (b : Bool) (xs ys : List ℕ) → (b ≡ true → Low xs) → (b ≡ 
 cond_low true xs ys x y = x refl
 cond_low false xs ys x y = y refl
 
--- the bytes of a character
+-- the bytes of a character are bytes
 encode-low : (c : ℕ) → scalar c ≡ true → Low (encode c)
 unfolding encode
 encode-low c h =
@@ -65,11 +65,11 @@ read-low [] h i = omega arith
 read-low (x ∷ xs) h zero = h.0
 read-low (x ∷ xs) h (suc i) = read-low xs h.1 i
 
--- UTF-8 is bytes
+-- UTF-8 consists of bytes
 pub utf8-bytes : (bs : List ℕ) → IsUtf8 bs → IsBytes bs
 utf8-bytes bs u = subst IsBytes u.1.1 (read-low (encode_utf8_all u.0) (encodes-low u.0 u.1.0))
 
--- a text has one value
+-- a text has at most one value
 one_data : {D V : Type 0} (f : D → Option V) (r : Option D) (d e : D) (v w : V) → r ≡ Some d → r ≡ Some e → f d ≡ Some v → f e ≡ Some w → v ≡ w
 one_data f r d e v w a b x y =
     let same : d ≡ e = cc in
@@ -79,7 +79,7 @@ one_data f r d e v w a b x y =
 pub one_value : (bs : List ℕ) (v w : Value) → Reads bs v → Reads bs w → v ≡ w
 one_value bs v w a b = one_data whole_of _ a.0 b.0 v w a.1.1 b.1.1 a.2 b.2
 
--- an array of another length is no bookmark's
+-- an array of another length than 5 is not the array of a place
 pub not_five : (js : List Json) → length js ≢ 5 → (p : RowPlace) → list (items_view js) ≡ place_value p → ⊥
 not_five [] other p e = cc
 not_five (a ∷ []) other p e = cc

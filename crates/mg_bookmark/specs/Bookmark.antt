@@ -27,7 +27,7 @@ ddoc_value (Some s) = text s
 abbrev pub place_value : RowPlace → Value
 place_value p = list (item (ddoc_value p.ddoc) (item (text p.name) (item (text (direction_name p.direction)) (item (list p.key) (item (text p.id) no_items)))))
 
--- the spelling of a place: its bookmark
+-- the spelling of a place, which is its bookmark
 abbrev pub spelled : RowPlace → List ℕ
 spelled p = encode_of url_safe_no_pad (compact (place_value p))
 
@@ -37,7 +37,7 @@ abbrev pub Spells : List ℕ → RowPlace → Type 0
 Spells t p = (t ≡ spelled p) × Reads (compact (place_value p)) (place_value p)
 
 -- JSON text can carry the place: the values of its key nest at most 125 deep, two less than a text that can be read, because they
--- are in an array within the array; the key's numbers are i64, and its objects have their names in order; and each text is UTF-8
+-- are in an array within the array; the key's numbers are i64, and the names of its objects ascend; and each text is UTF-8
 pub record CanBeSpelled (p : RowPlace) : Type 0 where
   pub shallow : items_depth p.key ≤ 125
   pub held : ItemsAreHeld p.key
@@ -48,8 +48,8 @@ pub record CanBeSpelled (p : RowPlace) : Type 0 where
 
 -- ---- reading a text
 
--- the reading of a text that a client sends back: the beginning for `nil`, the place whose spelling it is, or `None` if it is not a
--- bookmark; a law says that each text has exactly one reading
+-- a text that a client sends back has this reading: `Some None`, the beginning, if the text is `nil`; `Some` of a place if the text
+-- spells the place; `None` if the text is not a bookmark. A law says that each text has exactly one reading
 abbrev pub IsReadAs : List ℕ → Option (Option RowPlace) → Type 0
 IsReadAs t (Some None) = t ≡ codes "nil"
 IsReadAs t (Some (Some p)) = (t ≢ codes "nil") × Spells t p

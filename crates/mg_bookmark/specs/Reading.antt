@@ -1,4 +1,5 @@
--- The reading of a text as a function, which undoes the steps of the writing. A law says that it gives the reading of each text.
+-- The reading of a bookmark's text, as a function that undoes the steps of writing: base64 (RFC 4648), JSON (RFC 8259), the parts. A law
+-- says that it gives the reading of each text.
 use Rattle.std.specs.Prelude.{ℕ, List, codes, ◌&&◌, Option, Some, None, option_map, option_and_then, if◌then◌else◌}
 use Rattle.std.specs.Str.{bytes_eq, is_utf8}
 use Rattle.base64.specs.GeneralPurpose.{decoded_of}
@@ -9,23 +10,23 @@ use Rattle.mg_value.specs.Text.{compact, whole_of}
 use Rattle.mg_collate.specs.Direction.{direction_named}
 use Rattle.mg_bookmark.specs.Bookmark.{RowPlace, place_value, spelled}
 
--- the design document that a value names: a text, or `None` for null
+-- the design document that a value names: `Some` of a text, `Some None` for null, `None` for any other value
 abbrev pub ddoc_in : Value → Option (Option (List ℕ))
 ddoc_in null = Some None
 ddoc_in (text s) = Some (Some s)
 ddoc_in v = None
 
--- the place whose five parts an array has
+-- the place whose five parts an array has; None for any other value
 abbrev pub place_in : Value → Option RowPlace
 place_in (list (item d (item (text name) (item (text word) (item (list key) (item (text id) no_items)))))) =
     option_and_then (λ ddoc. option_map (λ direction. record { ddoc = ddoc; name = name; direction = direction; key = key; id = id }) (direction_named word)) (ddoc_in d)
 place_in v = None
 
--- the value of UTF-8 bytes that are a JSON text
+-- the value of UTF-8 bytes that are a JSON text with i64 numbers; None for any other bytes
 abbrev pub value_in : List ℕ → Option Value
 value_in bytes = if is_utf8 bytes then option_and_then whole_of (read bytes) else None
 
--- the place, if the text is its spelling and its array is UTF-8
+-- the place, if the text is its spelling and the text of its array is UTF-8
 abbrev pub if_spelled : List ℕ → RowPlace → Option RowPlace
 if_spelled t p = if bytes_eq t (spelled p) && is_utf8 (compact (place_value p)) then Some p else None
 

@@ -8,15 +8,15 @@ use Rattle.mg_bookmark.specs.declared.parts.RowKey.{RowKey}
 use Rattle.mg_bookmark.specs.declared.parts.RowKey.TheVariants.{Columns, Id}
 use Rattle.mg_bookmark.specs.declared.parts.BookmarkParts.{BookmarkParts}
 
--- the place that the code's bookmark names
+-- the place that a `Bookmark` stands for
 abbrev pub bookmark_place : Bookmark → RowPlace
 bookmark_place b = record { ddoc = option_map string_bytes b.ddoc; name = string_bytes b.name; direction = b.direction; key = items_view b.key.items; id = string_bytes b.id }
 
--- the key of the row of the document with this id
+-- the key of a row: the values of its columns, or this id of its document as the only value
 abbrev pub key_at : RowKey → List ℕ → Items
 key_at (Columns columns) id = items_view columns.now
 key_at Id id = item (text id) no_items
 
--- the place whose parts are lent
+-- the place that a `BookmarkParts` stands for
 abbrev pub place_at : BookmarkParts → RowPlace
 place_at p = record { ddoc = option_map (λ s. s.now) p.ddoc; name = p.name.now; direction = p.direction; key = key_at p.key p.id.now; id = p.id.now }

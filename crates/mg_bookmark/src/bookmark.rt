@@ -27,18 +27,18 @@ impl Bookmark {
     ghost use Rattle.mg_bookmark.specs.Reading.{bookmark_read};
     ghost use Rattle.mg_bookmark.specs.Seen.{place_at, bookmark_place};
 
-    /// The text that a client gets: the five parts as a compact JSON array, in URL-safe base64 without
+    /// Writes the text that a client gets: the five parts as a compact JSON array, in URL-safe base64 without
     /// padding (RFC 4648). The design document of `_all_docs` is null, and the direction is `asc` or
     /// `desc`. `decode` reads the text back if the values of the key nest at most 125 deep.
     ///
-    /// Errors: `NoMemory` if an allocation fails. Cost: the size of the key.
+    /// Errors: `NoMemory` if an allocation fails. Cost: the length of the text.
     pub fn encode(&self, alloc: Global) -> Result<String, NoMemory>
         ensures { IfOk result (λ t. string_bytes t ≡ spelled (bookmark_place self.now)) }
     {
         self.lent().spell(alloc)
     }
 
-    // The bookmark with its parts lent.
+    // Lends the parts of the bookmark.
     pub(crate) fn lent(&self) -> BookmarkParts<'_>
         ensures { place_at result ≡ bookmark_place self.now }
     {
@@ -51,12 +51,12 @@ impl Bookmark {
         }
     }
 
-    /// Reads the text that a client sends back, as `encode` wrote it. `nil`, which stands for the
-    /// beginning, gives `None`.
+    /// Reads a text that a client sends back: one that `encode` wrote, or `nil`, which stands for the
+    /// beginning and gives `Ok(None)`.
     ///
-    /// Errors: `Invalid` for any other text, such as another spelling of the same array, or an array
-    /// that nests deeper than 127, which is how deep JSON is read; `NoMemory` if an allocation fails.
-    /// Cost: the length of the text.
+    /// Errors: `Invalid` for a text that is neither, even if it is another spelling of such an array, and for
+    /// an array that nests more than 127 deep, the limit of `mg_value::read`; `NoMemory` if an allocation fails.
+    /// Cost: that of `mg_value::read` on the array's text, and of writing that text again.
     pub fn decode(alloc: Global, text: &str) -> Result<Option<Bookmark>, BookmarkError>
         ensures none { (result ≡ Ok None) ↔ (text.now ≡ codes "nil") }
         ensures some { IfOk result (λ found. IfSome found (λ b. Spells text.now (bookmark_place b))) }

@@ -2,7 +2,7 @@ use mg_value::NoMemory;
 use std::alloc::{AllocError, AllocFailed};
 use thiserror::Error;
 
-/// Why a text is not read as a bookmark.
+/// Why a text was not read as a bookmark.
 #[derive(Clone, Copy, PartialEq, Eq, Debug, Drop, Error)]
 pub enum BookmarkError {
     /// The text is neither `nil` nor what `Bookmark::encode` writes, or its array nests more than 127 deep.

@@ -9,7 +9,7 @@ use mg_collate::Direction;
 use mg_value::{Json, NoMemory};
 use std::alloc::Global;
 
-// The first capacity in bytes, in which the array of most rows fits.
+// The first capacity of the buffer, in bytes: the arrays of most rows fit.
 const FIRST_ROOM: usize = 256;
 
 /// The key of a row, lent.
@@ -37,10 +37,10 @@ pub struct BookmarkParts<'a> {
 }
 
 impl BookmarkParts<'_> {
-    /// The text that a client gets for a page that ended with this row, as `Bookmark::encode` gives it
+    /// Writes the text that a client gets for a page that ends with this row, as `Bookmark::encode` writes it
     /// for a bookmark of these parts. No `Bookmark` is made.
     ///
-    /// Errors: `NoMemory` if an allocation fails. Cost: the size of the key.
+    /// Errors: `NoMemory` if an allocation fails. Cost: the length of the text.
     pub fn spell(&self, alloc: Global) -> Result<String, NoMemory>
         ensures { IfOk result (λ t. string_bytes t ≡ spelled (place_at self.now)) }
     {
@@ -48,7 +48,7 @@ impl BookmarkParts<'_> {
         Ok(URL_SAFE_NO_PAD.encode(alloc, &text)?)
     }
 
-    // The compact text of the array of the five parts.
+    // Writes the compact text of the array of the five parts.
     pub(crate) fn array_text(&self, alloc: Global) -> Result<Vec<u8>, NoMemory>
         ensures { IfOk result (λ b. b.items ≡ compact (place_value (place_at self.now))) }
     {

@@ -14,7 +14,7 @@ use mg_collate::Direction;
 use mg_value::{Json, copy_items};
 use std::alloc::Global;
 
-// The bookmark whose array is this value.
+// Reads the bookmark whose array is this value; `Invalid` if the value is not such an array.
 pub(crate) fn bookmark_in(alloc: Global, value: &Json) -> Result<Bookmark, BookmarkError>
     ensures ok { IfOk result (λ b. view value.now ≡ place_value (bookmark_place b)) }
     ensures invalid { result ≡ Err BookmarkError.Invalid

@@ -17,7 +17,8 @@ use base64::engine::general_purpose::URL_SAFE_NO_PAD;
 use mg_value::{Json, NoMemory, ReadError, read};
 use std::alloc::Global;
 
-// The bookmark that the text spells. Its array is written again, to refuse other spellings of the same array.
+// Reads the bookmark that the text spells; `Invalid` if it spells none. The bookmark's array is written again, to refuse
+// other spellings of this array.
 pub(crate) fn read_spelling(alloc: Global, text: &str) -> Result<Bookmark, BookmarkError>
     ensures ok { IfOk result (λ b. Spells text.now (bookmark_place b)) }
     ensures invalid { result ≡ Err BookmarkError.Invalid → (p : RowPlace) → ¬ Spells text.now p }

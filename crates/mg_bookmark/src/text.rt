@@ -46,7 +46,7 @@ pub(crate) fn with_direction(out: Vec<u8>, direction: Direction) -> Result<Vec<u
     with_text(out, direction.name())
 }
 
-// The key of the row of the document with this id.
+// Appends the key of the row; for `RowKey::Id` the key is an array of the document's id alone.
 pub(crate) fn with_key(
     alloc: Global,
     out: Vec<u8>,

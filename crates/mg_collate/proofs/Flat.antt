@@ -70,7 +70,7 @@ above_zero (object ms) s t = refl
 abbrev Cut : Value → Value → Type 0
 Cut v w = (s t : List ℤ) → cmp (flat v ++ s) (flat w ++ t) ≡ ordering_then (value_order v w) (cmp s t)
 
--- a value and then a list decide before s and t, where each of them does
+-- a value followed by a list decides before s and t, if the value does and the list does
 pair_cut : (v w : Value) (xs ys s t : List ℤ) → Cut v w → cmp (xs ++ s) (ys ++ t) ≡ ordering_then (cmp xs ys) (cmp s t)
     → cmp ((flat v ++ xs) ++ s) ((flat w ++ ys) ++ t) ≡ ordering_then (cmp (flat v ++ xs) (flat w ++ ys)) (cmp s t)
 pair_cut v w xs ys s t cut rest =

@@ -181,6 +181,6 @@ inserted_first : {X : Type 0} (order : X → X → Ordering) (x : X) (ys : List 
 inserted_first order x [] h = refl
 inserted_first order x (y ∷ ys) h = ap (λ b. if b then y ∷ sorted_with order x ys else x ∷ y ∷ ys) h.0
 
--- an element that no other is below comes first
+-- sorting puts an element first if no other element is below it
 pub sorted_least : {X : Type 0} (order : X → X → Ordering) (x : X) (xs : List X) → NoneBelow order x xs → sorted order (x ∷ xs) ≡ x ∷ sorted order xs
 sorted_least order x xs h = inserted_first order x (sorted order xs) (all_sorted order (λ y. is_gt (order x y) ≡ false) xs h)

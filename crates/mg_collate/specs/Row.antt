@@ -24,19 +24,19 @@ row_view r = (items_view r.key.items, string_bytes r.id)
 abbrev pub rows_view : List Row → List RowValue
 rows_view rows = map row_view rows
 
--- the order of keys, as lists
+-- the order of rows by their keys, as arrays
 abbrev pub key_order : RowValue → RowValue → Ordering
 key_order = on (λ r. flat (list r.0)) (slice_cmp int_cmp)
 
--- the order of ids, byte by byte
+-- the order of rows by their ids, byte by byte
 abbrev pub id_order : RowValue → RowValue → Ordering
 id_order = on (λ r. r.1) (slice_cmp nat_cmp)
 
--- rows are ordered by their keys, and where these tie by their ids
+-- the order of row values: by key, and values of equal keys by id
 abbrev pub row_value_order : RowValue → RowValue → Ordering
 row_value_order = then_cmp key_order id_order
 
--- the order of rows: by key, and at one key by the bytes of the id
+-- the order of the code's rows: that of the row values that they stand for
 abbrev pub row_order : Row → Row → Ordering
 row_order = on row_view row_value_order
 

@@ -12,7 +12,7 @@ impl Direction {
     ghost use Rattle.mg_collate.specs.Direction.{directed, direction_named, direction_name};
     ghost use Rattle.mg_collate.specs.declared.direction.Direction.{Direction as DirectionValue};
 
-    /// The direction that a text names, `asc` or `desc`; `None` for any other text. Takes no memory.
+    /// Returns the direction that a text names, `asc` or `desc`; `None` for any other text. Takes no memory.
     ///
     /// Source: `sort` in CouchDB's API reference.
     pub fn named(name: &str) -> Option<Direction>
@@ -28,7 +28,7 @@ impl Direction {
         }
     }
 
-    /// The text that names the direction, as `named` reads it: `asc` or `desc`. Takes no memory.
+    /// Returns the text that names the direction, as `named` reads it: `asc` or `desc`. Takes no memory.
     pub fn name(self) -> &'static str
         ensures { result.now ≡ direction_name self }
     {

@@ -19,12 +19,13 @@ pub fn order_is_total()
     ensures { IsTotalOrder value_order }
 {}
 
-/// Two values tie exactly where they are the same value.
+/// Two values tie if and only if they are equal.
 pub fn only_equal_values_tie()
     ensures { (a b : Value) → (value_order a b ≡ Ordering.Equal) ↔ (a ≡ b) }
 {}
 
-/// Null, false, true, numbers, strings, arrays, objects: each type is wholly below the next.
+/// The order of types is null, false, true, numbers, strings, arrays, objects: every value of a type is below every
+/// value of the next.
 pub fn types_rank()
     ensures null_first { value_order null (flag false) ≡ Ordering.Less }
     ensures false_below_true { value_order (flag false) (flag true) ≡ Ordering.Less }
@@ -50,7 +51,7 @@ pub fn strings_by_code_point()
         ≡ slice_cmp nat_cmp cs ds }
 {}
 
-/// Arrays are ordered by their first item that differs, and an array that ends before that is below.
+/// Arrays are ordered by the first item in which they differ; an array that ends before such an item is below.
 pub fn arrays_item_by_item()
     ensures ended { (w : Value) (ws : Items)
         → value_order (list no_items) (list (item w ws)) ≡ Ordering.Less }
@@ -59,8 +60,8 @@ pub fn arrays_item_by_item()
         ≡ ordering_then (value_order v w) (value_order (list vs) (list ws)) }
 {}
 
-/// Objects are ordered by their first member that differs, by its name and then by its value, and an
-/// object that ends before that is below.
+/// Objects are ordered by the first member in which they differ, by its name and then by its value; an
+/// object that ends before such a member is below.
 pub fn objects_member_by_member()
     ensures ended { (name : List ℕ) (w : Value) (ms : Members)
         → value_order (object no_members) (object (member name w ms)) ≡ Ordering.Less }
@@ -81,13 +82,13 @@ pub fn prefixes_are_below()
         ≡ Ordering.Less }
 {}
 
-/// Rows are ordered by their keys, as arrays, and where these tie by the bytes of their ids.
+/// Rows are ordered by their keys, as arrays, and rows of equal keys by the bytes of their ids.
 pub fn rows_by_key_then_id()
     ensures { (a b : RowValue)
         → row_value_order a b ≡ ordering_then (items_order a.0 b.0) (slice_cmp nat_cmp a.1 b.1) }
 {}
 
-/// Two rows tie exactly where their keys and their ids are the same.
+/// Two rows tie if and only if their keys and their ids are equal.
 pub fn only_equal_rows_tie()
     ensures { (a b : RowValue) → (row_value_order a b ≡ Ordering.Equal) ↔ (a ≡ b) }
 {}
@@ -103,7 +104,7 @@ pub fn rows_are_ordered_in_both_directions()
 {}
 
 /// Sorted rows are in order, and are the given rows, each as often as given; no other list is both.
-/// Sorted descending, they are the reverse of the rows sorted ascending.
+/// Rows sorted descending are the reverse of these rows sorted ascending.
 pub fn rows_are_sorted_one_way()
     ensures in_order { (direction : Direction) (rows : List RowValue)
         → IsInOrder direction (sorted_rows direction rows) }

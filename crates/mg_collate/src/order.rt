@@ -10,12 +10,14 @@ use mg_value::{Json, Kind, LentValue};
 use std::cmp::Ordering;
 use std::collections::BTreeMap;
 
-/// The order of two values, after CouchDB's view collation: null, false, true, numbers, strings,
-/// arrays, objects.
+/// Compares two values. The order of types is that of CouchDB's view collation: null, false, true,
+/// numbers, strings, arrays, objects.
 ///
-/// Numbers are ordered by value, strings by their UTF-8 bytes (so by code point, and not as ICU
-/// orders them), arrays item by item, and objects member by member in the order of their names,
-/// each by its name and then by its value; a proper prefix is below. Only equal values tie.
+/// Numbers are ordered by value, and strings by their UTF-8 bytes, which is the order of their code
+/// points, and not that of ICU as in CouchDB. Arrays are ordered item by item, and objects member by
+/// member in the order of their names, each by its name and then by its value. A proper prefix is below.
+/// Only equal values tie.
+///
 /// Cost: one pass over both values, up to the first difference. Takes no memory.
 #[inline]
 pub fn compare(a: &Json, b: &Json) -> Ordering
@@ -38,7 +40,7 @@ pub fn compare_of<L: LentValue>(value: L, other: &Json) -> Ordering
     }
 }
 
-/// Compares two keys as arrays: by the first value that differs, and a proper prefix is below.
+/// Compares two keys as arrays: by the first value that differs; a proper prefix is below.
 ///
 /// Cost: one pass over both keys, up to the first difference. Takes no memory.
 #[inline]
@@ -48,7 +50,7 @@ pub fn compare_keys(a: &[Json], b: &[Json]) -> Ordering
     compare_items::<&Json>(a, b)
 }
 
-// The order of two arrays, by their items.
+// Compares two arrays by their items.
 #[cycle(compare)]
 fn compare_items<L: LentValue>(items: L::List, others: &[Json]) -> Ordering
     ensures { result ≡ items_order (L.items items) (items_view others.now) }
@@ -66,7 +68,7 @@ fn compare_items<L: LentValue>(items: L::List, others: &[Json]) -> Ordering
     count.cmp(&others.len())
 }
 
-// The order of two objects, by their members.
+// Compares two objects by their members.
 #[cycle(compare)]
 fn compare_members<L: LentValue>(members: L::Object, others: &BTreeMap<String, Json>) -> Ordering
     ensures { result ≡ members_order (L.members members) (members_view others.now.entries) }
@@ -92,7 +94,7 @@ fn compare_members<L: LentValue>(members: L::Object, others: &BTreeMap<String, J
     }
 }
 
-// The order of two members: by name, and then by value.
+// Compares two members: by name, and then by value.
 #[cycle(compare)]
 fn compare_member<L: LentValue>(name: &str, value: L, other_name: &str, other: &Json) -> Ordering
     ensures { result ≡ ordering_then (slice_cmp nat_cmp name.now other_name.now)
@@ -104,7 +106,7 @@ fn compare_member<L: LentValue>(name: &str, value: L, other_name: &str, other: &
     }
 }
 
-// The rank of the value: null, false, true, numbers, strings, arrays, objects.
+// Ranks the value by its type, from 1 to 7: null, false, true, numbers, strings, arrays, objects.
 fn rank_of<L: LentValue>(value: &L) -> u8
     ensures { result ≡ rank (L.value value.now) }
 {
@@ -119,8 +121,8 @@ fn rank_of<L: LentValue>(value: &L) -> u8
     }
 }
 
-/// Compares a text, as a JSON string, with a value. Takes no memory. Cost: the text, up to the first
-/// difference.
+/// Compares `text`, as a JSON string, with `value`, as `compare` does. Takes no memory. Cost: the length of the
+/// text, up to the first difference.
 pub fn compare_text(text: &str, value: &Json) -> Ordering
     ensures { result ≡ value_order (string text.now) (view value.now) }
 {

@@ -5,8 +5,8 @@ use std::cmp::Ordering;
 
 /// A row of an index: the values of its columns, and the id of the document that has them.
 ///
-/// Rows are ordered by key, with `compare_keys`; rows of equal keys by the bytes of their ids.
-/// Two rows are equal exactly if their keys are the same values and their ids the same text.
+/// Rows are ordered by key, as `compare_keys` orders keys, and rows of equal keys by the bytes of their ids.
+/// Two rows are equal if and only if their keys and their ids are equal.
 #[derive(Debug, Drop)]
 pub struct Row {
     pub key: Vec<Json>,
@@ -17,9 +17,9 @@ impl Row {
     ghost use Rattle.std.specs.Prelude.{◌≡◌, IfOk};
     ghost use Rattle.mg_collate.specs.Row.{row_view};
 
-    /// A deep copy.
+    /// Copies the row deeply: the copy shares no memory with it.
     ///
-    /// Errors: `NoMemory` if an allocation fails. Cost: the size of the row.
+    /// Errors: `NoMemory` if an allocation fails. Cost: that of `copy_items` on the key, and the length of the id.
     pub fn copy(&self, alloc: Global) -> Result<Row, NoMemory>
         ensures { IfOk result (λ row. row_view row ≡ row_view self.now) }
     {

@@ -1,4 +1,4 @@
--- What an edit brings to a history, by the change that its tree takes.
+-- What an edit adds to a history, by what its tree accepts.
 use Rattle.std.proofs.Common.{◌≡◌, ℕ, ◌+◌, List, [], ◌∷◌, Bool, true, false, ◌==◌, inl, inr, Option, Some, None, option_map, Result, Ok, Err, refl, sym, ap, ◌∙◌, subst}
 use Rattle.std.specs.Option.{option_to_list}
 use Rattle.std.specs.Result.{IsErrAnd, result_err, result_map_both}
@@ -16,11 +16,11 @@ use Rattle.mg_revtree.specs.declared.error.TreeError.TheVariants.{NotLeaf as not
 use Rattle.mg_revtree.proofs.Extend.{refused_position}
 use Rattle.mg_revtree.proofs.Replicas.{whole_fits, whole_stands}
 use Rattle.mg_doc.specs.Applied.{Applied, Foreseen, Refuses, error_of, refusal_in}
-use Rattle.mg_doc.specs.Brought.{Brings, ReportsRefusal}
-use Rattle.mg_doc.specs.Base.{LooksFor, Misfits, base_found, extended_by, look_of, made_found, made_on, unplaced}
+use Rattle.mg_doc.specs.Acceptance.{AcceptsAs, ReportsRefusal}
+use Rattle.mg_doc.specs.Base.{LooksFor, MisfitReport, base_found, extended_by, look_of, extended_found, extended_over, unplaced}
 use Rattle.mg_doc.specs.Digest.{digest_of}
 use Rattle.mg_doc.specs.Document.{Edit}
-use Rattle.mg_doc.specs.Edit.{Accepted, accepted_by, extended, first_refusal, history_after, must_name, made_over, newest_accepted, refused_by, replicated, unless}
+use Rattle.mg_doc.specs.Edit.{Accepted, accepted_by, extended, first_refusal, history_after, must_name, path_over, newest_accepted, refused_by, replicated, unless}
 use Rattle.mg_doc.specs.Conversions.{error_of_merge, error_of_tree}
 use Rattle.mg_doc.specs.declared.change.Change.TheVariants.{New, Replica}
 use Rattle.mg_doc.specs.declared.error.EditError.{EditError}
@@ -44,7 +44,7 @@ replicated_ok h (q ∷ qs) r n f =
     (qs, rw f (ap (λ x. Ok (x, qs)) e), ap (λ x. x ∷ qs) e)
 
 pub merged : (h : Paths) (d : Bool) (b : Value) (run : List Revision) (r : Revision) (t : Tree) → newest_of run ≡ Some r → fits h run ≡ true → StandsFor t (with_path h (path_of run d b))
-    → Brings h d b (replicated h run) (Ok r) t
+    → AcceptsAs h d b (replicated h run) (Ok r) t
 merged h d b run r t n f s =
     let k = replicated_ok h run r n f in
     let P : List Revision → Type 0 = λ x. StandsFor t (with_path h (path_of x d b)) in
@@ -101,40 +101,40 @@ run_over-older r (Some q) = refl
 
 made_now : (h : Paths) (d : Bool) (b : Value) (base : Option Revision) (n : ℕ) (t : Tree) → refusal_of h base (digest_of d base b) ≡ None
     → ((position_below base == 4294967295) ≡ false → n ≡ position_below base + 1) → StandsFor t (with_path h (extension base (digest_of d base b) d b))
-    → Brings h d b (made_on h d b base) (Ok (n, digest_of d base b)) t
+    → AcceptsAs h d b (extended_over h d b base) (Ok (n, digest_of d base b)) t
 made_now h d b base n t r p s =
     let at : n ≡ position_below base + 1 = p (has_position h base (digest_of d base b) r) in
     let P : List Revision → Type 0 = λ run. StandsFor t (with_path h (path_of run d b)) in
-    let Q : ℕ → Type 0 = λ m. Brings h d b (made_on h d b base) (Ok (m, digest_of d base b)) t in
-    subst Q (sym at) (option_to_list base, ap (λ o. unless (option_map refused_by o) (made_over base (digest_of d base b))) r, subst P (run_over-older (next_revision base (digest_of d base b)) base) s)
+    let Q : ℕ → Type 0 = λ m. AcceptsAs h d b (extended_over h d b base) (Ok (m, digest_of d base b)) t in
+    subst Q (sym at) (option_to_list base, ap (λ o. unless (option_map refused_by o) (path_over base (digest_of d base b))) r, subst P (run_over-older (next_revision base (digest_of d base b)) base) s)
 
-pub made_over_base : (h : Paths) (d : Bool) (b : Value) (base : Option Revision) (id copy : List ℕ) (n : ℕ) (t : Tree) → id ≡ digest_of d base b → copy ≡ id → refusal_of h base id ≡ None
+pub extended_over_base : (h : Paths) (d : Bool) (b : Value) (base : Option Revision) (id copy : List ℕ) (n : ℕ) (t : Tree) → id ≡ digest_of d base b → copy ≡ id → refusal_of h base id ≡ None
     → ((position_below base == 4294967295) ≡ false → n ≡ position_below base + 1) → StandsFor t (with_path h (extension base id d b))
-    → Brings h d b (made_on h d b base) (Ok (n, copy)) t
-made_over_base h d b base id copy n t e f r p s =
+    → AcceptsAs h d b (extended_over h d b base) (Ok (n, copy)) t
+extended_over_base h d b base id copy n t e f r p s =
     let R : List ℕ → Type 0 = λ i. refusal_of h base i ≡ None in
     let S : List ℕ → Type 0 = λ i. StandsFor t (with_path h (extension base i d b)) in
-    let Q : List ℕ → Type 0 = λ i. Brings h d b (made_on h d b base) (Ok (n, i)) t in
+    let Q : List ℕ → Type 0 = λ i. AcceptsAs h d b (extended_over h d b base) (Ok (n, i)) t in
     subst Q (sym (f ∙ e)) (made_now h d b base n t (subst R e r) p (subst S e s))
 
--- where there is nothing to extend
+-- if no base is found, a new edit is refused for the same reason
 pub no_base : (h : Paths) (d : Bool) (b : Value) (named : Option Revision) (o : Option EditRefusal) → ReportsRefusal (base_found h named) o → ReportsRefusal (extended_by h d b named) o
 no_base h d b named None k = tt
-no_base h d b named (Some refused) k = ap (made_found h d b) k
+no_base h d b named (Some refused) k = ap (extended_found h d b) k
 
--- where there is a base
+-- if a base is found, a new edit makes a revision over it
 pub found_made : (h : Paths) (d : Bool) (b : Value) (named base : Option Revision) (r : Result Revision EditError) (t : Tree) → base_found h named ≡ Ok base
-    → Brings h d b (made_on h d b base) r t → Brings h d b (extended_by h d b named) r t
-found_made h d b named base r t e k = let P : Result Accepted EditRefusal → Type 0 = λ s. Brings h d b s r t in subst P (sym (ap (made_found h d b) e)) k
+    → AcceptsAs h d b (extended_over h d b base) r t → AcceptsAs h d b (extended_by h d b named) r t
+found_made h d b named base r t e k = let P : Result Accepted EditRefusal → Type 0 = λ s. AcceptsAs h d b s r t in subst P (sym (ap (extended_found h d b) e)) k
 
--- the steps of the code make what an edit makes
+-- the steps of the code give what the definition gives
 pub extended_is : (h : Paths) (d : Bool) (b : Value) (named : Option Revision) → extended_by h d b named ≡ extended h d b named
 extended_is h d b named = elim (two (must_name h named)) [ inl t ↦ rw t refl | inr f ↦ rw f refl ]
 
 pub first_is : (h : Paths) (named : Option Revision) → unplaced h (base_found h named) ≡ first_refusal h (New named)
 first_is h named = elim (two (must_name h named)) [ inl t ↦ rw t refl | inr f ↦ rw f refl ]
 
--- why nothing is made over a base, as far as it is known before the revision is made
+-- the first refusal of a new edit: that of the base, or that of the position over it
 pub base_refused : (h : Paths) (named : Option Revision) (refused : EditRefusal) → base_found h named ≡ Err refused → first_refusal h (New named) ≡ Some refused
 base_refused h named refused e = sym (first_is h named) ∙ ap (unplaced h) e
 
@@ -144,16 +144,16 @@ place_refused h named base refusal e k = sym (first_is h named) ∙ ap (unplaced
 pub not_refused_yet : (h : Paths) (named base : Option Revision) (n : ℕ) → base_found h named ≡ Ok base → Ok n ≡ next_position h base → first_refusal h (New named) ≡ None
 not_refused_yet h named base n e k = sym (first_is h named) ∙ ap (unplaced h) e ∙ ap (λ o. option_map refused_by (result_err o)) (sym k)
 
--- what is refused before a revision is made is refused
-unplaced_over : (h : Paths) (d : Bool) (b : Value) (base : Option Revision) (o : Result ℕ TreeRefusal) (refused : EditRefusal) → next_position h base ≡ o → option_map refused_by (result_err o) ≡ Some refused → made_on h d b base ≡ Err refused
+-- a refusal that is found before the revision is made is that of the edit
+unplaced_over : (h : Paths) (d : Bool) (b : Value) (base : Option Revision) (o : Result ℕ TreeRefusal) (refused : EditRefusal) → next_position h base ≡ o → option_map refused_by (result_err o) ≡ Some refused → extended_over h d b base ≡ Err refused
 unplaced_over h d b base (Ok n) refused e k = absurd cc
 unplaced_over h d b base (Err refusal) refused e k =
     let id = digest_of d base b in
     let same : refused_by refusal ≡ refused = cc in
     let is : refusal_of h base id ≡ Some refusal = sym (refused_position h base id refusal (sym e)) in
-    ap (λ o. unless (option_map refused_by o) (made_over base id)) is ∙ ap Err same
+    ap (λ o. unless (option_map refused_by o) (path_over base id)) is ∙ ap Err same
 
-unplaced_found : (h : Paths) (d : Bool) (b : Value) (base : Result (Option Revision) EditRefusal) (refused : EditRefusal) → unplaced h base ≡ Some refused → made_found h d b base ≡ Err refused
+unplaced_found : (h : Paths) (d : Bool) (b : Value) (base : Result (Option Revision) EditRefusal) (refused : EditRefusal) → unplaced h base ≡ Some refused → extended_found h d b base ≡ Err refused
 unplaced_found h d b (Err x) refused k = let e : x ≡ refused = cc in ap Err e
 unplaced_found h d b (Ok base) refused k = unplaced_over h d b base (next_position h base) refused refl k
 
@@ -171,7 +171,7 @@ module _ (h : Paths) (e : Edit) (run : List Revision) (is : e.change ≡ Replica
   accepted_run : accepted_by h e ≡ replicated h run
   accepted_run = rw is refl
 
-  refuses_run : (o : Option EditRefusal) → Misfits h run o → Refuses h e o
+  refuses_run : (o : Option EditRefusal) → MisfitReport h run o → Refuses h e o
   refuses_run None k = rw is (rw k refl)
   refuses_run (Some refused) k = ap newest_accepted (accepted_run ∙ misfits h run k.1) ∙ ap Err (sym k.0)
 
@@ -189,11 +189,11 @@ module _ (h : Paths) (e : Edit) (run : List Revision) (is : e.change ≡ Replica
 -- memory runs out for a path that fits
 pub looks_want : (h : Paths) (run : List Revision) (r : Result (Option Revision) EditError) → fits h run ≡ true → IsErrAnd r (λ x. x ≡ no_memory) → LooksFor h run r
 looks_want h run (Ok o) f k = absurd k
-looks_want h run (Err x) f k = let P : EditError → Type 0 = λ y. Misfits h run (refusal_in y) in subst P (sym k) f
+looks_want h run (Err x) f k = let P : EditError → Type 0 = λ y. MisfitReport h run (refusal_in y) in subst P (sym k) f
 
 -- ---- either
 
-pub applied : (h : Paths) (e : Edit) (r : Result Revision EditError) (t : Tree) → first_refusal h e.change ≡ None → Brings h e.deleted e.body (accepted_by h e) r t → Applied h e r t
+pub applied : (h : Paths) (e : Edit) (r : Result Revision EditError) (t : Tree) → first_refusal h e.change ≡ None → AcceptsAs h e.deleted e.body (accepted_by h e) r t → Applied h e r t
 applied h e (Ok r) t first k =
     let P : Paths → Type 0 = StandsFor t in
     (ap newest_accepted k.1, subst P (sym (ap (history_after h e) k.1)) k.2)

@@ -7,7 +7,7 @@ use Rattle.mg_revtree.specs.Revision.{is_revision_id, run_of, run_from}
 use Rattle.mg_doc.specs.Document.{path_ids}
 use Rattle.mg_doc.specs.WellFormed.{are_ids}
 
--- what is not absent is there
+-- an option that is not `None` has an item
 pub there_unless_none : {A : Type 0} (o : Option A) → (o ≡ None → ⊥) → true ≡ is_some o
 there_unless_none None some = absurd (some refl)
 there_unless_none (Some x) some = refl

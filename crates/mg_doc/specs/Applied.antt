@@ -30,7 +30,7 @@ abbrev pub Refuses : Paths → Edit → Option EditRefusal → Type 0
 Refuses h e (Some refused) = outcome_of h e ≡ Err refused
 Refuses h e None = first_refusal h e.change ≡ None
 
--- the outcome of the edit, after which the tree stands for the edited history, or its error
+-- the result is the outcome of the edit, and the tree then stands for the edited history; or the error is right
 abbrev pub Applied : Paths → Edit → Result Revision EditError → Tree → Type 0
 Applied h e (Ok r) t = (outcome_of h e ≡ Ok r) × StandsFor t (edited h e)
 Applied h e (Err x) t = Refuses h e (refusal_in x)
@@ -44,8 +44,8 @@ changes_nothing h (Replica run) = is_known_whole h run
 abbrev pub IsReady : Paths → Edit → Type 0
 IsReady h e = (first_refusal h e.change ≡ None) × (changes_nothing h e.change ≡ false)
 
--- what a look foresees of an edit: it is a path that is known whole, so that the tree already stands for the edited
--- history; or it is ready; or its error
+-- the look foresees the edit: it finds a path that is known whole, its newest revision is the outcome, and the tree already stands for
+-- the edited history; or it finds the edit ready; or its error is right
 abbrev pub Foreseen : Paths → Edit → Result Look EditError → Tree → Type 0
 Foreseen h e (Ok (Known r)) t = (changes_nothing h e.change ≡ true) × (outcome_of h e ≡ Ok r) × StandsFor t (edited h e)
 Foreseen h e (Ok (Ready ready)) t = IsReady h ready

@@ -32,7 +32,7 @@ change_back (Replica run) = refl
 abbrev pub change_code : Coded Change
 change_code = code_by (Option (List Revision) × Option Revision) (coded× (coded_option (coded_list revision_code)) (coded_option revision_code)) change_parts change_made change_back
 
--- how it stores an edit
+-- how the logic stores an edit
 abbrev pub edit_code : Coded Edit
 edit_code =
     code_by (Option (List ℕ) × (Change × (Bool × Value)))

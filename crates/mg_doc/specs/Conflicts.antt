@@ -15,6 +15,6 @@ abbrev pub with_losers : List Leaf → Value → Value
 with_losers [] v = v
 with_losers (l ∷ ls) v = with_member (codes "_conflicts") (list (items_of (map leaf_text (l ∷ ls)))) v
 
--- a document of this history with its conflicts
+-- a document with the conflicts of this history; a value that is not an object stays as it is
 abbrev pub with_conflicts_of : Paths → Value → Value
 with_conflicts_of h v = with_losers (losers_of h) v

@@ -1,8 +1,9 @@
 -- How a document of a bulk is read, after CouchDB's `_bulk_docs`: its own members, its id, its mark and its path.
-use Rattle.std.specs.Prelude.{◌≡◌, ℕ, pos, List, [], ◌∷◌, Bool, true, false, not, ◌||◌, ◌==◌, nat_le, codes, Option, Some, None, option_map, option_and_then, Result, Ok, Err, if◌then◌else◌}
+use Rattle.std.specs.Prelude.{◌≡◌, ℕ, pos, List, [], ◌∷◌, Bool, true, false, not, ◌||◌, ◌==◌, nat_le, codes, Option, Some, None, option_map, option_and_then, Result, Ok, Err, if◌then◌else◌, ok_or}
 use Rattle.std.specs.List.{list_all, list_any}
 use Rattle.std.specs.Str.{bytes_eq}
 use Rattle.mg_value.specs.Value.{Value, flag, whole, text, list, object, Items, no_items, item, Members, no_members, member, get_member, member_list}
+use Rattle.mg_value.specs.Results.{◌>>=◌}
 use Rattle.mg_revtree.specs.Revision.{Revision, revision_of, run_of}
 use Rattle.mg_revtree.specs.History.{newest_of}
 use Rattle.mg_revtree.specs.declared.error.RevError.{RevError}
@@ -55,19 +56,19 @@ abbrev pub is_document_id : List ℕ → Bool
 is_document_id [] = false
 is_document_id (b ∷ s) = not (b == 95)
 
--- `_id`: a text that may be an id, if it is there
+-- `_id`: a text that may be an id; `Some None` if it is absent
 abbrev pub id_of : Option Value → Option (Option (List ℕ))
 id_of None = Some None
 id_of (Some (text s)) = if is_document_id s then Some (Some s) else None
 id_of (Some v) = None
 
--- `_rev`: the text of a revision, if it is there
+-- `_rev`: the text of a revision; `Some None` if it is absent
 abbrev pub rev_of : Option Value → Option (Option Revision)
 rev_of None = Some None
 rev_of (Some (text s)) = option_map Some (revision_of s)
 rev_of (Some v) = None
 
--- a revision whose position and id are valid: alone, it is a path that a replica may give
+-- the position and the id of the revision are valid: alone, it is a path that a replica may give
 abbrev pub IsRevision : Revision → Type 0
 IsRevision r = run_of r.0 (r.1 ∷ []) ≡ Some (r ∷ [])
 
@@ -82,23 +83,23 @@ abbrev pub run_at : Option Value → Option Value → Option (List Revision)
 run_at (Some (whole (pos start))) (Some (list ids)) = if nat_le start 4294967295 then option_and_then (run_of start) (path_ids ids) else None
 run_at start ids = None
 
--- `_revisions`: `{"start":N,"ids":[..]}`, if it is there
+-- `_revisions`: `{"start":N,"ids":[..]}`; `Some None` if it is absent
 abbrev pub revisions_of : Option Value → Option (Option (List Revision))
 revisions_of None = Some None
 revisions_of (Some (object ms)) = option_map Some (run_at (get_member (codes "start") ms) (get_member (codes "ids") ms))
 revisions_of (Some v) = None
 
--- the revision that a new edit names: if both are there, `_revisions` decides, not `_rev`
+-- the revision that a new edit names: the newest of `_revisions`; without `_revisions`, the one of `_rev`, if it is there
 abbrev pub named_by : Option Revision → Option (List Revision) → Option Revision
 named_by rev None = rev
 named_by rev (Some run) = newest_of run
 
--- the path that a replica gives, by the same rule; it has to give one
+-- the path that a replica gives: `_revisions`; without `_revisions`, that of `_rev` alone; a replica that gives neither is at fault
 abbrev pub path_by : Option Revision → Option (List Revision) → Option (List Revision)
 path_by rev (Some run) = Some run
 path_by rev None = option_map (λ r. r ∷ []) rev
 
--- the change that a document asks for
+-- the change that a document asks for; `None` if a replica gives no path
 abbrev pub change_by : Bool → Option Revision → Option (List Revision) → Option Change
 change_by new_edit rev run = if new_edit then Some (New (named_by rev run)) else option_map Replica (path_by rev run)
 
@@ -110,29 +111,19 @@ change_given new_edit ms =
 
 -- ---- a document, or its first fault: a bad member, a bad id, a bad revision, in this order
 
--- what was found, or this fault
-abbrev pub or_fault : {A : Type 0} → DocError → Option A → Result A DocError
-or_fault e None = Err e
-or_fault e (Some a) = Ok a
-
--- the first fault, or what the second reading gives
-abbrev pub then_read : {A B : Type 0} → Result A DocError → (A → Result B DocError) → Result B DocError
-then_read (Ok a) f = f a
-then_read (Err e) f = Err e
-
--- whether the document is a deletion; a bad member is found before all else
+-- whether the document is a deletion; or `BadMember`, for a reserved name that it may not have or a bad `_deleted`
 abbrev pub mark_read : Members → Result Bool DocError
-mark_read ms = if has_known_names ms then or_fault BadMember (mark_of (get_member (codes "_deleted") ms)) else Err BadMember
+mark_read ms = if has_known_names ms then ok_or (mark_of (get_member (codes "_deleted") ms)) BadMember else Err BadMember
 
 -- the edit that the members ask for, or the first fault
 abbrev pub members_read : Bool → Members → Result Edit DocError
 members_read new_edit ms =
-    then_read (mark_read ms) (λ deleted.
-    then_read (or_fault BadId (id_of (get_member (codes "_id") ms))) (λ id.
-    then_read (or_fault BadRev (change_given new_edit ms)) (λ change.
+    mark_read ms >>= (λ deleted.
+    ok_or (id_of (get_member (codes "_id") ms)) BadId >>= (λ id.
+    ok_or (change_given new_edit ms) BadRev >>= (λ change.
     Ok (record { id = id; change = change; deleted = deleted; body = object (own_members ms) }))))
 
--- the edit that a value asks for; a document is an object
+-- the edit that a value asks for; `BadMember` if the value is not an object
 abbrev pub edit_of : Bool → Value → Result Edit DocError
 edit_of new_edit (object ms) = members_read new_edit ms
 edit_of new_edit v = Err BadMember
@@ -147,7 +138,7 @@ ReadsAs said (Err BadMember) = said ≡ Err BadMember
 ReadsAs said (Err BadId) = said ≡ Err BadId
 ReadsAs said (Err BadRev) = said ≡ Err BadRev
 
--- the fault of a document for an error of its revision
+-- the error of a document for an error of its revision
 abbrev pub fault_of_rev : RevError → DocError
 fault_of_rev Bad = BadRev
 fault_of_rev rev_refused = NoMemory

@@ -21,7 +21,7 @@ Accepted = Revision × List Revision
 
 -- ---- a new edit
 
--- whether there is a leaf, and it is not deleted
+-- whether there is a leaf, and the leaf is not deleted
 abbrev pub is_alive : Option Leaf → Bool
 is_alive None = false
 is_alive (Some l) = not l.deleted
@@ -46,25 +46,25 @@ refused_by Known = Conflict
 abbrev pub refusal_over : Paths → Option Revision → List ℕ → Option EditRefusal
 refusal_over h named id = if must_name h named then Some Conflict else option_map refused_by (refusal_of h (base_of h named) id)
 
--- the path that a new edit brings: the revision of this id, and after it the base, if there is one
-abbrev pub made_over : Option Revision → List ℕ → Accepted
-made_over base id = (next_revision base id, option_to_list base)
+-- the path of a new revision: the revision of this id over the base, and after it the base, if there is one
+abbrev pub path_over : Option Revision → List ℕ → Accepted
+path_over base id = (next_revision base id, option_to_list base)
 
 -- the accepted path, unless there is a refusal
 abbrev pub unless : Option EditRefusal → Accepted → Result Accepted EditRefusal
 unless None accepted = Ok accepted
 unless (Some refused) accepted = Err refused
 
--- the path that a new edit brings, or why it is refused; the new revision's id is the digest of mark, base and body
+-- the path that a new edit adds, or why it is refused; the new revision's id is the digest of mark, base and body
 abbrev pub extended : Paths → Bool → Value → Option Revision → Result Accepted EditRefusal
 extended h deleted body named =
     let base = base_of h named in
     let id = digest_of deleted base body in
-    unless (refusal_over h named id) (made_over base id)
+    unless (refusal_over h named id) (path_over base id)
 
 -- ---- an edit that a replica made
 
--- the path of a replica is accepted if it fits
+-- the accepted path of a replica; `BadHistory` if it does not fit, or is empty
 abbrev pub replicated : Paths → List Revision → Result Accepted EditRefusal
 replicated h [] = Err BadHistory
 replicated h (r ∷ rs) = if fits h (r ∷ rs) then Ok (r, rs) else Err BadHistory
@@ -80,7 +80,7 @@ accepted_of h deleted body (Replica run) = replicated h run
 abbrev pub accepted_by : Paths → Edit → Result Accepted EditRefusal
 accepted_by h e = accepted_of h e.deleted e.body e.change
 
--- the history with the accepted path
+-- the history with the accepted path; after a refusal, the history as it was
 abbrev pub history_after : Paths → Edit → Result Accepted EditRefusal → Paths
 history_after h e (Ok a) = with_path h (path_of (a.0 ∷ a.1) e.deleted e.body)
 history_after h e (Err refused) = h
@@ -89,18 +89,18 @@ history_after h e (Err refused) = h
 abbrev pub edited : Paths → Edit → Paths
 edited h e = history_after h e (accepted_by h e)
 
--- the newest revision of the accepted path
+-- the newest revision of the accepted path, or the refusal
 abbrev pub newest_accepted : Result Accepted EditRefusal → Result Revision EditRefusal
 newest_accepted (Ok a) = Ok a.0
 newest_accepted (Err refused) = Err refused
 
--- the revision that the edit brings, or why it is refused
+-- the revision that is made, or the newest one of the replica's path; or why the edit is refused
 abbrev pub outcome_of : Paths → Edit → Result Revision EditRefusal
 outcome_of h e = newest_accepted (accepted_by h e)
 
 -- ---- what is refused before a revision is made
 
--- every refusal but that of a made revision that is already known
+-- why a change is refused, if it is, before its revision is made: any reason except that the made revision is already known
 abbrev pub first_refusal : Paths → Change → Option EditRefusal
 first_refusal h (New named) = if must_name h named then Some Conflict else option_map refused_by (result_err (next_position h (base_of h named)))
 first_refusal h (Replica run) = if fits h run then None else Some BadHistory

@@ -2,7 +2,7 @@ pub mod Document
 pub mod Digest
 pub mod Edit
 pub mod Applied
-pub mod Brought
+pub mod Acceptance
 pub mod Served
 pub mod Code
 pub mod Conversions

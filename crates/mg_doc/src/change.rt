@@ -7,14 +7,14 @@ use std::alloc::Global;
 /// What an edit does to the revisions of its document.
 #[derive(Debug, Drop)]
 pub enum Change {
-    /// A new revision is made, over the named one if there is one.
+    /// A new revision is made. It extends the named one; if none is named, it extends a deleted winner or is the document's first.
     New(Option<Rev>),
     /// The path of a replica is accepted.
     Replica(History),
 }
 
 impl Change {
-    // A copy of the change. Cost: the length of the named revision, or of the path.
+    // Copies the change. Errors: `NoMemory` if an allocation fails. Cost: the length of the named revision, or of the path.
     pub(crate) fn copy(&self, alloc: Global) -> Result<Change, NoMemory>
         ensures { IfOk result (λ change. change ≡ self.now) }
     {
@@ -25,7 +25,7 @@ impl Change {
     }
 }
 
-// A copy of the named revision, if there is one.
+// Copies the named revision, if there is one. Errors: `NoMemory` if an allocation fails.
 fn copy_named(alloc: Global, named: Option<&Rev>) -> Result<Option<Rev>, NoMemory>
     ensures { IfOk result (λ copy. copy ≡ option_copied named.entry) }
 {

@@ -10,11 +10,11 @@ use mg_value::{Json, NoMemory};
 use std::alloc::Global;
 
 /// Adds `_conflicts` to a document: an array of the revisions of its losers, as texts, best first. The losers are the leaves
-/// beside the winner that are not deleted. A document without losers comes back as it was, and so does a value that is not
+/// that are neither deleted nor the winner. A document without losers comes back as it was, and so does a value that is not
 /// an object.
 ///
-/// Errors: `NoMemory` if an allocation fails; without losers, no memory is needed. Cost: the number of the leaves, and the length of the
-/// texts. Source: `conflicts` of `GET` and `_find` in CouchDB's API reference.
+/// Errors: `NoMemory` if an allocation fails; the document is then dropped. Without losers, no memory is needed. Cost: the number of the
+/// leaves, and the length of the texts. Source: `conflicts` of `GET` and `_find` in CouchDB's API reference.
 pub fn with_conflicts(alloc: Global, document: Json, tree: &RevTree) -> Result<Json, NoMemory>
     ensures shown { IfOk result
         (λ v. (h : Paths) → StandsFor tree.now h → view v ≡ with_conflicts_of h (view document)) }
@@ -33,7 +33,7 @@ pub fn with_conflicts(alloc: Global, document: Json, tree: &RevTree) -> Result<J
     Ok(shown)
 }
 
-// The revisions of leaves as texts.
+// Writes the revisions of leaves as texts. Errors: `NoMemory` if an allocation fails.
 fn revision_texts(alloc: Global, leaves: &[&Leaf]) -> Result<Vec<Json>, NoMemory>
     ensures { IfOk result (λ texts. map view texts.items ≡ map (λ l. leaf_text l.now) leaves.now) }
 {

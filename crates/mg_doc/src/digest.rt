@@ -10,7 +10,7 @@ use mg_revtree::Rev;
 use mg_value::{Json, NoMemory, write};
 use std::alloc::Global;
 
-/// The id of a new revision over a parent, or of a document's first revision: the MD5 of the compact text of
+/// Makes the id of a new revision over a parent, or of a document's first revision: the MD5 of the compact text of
 /// `[deleted, parent, body]`, in 32 lower-case hexadecimal digits. The parent is written as its text `N-id`, or as null if there is none.
 ///
 /// Errors: `NoMemory` if an allocation fails. Cost: the length of the body's text. Source: CouchDB's deterministic revision ids,
@@ -25,7 +25,7 @@ pub fn rev_id(
         (λ id. string_bytes id ≡ digest_of deleted (option_copied parent.entry) body.now) }
 {
     let parent = parent_text(alloc, parent)?;
-    let body = body.text(alloc)?;
+    let body = body.compact_text(alloc)?;
     let mut hasher = Md5::new();
     hasher.update(if deleted { "[true," } else { "[false," });
     hasher.update(&parent);
@@ -35,8 +35,8 @@ pub fn rev_id(
     Ok(hex::encode(alloc, hasher.finalize())?)
 }
 
-// The id of a new edit's revision, made before the tree is known: right if the edit extends the revision that it names, or makes the
-// first revision of its document. `None` for a replica's change.
+// Makes the id of a new edit's revision before the tree is known. The id is right if the edit extends the revision that it names, or
+// makes the first revision of its document. `None` for a replica's change. Errors: those of `rev_id`.
 pub(crate) fn id_ahead(
     alloc: Global,
     change: &Change,
@@ -52,7 +52,7 @@ pub(crate) fn id_ahead(
     }
 }
 
-// The id that was made ahead; if there is none, one that is made now.
+// Returns the id that was made ahead; if there is none, makes the id. Errors: those of `rev_id`.
 pub(crate) fn id_over(
     alloc: Global,
     ahead: Option<String>,
@@ -70,7 +70,7 @@ pub(crate) fn id_over(
     }
 }
 
-// The parent in JSON: its text, or null.
+// Writes the parent as JSON: its text `N-id`, or null if there is none. Errors: `NoMemory` if an allocation fails.
 fn parent_text(alloc: Global, parent: Option<&Rev>) -> Result<Vec<u8>, NoMemory>
     ensures { IfOk result (λ b. b.items ≡ compact (parent_text (option_copied parent.entry))) }
 {

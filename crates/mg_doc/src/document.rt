@@ -8,8 +8,8 @@ use mg_revtree::{Form, Leaf, RevTree};
 use mg_value::{Json, NoMemory};
 use std::alloc::Global;
 
-/// The document that is served for an id: the body of the winning revision with `_id` and `_rev`. `None` if that revision
-/// deletes the document, or if the tree is empty.
+/// Makes the document that is served for an id: the body of the winning revision with `_id` and `_rev`. `None` if that revision deletes
+/// the document, or if the tree is empty.
 ///
 /// Errors: `NoMemory` if an allocation fails; if there is no document, no memory is needed. Cost: a copy of the body. Source: `GET` of a
 /// document in CouchDB's API reference.
@@ -29,7 +29,8 @@ pub fn served(alloc: Global, id: &str, tree: &RevTree) -> Result<Option<Json>, N
     }
 }
 
-// A leaf's body with the document's id and its revision.
+// Makes a leaf's form: its body with the document's id as `_id` and the leaf's revision as `_rev`. Errors: `NoMemory` if an allocation
+// fails.
 fn served_form(alloc: Global, id: &str, leaf: &Leaf) -> Result<Json, NoMemory>
     ensures { IfOk result (λ form. view form ≡ served_form id.now leaf.now) }
 {
@@ -39,11 +40,11 @@ fn served_form(alloc: Global, id: &str, leaf: &Leaf) -> Result<Json, NoMemory>
     Ok(form)
 }
 
-/// The document that `served` gives, in one block of memory with its text. The winner's body moves into that block, as for
-/// `RevTree::move_body_into`. Contracts see the same tree.
+/// Makes the document that `served` returns, in one block of memory with its text. The winner's body moves into that block, as for
+/// `RevTree::move_body_into`. Contracts see no change of the tree.
 ///
-/// Errors and cost: those of `Body::form`; if there is no document, no memory is needed. Source: `GET` of a document in CouchDB's API
-/// reference.
+/// Errors: those of `Body::form`; if there is no document, no memory is needed. Cost: that of `Body::form` and of
+/// `RevTree::move_body_into`. Source: `GET` of a document in CouchDB's API reference.
 pub fn serve_form(alloc: Global, id: &str, tree: &mut RevTree) -> Result<Option<Form>, NoMemory>
     ensures served { IfOk result (λ o. (h : Paths) → StandsFor tree.old h → o ≡ served_of id.now h) }
     ensures form { IfOk result (λ o. IfSome o (λ form. (l : Winner) × (form ≡ served_form id.now l))) }
@@ -58,7 +59,7 @@ pub fn serve_form(alloc: Global, id: &str, tree: &mut RevTree) -> Result<Option<
     Ok(form)
 }
 
-// The form of the winner, if it is not deleted.
+// Makes the form of the winner; `None` if the winner is deleted, or the tree is empty. Errors: as for `serve_form`.
 fn winner_form(alloc: Global, id: &str, tree: &RevTree) -> Result<Option<Form>, NoMemory>
     ensures served { IfOk result (λ o. (h : Paths) → StandsFor tree.now h → o ≡ served_of id.now h) }
     ensures form { IfOk result (λ o. IfSome o (λ form. (l : Winner) × (form ≡ served_form id.now l))) }
@@ -72,7 +73,7 @@ fn winner_form(alloc: Global, id: &str, tree: &RevTree) -> Result<Option<Form>, 
     }
 }
 
-// The form of a leaf: its body with the document's id and its revision.
+// Makes the form of a leaf, in one block with its text. Errors: as for `serve_form`.
 fn leaf_form(alloc: Global, id: &str, leaf: &Leaf) -> Result<Form, NoMemory>
     ensures { IfOk result (λ form. form ≡ served_form id.now leaf.now) }
 {

@@ -50,11 +50,12 @@ impl Model for Edit {
 }
 
 impl Edit {
-    /// Reads a document of a bulk, which is an object. Its body is copied as bytes into one block.
+    /// Reads a document of a bulk; `document` must be an object. The body is copied as bytes into one block.
     ///
     /// - `_id`: a text that is not empty and does not begin with an underscore. It may be absent.
-    /// - `_rev`: the text `N-id` of a revision; `_revisions`: `{"start":N,"ids":[..]}`, a path,
-    ///   newest first. If both are there, `_revisions` decides. A replica has to give one of them.
+    /// - `_rev`: the text `N-id` of a revision; `_revisions`: `{"start":N,"ids":[..]}`, a path, newest first. If both are there,
+    ///   `_revisions` decides. A replica has to give one of them, which is its path. A new edit extends the revision in `_rev`, or the
+    ///   newest one in `_revisions`.
     /// - `_deleted`: true or false; false if it is absent.
     /// - `_conflicts`, `_deleted_conflicts`, `_revs_info` and `_local_seq` are dropped.
     /// - The members whose names do not begin with an underscore are the body.
@@ -75,7 +76,7 @@ impl Edit {
         }
     }
 
-    /// The id that the document gives, if it gives one. Takes no memory.
+    /// Returns the id of the edit, if it has one. Takes no memory.
     pub fn id(&self) -> Option<&str>
         ensures { option_map (λ s. s.now) result ≡ self.now.id }
     {
@@ -103,8 +104,8 @@ impl Edit {
         }
     }
 
-    /// A copy of the edit. The copy makes the id of its revision only when it is applied. Errors: `NoMemory` if an allocation fails.
-    /// Cost: the lengths of the edit's id, path and body.
+    /// Copies the edit without the id that was made ahead. A copy of a new edit makes the id of its revision when it is applied. Errors:
+    /// `NoMemory` if an allocation fails. Cost: the lengths of the edit's id, path and body.
     pub fn copy(&self, alloc: Global) -> Result<Edit, NoMemory>
         ensures { IfOk result (λ edit. edit ≡ self.now) }
     {
@@ -118,7 +119,7 @@ impl Edit {
     }
 }
 
-// A copy of the id, if there is one.
+// Copies the id, if there is one. Errors: `NoMemory` if an allocation fails.
 fn copy_id(alloc: Global, id: Option<&str>) -> Result<Option<String>, NoMemory>
     ensures { IfOk result (λ copy. option_map string_bytes copy ≡ option_map (λ s. s.now) id.entry) }
 {
@@ -128,7 +129,7 @@ fn copy_id(alloc: Global, id: Option<&str>) -> Result<Option<String>, NoMemory>
     }
 }
 
-// The edit that a document with these members asks for.
+// Reads the edit that a document with these members asks for. Errors: those of `Edit::read`.
 fn edit_in(alloc: Global, members: &Object<'_>, new_edit: bool) -> Result<Edit, DocError>
     ensures edit { ReadsAs (members_read new_edit members.now) result }
     ensures refused { (e : DocError) → members_read new_edit members.now ≡ Err e → result ≡ Err e }

@@ -27,7 +27,7 @@ pub enum EditRefusal {
     /// already known.
     #[error("Document update conflict.")]
     Conflict,
-    /// The path gives a known revision another parent, or the extended leaf has the last position.
+    /// The path gives a known revision a parent other than the known one, or the extended leaf has the last position.
     #[error("Revision history does not fit the document.")]
     BadHistory,
 }
@@ -39,10 +39,10 @@ pub enum EditError {
     /// already known.
     #[error("Document update conflict.")]
     Conflict,
-    /// The path gives a known revision another parent, or the extended leaf has the last position.
+    /// The path gives a known revision a parent other than the known one, or the extended leaf has the last position.
     #[error("Revision history does not fit the document.")]
     BadHistory,
-    /// An allocation failed.
+    /// An allocation failed, or a limit of the revision tree was reached: `RevTree::merge` lists the limits.
     #[error("out of memory")]
     NoMemory,
 }

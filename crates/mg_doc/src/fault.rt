@@ -11,7 +11,8 @@ use mg_packed::{Array, Kind, Object, Part};
 use mg_revtree::{Rev, RevError, is_rev_id};
 use std::alloc::Global;
 
-// Whether the members give a change: each of the two is well formed if it is there, and a replica gives at least one.
+// Whether the members give a change: `_rev` and `_revisions` are each well formed or absent, and a replica gives at least one of them.
+// Lack of memory does not change the answer.
 pub(crate) fn gives_change(alloc: Global, members: &Object<'_>, new_edit: bool) -> bool
     ensures { result ≡ is_some (change_given new_edit members.now) }
 {
@@ -20,7 +21,7 @@ pub(crate) fn gives_change(alloc: Global, members: &Object<'_>, new_edit: bool) 
     is_change(new_edit, rev, path)
 }
 
-// Whether `_rev` and `_revisions` are enough for a change. `None` stands for a malformed one.
+// Whether `_rev` and `_revisions` are enough for a change, by whether each is there. `None` stands for a malformed one.
 fn is_change(new_edit: bool, rev: Option<bool>, path: Option<bool>) -> bool
     ensures { result ≡ is_enough new_edit rev path }
 {

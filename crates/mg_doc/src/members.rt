@@ -8,7 +8,8 @@ use mg_packed::{Kind, Object, Packed, Part};
 use mg_value::NoMemory;
 use std::alloc::Global;
 
-// The deletion mark of a document. Errors: `BadMember` if the mark is malformed, or if the document has an unknown reserved name.
+// Reads the deletion mark of a document, `_deleted`. Errors: `BadMember` if the mark is malformed, or if the document has an unknown
+// reserved name.
 pub(crate) fn checked_mark(members: &Object<'_>) -> Result<bool, DocError>
     ensures { result ≡ mark_read members.now }
 {
@@ -18,14 +19,14 @@ pub(crate) fn checked_mark(members: &Object<'_>) -> Result<bool, DocError>
     mark(members.get("_deleted")).ok_or(DocError::BadMember)
 }
 
-// The id of a document, lent from its block. `None` if `_id` is malformed, `Some(None)` if it is absent.
+// Reads the id of a document, without a copy. `None` if `_id` is malformed, `Some(None)` if it is absent.
 pub(crate) fn id_in<'a>(members: &Object<'a>) -> Option<Option<&'a str>>
     ensures { option_map (option_map (λ s. s.now)) result ≡ id_of (get_member (codes "_id") members.now) }
 {
     document_id(members.get("_id"))
 }
 
-// The body, in a block of its own: the members whose names are not reserved.
+// Copies the body into a block of its own: the members whose names are not reserved. Errors: `NoMemory` if an allocation fails.
 pub(crate) fn own_body(alloc: Global, members: &Object<'_>) -> Result<Packed, NoMemory>
     ensures { IfOk result (λ body. body ≡ object (own_members members.now)) }
 {
@@ -68,7 +69,7 @@ fn is_special(name: &str) -> bool
     )
 }
 
-// The mark that `_deleted` gives: true or false; false if it is absent.
+// Reads the mark that `_deleted` gives: true or false; false if `_deleted` is absent, `None` if it is malformed.
 fn mark(member: Option<Part<'_>>) -> Option<bool>
     ensures { result ≡ mark_of member.entry }
 {
@@ -81,7 +82,7 @@ fn mark(member: Option<Part<'_>>) -> Option<bool>
     }
 }
 
-// The id that `_id` gives. `None` if `_id` is malformed, `Some(None)` if it is absent.
+// Reads the id that `_id` gives. `None` if `_id` is malformed, `Some(None)` if it is absent.
 fn document_id<'a>(member: Option<Part<'a>>) -> Option<Option<&'a str>>
     ensures { option_map (option_map (λ s. s.now)) result ≡ id_of member.entry }
 {

@@ -12,7 +12,7 @@ use Rattle.mg_shard.specs.Dealt.{Placing, ShardsStandFor, histories_on}
 use Rattle.mg_shard.specs.Documents.{StandFor}
 use Rattle.mg_shard.specs.Histories.{Histories}
 use Rattle.mg_shard.specs.Shard.{ShardView}
-use Rattle.mg_engine.specs.Commands.{created, refusal_of_index, refused, world_defined}
+use Rattle.mg_engine.specs.Commands.{create_answer, refusal_of_index, refused, world_defined}
 use Rattle.mg_engine.specs.Faults.{fault_of}
 use Rattle.mg_engine.specs.World.{World}
 use Rattle.mg_engine.specs.declared.fault.Fault.{Fault}
@@ -134,12 +134,12 @@ none_dropped ddoc name (d ∷ ds) h = kept_if ddoc name d ds (none_dropped ddoc 
 -- ---- a definition that was not read
 
 pub not_read : (w : World) (e : IndexError) (r : Result IndexDefinition IndexError) (x : Refusal) → ReadsAs (λ d. d) (Err e) r → fault_of (refusal_of_index e) ≡ Refused x
-    → (created w r ≡ refused x) × (world_defined w r ≡ w)
-not_read w Shape r x g is = (ap (created w) g ∙ ap refused (refusal_is x is), ap (world_defined w) g)
+    → (create_answer w r ≡ refused x) × (world_defined w r ≡ w)
+not_read w Shape r x g is = (ap (create_answer w) g ∙ ap refused (refusal_is x is), ap (world_defined w) g)
   where
     refusal_is : (x : Refusal) → Refused WrongShape ≡ Refused x → WrongShape ≡ x
     refusal_is x e = ap (λ f. refusal_in x f) e
-not_read w Mixed r x g is = (ap (created w) g ∙ ap refused (refusal_is x is), ap (world_defined w) g)
+not_read w Mixed r x g is = (ap (create_answer w) g ∙ ap refused (refusal_is x is), ap (world_defined w) g)
   where
     refusal_is : (x : Refusal) → Refused MixedSort ≡ Refused x → MixedSort ≡ x
     refusal_is x e = ap (λ f. refusal_in x f) e

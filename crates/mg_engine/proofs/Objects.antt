@@ -7,7 +7,9 @@ use Rattle.std.specs.FinMap.{get, get-empty, get-insert}
 use Rattle.std.specs.List.{AllByRecursion}
 use Rattle.std.specs.Ordering.{eq_by_cmp, match_ordering, nat_cmp}
 use Rattle.mg_value.specs.Value.{Value, null, flag, whole, text, list, object, Items, no_items, item, Members, no_members, member, get_member, put, with_member}
-use Rattle.mg_doc.specs.Document.{Edit, change_given, edit_of, id_of, is_object, mark_read, members_read, or_fault, own_members, then_read}
+use Rattle.std.specs.Prelude.{ok_or}
+use Rattle.mg_value.specs.Results.{◌>>=◌}
+use Rattle.mg_doc.specs.Document.{Edit, change_given, edit_of, id_of, is_object, mark_read, members_read, own_members}
 use Rattle.mg_doc.specs.declared.change.Change.{Change}
 use Rattle.mg_doc.specs.Edit.{Accepted, accepted_by, edited, history_after}
 use Rattle.mg_doc.specs.Served.{served_form, shown_leaf}
@@ -36,7 +38,7 @@ the_some x y e = ap (λ o. unwrap_or o x) e
 
 -- ---- edits
 
-then_ok : {A B : Type 0} (r : Result A DocError) (f : A → Result B DocError) (b : B) → then_read r f ≡ Ok b → (a : A) × (r ≡ Ok a) × (f a ≡ Ok b)
+then_ok : {A B : Type 0} (r : Result A DocError) (f : A → Result B DocError) (b : B) → r >>= f ≡ Ok b → (a : A) × (r ≡ Ok a) × (f a ≡ Ok b)
 then_ok (Ok a) f b e = (a, refl, e)
 then_ok (Err x) f b e = absurd cc
 
@@ -45,10 +47,10 @@ abbrev with_change : Bool → Members → Bool → Option (List ℕ) → Change 
 with_change new_edits ms deleted id change = Ok (record { id = id; change = change; deleted = deleted; body = object (own_members ms) })
 
 abbrev with_id : Bool → Members → Bool → Option (List ℕ) → Result Edit DocError
-with_id new_edits ms deleted id = then_read (or_fault BadRev (change_given new_edits ms)) (with_change new_edits ms deleted id)
+with_id new_edits ms deleted id = ok_or (change_given new_edits ms) BadRev >>= (with_change new_edits ms deleted id)
 
 abbrev with_mark : Bool → Members → Bool → Result Edit DocError
-with_mark new_edits ms deleted = then_read (or_fault BadId (id_of (get_member (codes "_id") ms))) (with_id new_edits ms deleted)
+with_mark new_edits ms deleted = ok_or (id_of (get_member (codes "_id") ms)) BadId >>= (with_id new_edits ms deleted)
 
 abbrev body_in : Edit → Result Edit DocError → Value
 body_in e (Ok x) = x.body
@@ -57,8 +59,8 @@ body_in e (Err y) = e.body
 members_object : (new_edits : Bool) (ms : Members) (e : Edit) → members_read new_edits ms ≡ Ok e → is_object e.body ≡ true
 members_object new_edits ms e h =
     let deleted = then_ok (mark_read ms) (with_mark new_edits ms) e h in
-    let id = then_ok (or_fault BadId (id_of (get_member (codes "_id") ms))) (with_id new_edits ms deleted.0) e deleted.2 in
-    let change = then_ok (or_fault BadRev (change_given new_edits ms)) (with_change new_edits ms deleted.0 id.0) e id.2 in
+    let id = then_ok (ok_or (id_of (get_member (codes "_id") ms)) BadId) (with_id new_edits ms deleted.0) e deleted.2 in
+    let change = then_ok (ok_or (change_given new_edits ms) BadRev) (with_change new_edits ms deleted.0 id.0) e id.2 in
     ap (λ r. is_object (body_in e r)) (sym change.2)
 
 object_of : (new_edits : Bool) (v : Value) (e : Edit) → edit_of new_edits v ≡ Ok e → is_object e.body ≡ true
@@ -73,7 +75,7 @@ read_objects : (new_edits : Bool) (vs : Items) (es : List Edit) → edits_of new
 read_objects new_edits no_items [] h = tt
 read_objects new_edits no_items (e ∷ es) h = absurd cc
 read_objects new_edits (item v vs) es h =
-    let first = then_ok (edit_of new_edits v) (λ e. then_read (edits_of new_edits vs) (λ rs. Ok (e ∷ rs))) es h in
+    let first = then_ok (edit_of new_edits v) (λ e. edits_of new_edits vs >>= (λ rs. Ok (e ∷ rs))) es h in
     let rest = then_ok (edits_of new_edits vs) (λ rs. Ok (first.0 ∷ rs)) es first.2 in
     subst BringObjects (ap (λ r. ok_or r es) rest.2) (object_of new_edits v first.0 first.1, read_objects new_edits vs rest.0 rest.1)
   where

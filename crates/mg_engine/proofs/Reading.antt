@@ -4,13 +4,14 @@ use Rattle.mg_value.specs.Value.{Value, Items, item, item_list}
 use Rattle.mg_value.proofs.Items.{items_past}
 use Rattle.mg_packed.specs.Read.{nth_item}
 use Rattle.mg_packed.proofs.Walks.{item_next}
-use Rattle.mg_doc.specs.Document.{Edit, is_object, then_read}
+use Rattle.mg_doc.specs.Document.{Edit, is_object}
 use Rattle.mg_doc.specs.declared.error.DocError.{DocError}
 use Rattle.mg_doc.specs.Document as document
 use Rattle.mg_doc.specs.declared.error.DocError.TheVariants as document_fault
 use Rattle.std.specs.Result.{IsErr, IsErrAnd}
 use Rattle.std.specs.declared.alloc.Global.{Global}
 use Rattle.std.specs.declared.vec.Vec.{Vec}
+use Rattle.mg_value.specs.Results.{◌>>=◌}
 use Rattle.mg_engine.specs.Bulk.{are_objects, edits_or_refusal, refusal_of_document}
 use Rattle.mg_engine.specs.BulkView.{edits_seen}
 use Rattle.mg_engine.specs.Faults.{ReadsAs, fault_of}
@@ -27,7 +28,7 @@ none_before (Err e) = refl
 
 -- an edit and what follows it
 abbrev pub edit_then : Result Edit DocError → Result (List Edit) DocError → Result (List Edit) DocError
-edit_then first rest = then_read first (λ e. then_read rest (λ es. Ok (e ∷ es)))
+edit_then first rest = first >>= (λ e. rest >>= (λ es. Ok (e ∷ es)))
 
 pub one_more : (found : List Edit) (e : Edit) (first : Result Edit DocError) (rest : Result (List Edit) DocError) → first ≡ Ok e
     → edits_before found (edit_then first rest) ≡ edits_before (found ++ e ∷ []) rest

@@ -9,11 +9,11 @@ use Rattle.mg_index.specs.Definition.{IndexDefinition, listed_of, listed_all_doc
 abbrev pub line_of : Value → List ℕ
 line_of v = compact v ++ 10 ∷ []
 
--- `{"id":..,"name":..,"result":..}`: an index that was created, or exists already
+-- `{"id":..,"name":..,"result":..}`: the index, and a word that says whether it was created or existed already
 abbrev pub index_value : IndexDefinition → List ℕ → Value
 index_value d word = object (member (codes "id") (text d.ddoc) (member (codes "name") (text d.name) (member (codes "result") (text word) no_members)))
 
--- `{"indexes":[..],"total_rows":..}`: the index of all documents first
+-- `{"indexes":[..],"total_rows":..}`: all indexes, the index of all documents first, and their number
 abbrev pub indexes_value : List IndexDefinition → Value
 indexes_value ds =
     object (member (codes "indexes") (list (items_of (listed_all_docs ∷ map listed_of ds))) (member (codes "total_rows") (whole (pos (suc (length ds)))) no_members))

@@ -5,8 +5,9 @@ use Rattle.std.specs.Int.{to_be_bytes, w64}
 use Rattle.std.specs.List.{enumerate_from}
 use Rattle.hex.specs.Hex.{encode_lower}
 use Rattle.mg_value.specs.Value.{Value, flag, text, list, object, Items, no_items, item, no_members, member, member_of}
+use Rattle.mg_value.specs.Results.{◌>>=◌}
 use Rattle.mg_revtree.specs.Revision.{Revision, revision_text}
-use Rattle.mg_doc.specs.Document.{Edit, edit_of, is_object, then_read}
+use Rattle.mg_doc.specs.Document.{Edit, edit_of, is_object}
 use Rattle.mg_doc.specs.declared.error.DocError.{DocError}
 use Rattle.mg_doc.specs.declared.error.DocError.TheVariants as document_fault
 use Rattle.mg_doc.specs.declared.error.EditRefusal.{EditRefusal}
@@ -27,11 +28,12 @@ pub record Bulk : Type 0 where
   pub new_edits : Bool
   pub documents : Items
 
--- a bulk of these documents, each of which has to be an object
+-- a bulk of these documents; `None` if one of them is not an object
 abbrev pub of_objects : Bool → Items → Option Bulk
 of_objects new_edits vs = if are_objects vs then Some (record { new_edits = new_edits; documents = vs }) else None
 
--- a bulk with these two members: `docs` has to be an array of objects, and `new_edits` true or false; if it is absent, edits are new
+-- a bulk with the members `docs`, an array of objects, and `new_edits`, true or false; if `new_edits` is absent, edits are new. `None` for
+-- any other values
 abbrev pub shaped : Option Value → Option Value → Option Bulk
 shaped (Some (list vs)) None = of_objects true vs
 shaped (Some (list vs)) (Some (flag b)) = of_objects b vs
@@ -41,10 +43,10 @@ shaped docs new_edits = None
 abbrev pub bulk_of : Value → Option Bulk
 bulk_of v = shaped (member_of (codes "docs") v) (member_of (codes "new_edits") v)
 
--- the edits of the documents, or the first fault
+-- the edits of the documents, in order, or the first fault of a document
 abbrev pub edits_of : Bool → Items → Result (List Edit) DocError
 edits_of new_edits no_items = Ok []
-edits_of new_edits (item v vs) = then_read (edit_of new_edits v) (λ e. then_read (edits_of new_edits vs) (λ es. Ok (e ∷ es)))
+edits_of new_edits (item v vs) = edit_of new_edits v >>= (λ e. edits_of new_edits vs >>= (λ es. Ok (e ∷ es)))
 
 -- a document's fault as a refusal of the whole bulk
 abbrev pub refusal_of_document : DocError → Refusal
@@ -63,12 +65,12 @@ abbrev pub edits_or_refusal : Bool → Result (List Edit) DocError → Result Bu
 edits_or_refusal new_edits (Ok es) = Ok (record { new_edits = new_edits; edits = es })
 edits_or_refusal new_edits (Err e) = Err (refusal_of_document e)
 
--- the edits of a bulk, or why it is refused: its shape first, then its documents in order
+-- the edits of a bulk, or why the bulk is refused: for its shape (`None`), or for the first fault of a document
 abbrev pub edits_read : Option Bulk → Result BulkEdits Refusal
 edits_read None = Err WrongShape
 edits_read (Some b) = edits_or_refusal b.new_edits (edits_of b.new_edits b.documents)
 
--- the edits in the body of a bulk, or why it is refused
+-- the edits in the body of a bulk, or why the bulk is refused
 abbrev pub bulk_read : Value → Result BulkEdits Refusal
 bulk_read v = edits_read (bulk_of v)
 
@@ -128,7 +130,7 @@ abbrev pub entry_before : Option Value → Items → Items
 entry_before None vs = vs
 entry_before (Some v) vs = item v vs
 
--- the entries of the reply, in the order of the documents, by each edit and what became of it
+-- the entries of the reply, in the order of the documents, from each edit and its outcome
 abbrev pub entries_of : Bool → List Edit → List (Result Revision EditRefusal) → Items
 entries_of new_edits (e ∷ es) (o ∷ os) = entry_before (entry_of new_edits (id_in e) o) (entries_of new_edits es os)
 entries_of new_edits es os = no_items

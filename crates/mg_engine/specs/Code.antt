@@ -36,7 +36,7 @@ asked_from (inr (inl p)) = drop_index p.0 p.1
 asked_from (inr (inr (inl p))) = get p.0 p.1
 asked_from (inr (inr (inr n))) = list_indexes
 
--- what a command carries gives the command back
+-- from what a command carries, `asked_from` makes the command again
 pub asked_from_parts : (c : Asked) → asked_from (parts_of c) ≡ c
 asked_from_parts (bulk v) = refl
 asked_from_parts (create_index v) = refl

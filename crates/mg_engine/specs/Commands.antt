@@ -60,9 +60,9 @@ pub record Answer : Type 0 where
 abbrev pub refused : Refusal → Answer
 refused r = record { status = status_of r; body = refusal_body r }
 
--- the answer of a command that is done: 200, and a value as its body
-abbrev pub done : Value → Answer
-done v = record { status = 200; body = line_of v }
+-- the answer with status 200 and this value as its body
+abbrev pub ok_answer : Value → Answer
+ok_answer v = record { status = 200; body = line_of v }
 
 -- ---- `_bulk_docs`
 
@@ -97,9 +97,9 @@ refusal_of_index index_fault.Mixed = MixedSort
 refusal_of_index index_fault.NoMemory = OutOfMemory
 
 -- the answer to `create_index`, by the definition in its body, or by the fault of the body
-abbrev pub created : World → Result IndexDefinition IndexError → Answer
-created w (Ok d) = done (index_value d (if is_there d w.indexes then codes "exists" else codes "created"))
-created w (Err e) = refused (refusal_of_index e)
+abbrev pub create_answer : World → Result IndexDefinition IndexError → Answer
+create_answer w (Ok d) = ok_answer (index_value d (if is_there d w.indexes then codes "exists" else codes "created"))
+create_answer w (Err e) = refused (refusal_of_index e)
 
 -- the world with the definition, which replaces one of the same design document and name
 abbrev pub world_defined : World → Result IndexDefinition IndexError → World
@@ -107,9 +107,9 @@ world_defined w (Ok d) = record w { indexes = with_definition d w.indexes }
 world_defined w (Err e) = w
 
 -- the answer to `drop_index`, by whether there is such an index
-abbrev pub dropped : Bool → Answer
-dropped true = done done_value
-dropped false = refused Missing
+abbrev pub drop_answer : Bool → Answer
+drop_answer true = ok_answer done_value
+drop_answer false = refused Missing
 
 -- ---- `_find` and `_explain`
 
@@ -122,14 +122,14 @@ refusal_of_query query_fault.BadBookmark = BadBookmark
 refusal_of_query query_fault.MixedSort = MixedSort
 refusal_of_query query_fault.NoMemory = OutOfMemory
 
--- why a query that was read is not answered, as a refusal
+-- the reason why a well-formed query is not answered, as a refusal
 abbrev pub refusal_for : Unanswered → Refusal
 refusal_for no_usable_index = NoUsableIndex
 refusal_for bad_bookmark = BadBookmark
 
--- the answer with the value that a query gives, or the refusal if it gives none
+-- the answer with the value of what a query gives; if the query gives nothing, its refusal
 abbrev pub shown_or_refused : {A : Type 0} → (A → Value) → Result A Unanswered → Answer
-shown_or_refused value (Ok a) = done (value a)
+shown_or_refused value (Ok a) = ok_answer (value a)
 shown_or_refused value (Err why) = refused (refusal_for why)
 
 -- the answer to a query: its page, or its refusal
@@ -137,7 +137,7 @@ abbrev pub answer_of_query : World → Result Query QueryError → Answer
 answer_of_query w (Ok q) = shown_or_refused page_value (answer_of w.indexes q (candidates_of w.docs))
 answer_of_query w (Err e) = refused (refusal_of_query e)
 
--- the explanation of a query, or its refusal
+-- the answer that explains a query, or its refusal
 abbrev pub explain_answer : World → Result Query QueryError → Answer
 explain_answer w (Ok q) = shown_or_refused (λ v. v) (explanation_of w.name w.indexes q)
 explain_answer w (Err e) = refused (refusal_of_query e)
@@ -149,24 +149,24 @@ abbrev pub with_conflicts_if : Bool → Paths → Value → Value
 with_conflicts_if true h v = with_conflicts_of h v
 with_conflicts_if false h v = v
 
--- the answer where there is a history: the served document, or `deleted` if none is served
+-- the answer where the document has a history: the served document, or `deleted` if none is served
 abbrev pub shown_or_deleted : Option Value → Answer
-shown_or_deleted (Some v) = done v
+shown_or_deleted (Some v) = ok_answer v
 shown_or_deleted None = refused Deleted
 
--- the served document; `deleted` where there is a history and none is served, `missing` where there is no history
-abbrev pub got : List ℕ → Bool → Option Paths → Answer
-got id conflicts (Some h) = shown_or_deleted (option_map (with_conflicts_if conflicts h) (served_of id h))
-got id conflicts None = refused Missing
+-- the answer to `get`: the served document; `deleted` if the document has a history and is not served, `missing` if it has no history
+abbrev pub get_answer : List ℕ → Bool → Option Paths → Answer
+get_answer id conflicts (Some h) = shown_or_deleted (option_map (with_conflicts_if conflicts h) (served_of id h))
+get_answer id conflicts None = refused Missing
 
 -- ---- `_placement`
 
--- the answer to `reshard`, by the number of shards in its body; `None`: the body has another shape
-abbrev pub resharded : Option ℕ → Answer
-resharded (Some n) = done done_value
-resharded None = refused WrongShape
+-- the answer to `reshard`, by the number of shards in its body; `None`: the body has no number of shards from 1 to 64
+abbrev pub reshard_answer : Option ℕ → Answer
+reshard_answer (Some n) = ok_answer done_value
+reshard_answer None = refused WrongShape
 
--- how many shards there are after a command
+-- how many shards there are after a command, from their number before it
 abbrev pub shards_after : ℕ → Asked → ℕ
 shards_after n (reshard v) = unwrap_or (shards_asked v) n
 shards_after n c = n
@@ -176,13 +176,13 @@ shards_after n c = n
 -- what a command answers
 abbrev pub reply_of : World → Asked → Answer
 reply_of w (bulk v) = (bulk_effect w (bulk_read v)).answer
-reply_of w (create_index v) = created w (definition_of v)
-reply_of w (drop_index ddoc name) = dropped (is_some (definition_at (design_document ddoc) name w.indexes))
-reply_of w list_indexes = done (indexes_value w.indexes)
+reply_of w (create_index v) = create_answer w (definition_of v)
+reply_of w (drop_index ddoc name) = drop_answer (is_some (definition_at (design_document ddoc) name w.indexes))
+reply_of w list_indexes = ok_answer (indexes_value w.indexes)
 reply_of w (find v) = answer_of_query w (query_of v)
 reply_of w (explain v) = explain_answer w (query_of v)
-reply_of w (get id conflicts) = got id conflicts (finite.get w.docs id)
-reply_of w (reshard v) = resharded (shards_asked v)
+reply_of w (get id conflicts) = get_answer id conflicts (finite.get w.docs id)
+reply_of w (reshard v) = reshard_answer (shards_asked v)
 
 -- the world that a command leaves. A command that is refused, that reads, or that reshards leaves it as it is
 abbrev pub next : World → Asked → World
@@ -195,7 +195,7 @@ next w (explain v) = w
 next w (get id conflicts) = w
 next w (reshard v) = w
 
--- the answers to commands, in order
+-- the answers to commands that are executed in order
 abbrev pub replies_of : World → List Asked → List Answer
 replies_of w [] = []
 replies_of w (c ∷ cs) = reply_of w c ∷ replies_of (next w c) cs

@@ -1,4 +1,4 @@
--- Compares what a call that reads a body returns with what the definition reads.
+-- How the faults of the code match the refusals of the definitions.
 use Rattle.std.specs.Prelude.{◌≡◌, Result, Ok, Err}
 use Rattle.mg_query.specs.Page.{bad_bookmark, no_usable_index}
 use Rattle.mg_query.specs.declared.error.PageError.{PageError}
@@ -9,7 +9,7 @@ use Rattle.mg_engine.specs.declared.fault.Fault.TheVariants.{Refused, NoMemory}
 use Rattle.mg_engine.specs.declared.refusal.Refusal.{Refusal}
 use Rattle.mg_engine.specs.declared.refusal.Refusal.TheVariants.{OutOfMemory}
 
--- the call read what the definition reads, or refused as the definition does, or memory was refused
+-- the call read what the definition reads, or refused the body for the reason that the definition gives, or memory was refused
 abbrev pub ReadsAs : {A B : Type 0} → (A → B) → Result A Fault → Result B Refusal → Type 0
 ReadsAs seen (Ok a) r = r ≡ Ok (seen a)
 ReadsAs seen (Err (Refused f)) r = r ≡ Err f

@@ -3,7 +3,7 @@ use Rattle.std.specs.Prelude.{◌≡◌, List, [], ◌∷◌, Bool, true, false,
 use Rattle.mg_engine.specs.World.{World}
 use Rattle.mg_engine.specs.Commands.{Asked, Answer, reshard, replies_of, world_after}
 
--- whether a command asks for a number of shards
+-- whether a command is a reshard, accepted or refused
 abbrev pub is_reshard : Asked → Bool
 is_reshard (reshard v) = true
 is_reshard c = false

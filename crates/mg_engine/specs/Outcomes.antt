@@ -11,7 +11,7 @@ use Rattle.mg_engine.specs.declared.bulk.apply.EditOutcome.{EditOutcome}
 abbrev pub id_seen : EditOutcome → List ℕ
 id_seen o = string_bytes o.id
 
--- what became of the edit
+-- the outcome of the edit
 abbrev pub reply_in : EditOutcome → Result Revision EditRefusal
 reply_in o = outcome_seen o.reply
 

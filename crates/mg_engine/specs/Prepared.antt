@@ -1,4 +1,4 @@
--- For private clauses: prepared commands. The documents of a bulk were read before it was known to which state the bulk is applied.
+-- For private clauses: prepared commands. The documents of a bulk are read before the state to which the bulk is applied is known.
 use Rattle.std.specs.Prelude.{◌≡◌, ℕ, Bool, List}
 use Rattle.mg_doc.specs.Document.{Edit}
 use Rattle.mg_engine.specs.Commands.{Asked, edits_effect, next, refused, reply_of, shards_after}

@@ -1,4 +1,5 @@
--- Refusals: the status and the body of each. The texts are this project's own.
+-- Refusals: the status and the body of each. Some texts are CouchDB's (such as those of `MixedSort` and `NoUsableIndex`); the others are
+-- this project's own.
 use Rattle.std.specs.Prelude.{ℕ, List, codes}
 use Rattle.mg_value.specs.Value.{object, member, no_members, text}
 use Rattle.mg_engine.specs.Bodies.{line_of}

@@ -1,4 +1,4 @@
--- Which replies accept their command, and which state a command on indexes leaves.
+-- Which replies accept their commands, and which state a command on indexes leaves.
 use Rattle.std.specs.Prelude.{◌≡◌, ℕ, List, Bool, false, ◌||◌, ◌==◌, map, Option, None, is_some, Result, Ok, Err}
 use Rattle.std.specs.Option.{option_map_or}
 use Rattle.mg_index.specs.Catalog.{with_definition, without_definition}
@@ -11,15 +11,15 @@ use Rattle.mg_engine.specs.View.{said}
 use Rattle.mg_engine.specs.declared.reply.Reply.{Reply}
 use Rattle.mg_engine.specs.declared.reply.Reply.TheVariants.{NoMemory}
 
--- an answer accepts its command if its status is 200 or 201
+-- whether an answer accepts its command: its status is 200 or 201
 abbrev pub is_accepted : Answer → Bool
 is_accepted a = a.status == 200 || a.status == 201
 
--- the reply is complete, and accepts its command
+-- whether a reply accepts its command; `NoMemory` does not
 abbrev pub accepts : Reply → Bool
 accepts r = option_map_or is_accepted (said r) false
 
--- a write leaves a next state, which may equal the one before, exactly if its reply accepts it
+-- there is a next state, which may equal the one before it, if and only if the reply accepts its command
 abbrev pub IsSettled : {X : Type 0} → Reply → Option X → Type 0
 IsSettled r next = is_some next ≡ accepts r
 

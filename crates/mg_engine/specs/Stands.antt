@@ -14,7 +14,7 @@ pub record StateView : Type 0 where
   pub shards : List ShardView
   pub counter : ℕ
 
--- how the logic stores it
+-- how the logic stores what a state holds
 abbrev pub state_view_code : Coded StateView
 state_view_code =
     code_by (List ℕ × (List IndexDefinition × (List ShardView × ℕ)))
@@ -25,13 +25,13 @@ state_view_code =
 abbrev pub definitions_of : List ShardView → List (List IndexDefinition)
 definitions_of shards = map (λ s. s.definitions) shards
 
--- each shard has the rows of exactly these indexes
+-- each shard has the rows of these indexes, and of no other index
 abbrev pub HaveRows : List IndexDefinition → List ShardView → Type 0
 HaveRows ds shards = All (λ given. given ≡ ds) (definitions_of shards)
 
 -- a state whose documents are placed by `place` stands for a world if its shards stand for the histories, its catalog is the list of
--- indexes, each shard has the rows of exactly these indexes, and the names and the counters are the same. The documents of such a world
--- have objects as bodies: commands bring no others
+-- indexes, each shard has the rows of these indexes and of no other, and the names and the counters are equal. Each accepted body in the
+-- world must also be an object (commands accept no other)
 pub record StateStandsFor (place : Placing) (s : StateView) (w : World) : Type 0 where
   pub name : s.name ≡ w.name
   pub documents : ShardsStandFor place s.shards w.docs

@@ -13,7 +13,7 @@ use Rattle.mg_engine.specs.declared.state.State.TheInside.{Inside}
 abbrev pub state_shown : Inside → StateView
 state_shown s = record { name = string_bytes (arc_value s.name); catalog = arc_value s.catalog; shards = shards_seen s.shards.items; counter = s.counter }
 
--- there is a shard, and each has the rows of exactly the catalog's indexes
+-- there is a shard, and each shard has the rows of the catalog's indexes and of no other index
 pub record IsIndexed (s : Inside) : Type 0 where
   pub some : 0 < length s.shards.items
   pub rows : HaveRows (arc_value s.catalog) (shards_seen s.shards.items)

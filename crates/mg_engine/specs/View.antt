@@ -19,12 +19,12 @@ asked (Explain body) = explain (view body)
 asked (Get id conflicts) = get (string_bytes id) conflicts
 asked (Reshard body) = reshard (view body)
 
--- a complete reply as an answer; `None` where memory was refused
+-- a complete reply as an answer; `None` for `NoMemory`
 abbrev pub said : Reply → Option Answer
 said (Full status body) = Some (record { status = status; body = body.items })
 said NoMemory = None
 
--- the answer that a client gets: `out_of_memory` where memory was refused
+-- the answer that a client gets; for `NoMemory`, the refusal `OutOfMemory`
 abbrev pub answer_in : Reply → Answer
 answer_in (Full status body) = record { status = status; body = body.items }
 answer_in NoMemory = refused OutOfMemory

@@ -6,7 +6,7 @@ ghost use Rattle.mg_engine.specs.Bodies.{done_value, line_of};
 use mg_value::{Json, NoMemory, write};
 use std::alloc::Global;
 
-/// The compact text of a value and a line feed.
+/// Writes the compact text of a value, and a line feed. Errors: `NoMemory` if an allocation fails.
 pub(crate) fn line(alloc: Global, value: &Json) -> Result<Vec<u8>, NoMemory>
     ensures { IfOk result (λ b. b.items ≡ line_of (view value.now)) }
 {
@@ -14,7 +14,7 @@ pub(crate) fn line(alloc: Global, value: &Json) -> Result<Vec<u8>, NoMemory>
     with_line_feed(text)
 }
 
-/// Appends a line feed to a text.
+/// Appends a line feed to a text. Errors: `NoMemory` if an allocation fails.
 pub(crate) fn with_line_feed(text: Vec<u8>) -> Result<Vec<u8>, NoMemory>
     ensures { IfOk result (λ b. b.items ≡ text.items ++ 10 ∷ []) }
 {
@@ -23,7 +23,7 @@ pub(crate) fn with_line_feed(text: Vec<u8>) -> Result<Vec<u8>, NoMemory>
     Ok(line)
 }
 
-/// Copies a text and appends a line feed.
+/// Copies a text and appends a line feed. Errors: `NoMemory` if an allocation fails.
 pub(crate) fn text_line(alloc: Global, text: &[u8]) -> Result<Vec<u8>, NoMemory>
     ensures { IfOk result (λ b. b.items ≡ text.now ++ 10 ∷ []) }
 {
@@ -33,7 +33,7 @@ pub(crate) fn text_line(alloc: Global, text: &[u8]) -> Result<Vec<u8>, NoMemory>
     Ok(line)
 }
 
-/// The body `{"ok":true}` and a line feed.
+/// Writes `{"ok":true}` and a line feed. Errors: `NoMemory` if an allocation fails.
 pub(crate) fn done_line(alloc: Global) -> Result<Vec<u8>, NoMemory>
     ensures { IfOk result (λ b. b.items ≡ line_of done_value) }
 {

@@ -28,7 +28,8 @@ use std::alloc::Global;
 impl State {
     /// Executes a bulk, whose documents are read in place. Returns the reply, and the next state (`None` if the bulk is refused).
     ///
-    /// Errors: `NoMemory` if an allocation fails. Cost: that of `PreparedBulk::of` and of `apply`.
+    /// Errors: `NoMemory` if an allocation fails, or if there are too many references to a part of this state. Cost: that of
+    /// `PreparedBulk::of` and of `apply`.
     pub(crate) fn bulk<P: Placement>(
         &self,
         alloc: Global,
@@ -46,9 +47,11 @@ impl State {
         self.apply(alloc, placement, read)
     }
 
-    /// Executes a bulk whose body was read. The contract holds for every command that `read` determines.
+    /// Executes a bulk whose body was read. Returns the reply, and the next state (`None` if the bulk is refused). The contract holds for
+    /// every command whose effect `read` determines.
     ///
-    /// Errors: `NoMemory` if an allocation fails. Cost: that of `apply_edits`, and the length of the reply.
+    /// Errors: `NoMemory` if an allocation fails, or if there are too many references to a part of this state. Cost: that of
+    /// `apply_edits`, and the length of the reply.
     pub(crate) fn apply<P: Placement>(
         &self,
         alloc: Global,

@@ -11,19 +11,21 @@ use std::alloc::Global;
 pub enum Command {
     /// Applies a bulk of edits: `{"docs":[..],"new_edits":..}`.
     Bulk(Packed),
-    /// Creates an index: `{"index":{"fields":[..]},"ddoc":..,"name":..}`.
+    /// Creates an index: `{"index":{"fields":[..]},"ddoc":..,"name":..}`, where `ddoc` and `name` may be absent. It replaces an index of
+    /// the same design document and name. `mg_index::IndexDef::read` lists all members.
     CreateIndex(Json),
-    /// Drops an index, by its design document, with or without `_design/` in front, and its name.
+    /// Drops the index with this design document and name. `ddoc` may lack `_design/`.
     DropIndex { ddoc: String, name: String },
     /// Lists the indexes.
     ListIndexes,
-    /// Answers a query: `{"selector":{..},"fields":[..],"sort":[..],"limit":..,"skip":..,"bookmark":..,"use_index":..,"conflicts":..}`.
+    /// Answers a query: `{"selector":{..},"fields":[..],"sort":[..],"limit":..,"skip":..,"bookmark":..,"use_index":..,"conflicts":..}`,
+    /// where only `selector` is required. `mg_query::Query::read` says which values are allowed.
     Find(Json),
-    /// Explains a query: which index serves it, and which range of the index it looks at.
+    /// Explains a query: which index serves it, and which range of the index it reads. The body is that of `Find`.
     Explain(Json),
-    /// Gets the document of an id, with its conflicts if `conflicts` is true.
+    /// Gets the document with this id, and its conflicts if `conflicts` is true.
     Get { id: String, conflicts: bool },
-    /// Changes the number of shards, which is 1 to 64: `{"shards":..}`.
+    /// Changes the number of shards to a number from 1 to 64: `{"shards":..}`.
     Reshard(Json),
 }
 
@@ -47,7 +49,7 @@ impl Command {
         }
     }
 
-    /// A copy of the command. Errors: `NoMemory` if an allocation fails. Cost: the size of what it carries.
+    /// Copies the command. Errors: `NoMemory` if an allocation fails. Cost: the size of what the command carries.
     pub fn copy(&self, alloc: Global) -> Result<Command, NoMemory>
         ensures { IfOk result (λ c. asked c ≡ asked self.now) }
     {

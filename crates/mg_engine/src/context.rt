@@ -7,6 +7,6 @@ pub(crate) struct Context<'a, R, G> {
     pub(crate) rt: &'a R,
     pub(crate) alloc: Global,
     pub(crate) workers: Workers,
-    /// What a query passes at the beginning and at the end of each shard.
+    /// The gate that a query passes at the beginning and at the end of each shard.
     pub(crate) gate: &'a G,
 }

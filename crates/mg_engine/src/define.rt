@@ -4,7 +4,7 @@ ghost use Rattle.mg_value.specs.View.{view};
 ghost use Rattle.mg_index.specs.Definition.{listed_all_docs, listed_of};
 ghost use Rattle.mg_index.specs.Catalog.{definition_at, with_definition};
 ghost use Rattle.mg_engine.specs.Bodies.{index_value, indexes_value, line_of};
-ghost use Rattle.mg_engine.specs.Commands.{create_index, created, drop_index, list_indexes, next, reply_of, world_defined};
+ghost use Rattle.mg_engine.specs.Commands.{create_index, create_answer, drop_index, list_indexes, next, reply_of, world_defined};
 ghost use Rattle.mg_engine.specs.Settled.{IsSettled, accepts, shard_without, state_with, state_without};
 ghost use Rattle.mg_scan.specs.Built.{with_index};
 ghost use Rattle.mg_engine.specs.Stands.{StateStandsFor};
@@ -29,9 +29,12 @@ use std::sync::Arc;
 use std::thread::Threads;
 
 impl State {
-    /// Creates an index. Returns the reply, and the next state (`None` if the body defines no index).
-    /// Cost: the number of shards and of indexes if the catalog has the same definition already; otherwise a step for each document,
-    /// and a sort of the rows.
+    /// Creates an index; an index of the same design document and name is replaced. Returns the reply, and the next state. If the body
+    /// defines no index, the reply refuses it and there is no next state.
+    ///
+    /// Errors: `NoMemory` if an allocation fails, or if there are too many references to a part of this state. Cost: the size of the body
+    /// and the number of indexes; if the catalog has an equal definition already, also the number of shards; otherwise also a copy of the
+    /// catalog, a step for each document, and a sort of the rows.
     pub(crate) fn create_index<R: Threads + Sync, G>(
         &self,
         context: &Context<'_, R, G>,
@@ -55,14 +58,14 @@ impl State {
         }
     }
 
-    // The reply to a definition, and the state whose catalog has it.
+    // Makes the reply to a definition, and the state whose catalog has this definition.
     fn define<R: Threads + Sync, G>(
         &self,
         context: &Context<'_, R, G>,
         definition: IndexDef,
     ) -> Result<(Reply, State), NoMemory>
         ensures does { IfOk result (λ r. (place : Placing) (w : World) → StateStandsFor place self.now w
-            → (said r.0 ≡ Some (created w (Ok definition)))
+            → (said r.0 ≡ Some (create_answer w (Ok definition)))
             × StateStandsFor place r.1 (world_defined w (Ok definition))) }
         ensures accepted { IfOk result (λ r. accepts r.0 ≡ true) }
         ensures number { IfOk result (λ r. length r.1.shards ≡ length self.now.shards) }
@@ -73,7 +76,7 @@ impl State {
         Ok((Reply::Full { status: 200, body }, next))
     }
 
-    // The state with a definition. If the catalog has it already (`there`), the result shares all parts of this state.
+    // Makes the state with a definition. If the catalog has an equal one already (`there`), the result shares all parts of this state.
     fn with_definition<R: Threads + Sync, G>(
         &self,
         context: &Context<'_, R, G>,
@@ -95,7 +98,7 @@ impl State {
         }
     }
 
-    // The state with an index. The index is built on all shards.
+    // Builds an index of this definition on all shards, and makes the state with this index.
     fn with_index<R: Threads + Sync, G>(
         &self,
         context: &Context<'_, R, G>,
@@ -103,14 +106,17 @@ impl State {
     ) -> Result<State, NoMemory>
         ensures { IfOk result (λ s. s ≡ state_with definition self.now) }
     {
-        let shards = all_with(context, &self.shards, &definition)?;
+        let shards = build_on_all(context, &self.shards, &definition)?;
         let mut catalog = self.catalog.copy(context.alloc)?;
         catalog.add(definition)?;
         self.with_catalog(context.alloc, catalog, shards)
     }
 
-    /// Drops an index. Returns the reply, and the next state (`None` if there is no such index). Cost: a copy of the catalog, and that of
-    /// `Shard::without_index` for each shard.
+    /// Drops an index. `ddoc` may lack `_design/`. Returns the reply, and the next state. If there is no such index, the reply refuses the
+    /// command and there is no next state.
+    ///
+    /// Errors: `NoMemory` if an allocation fails, or if there are too many references to a part of this state. Cost: a look-up in the
+    /// catalog; if the index is there, also a copy of the catalog, and that of `Shard::without_index` for each shard.
     pub(crate) fn drop_index(
         &self,
         alloc: Global,
@@ -132,17 +138,17 @@ impl State {
         Ok((Reply::Full { status: 200, body }, Some(next)))
     }
 
-    // The state without an index. The index is dropped from all shards.
+    // Drops an index from all shards, and makes the state without this index.
     fn without_index(&self, alloc: Global, ddoc: &str, name: &str) -> Result<State, NoMemory>
         ensures { IfOk result (λ s. s ≡ state_without ddoc.now name.now self.now) }
     {
-        let shards = all_without(alloc, &self.shards, ddoc, name)?;
+        let shards = drop_from_all(alloc, &self.shards, ddoc, name)?;
         let mut catalog = self.catalog.copy(alloc)?;
         catalog.remove(ddoc, name);
         self.with_catalog(alloc, catalog, shards)
     }
 
-    /// The reply that lists the indexes, `_all_docs` first. Cost: their number.
+    /// Makes the reply that lists the indexes, `_all_docs` first. Errors: `NoMemory` if an allocation fails. Cost: the bytes of the reply.
     pub(crate) fn list_indexes(&self, alloc: Global) -> Result<Reply, NoMemory>
         ensures { IfOk result
             (λ r. (place : Placing) (w : World) → StateStandsFor place self.now w
@@ -160,11 +166,11 @@ fn has_index(catalog: &Catalog, ddoc: &str, name: &str) -> bool
     catalog.find(ddoc, name).is_some()
 }
 
-// The body of the reply that lists the indexes.
+// Makes the value of the reply that lists the indexes, `_all_docs` first.
 fn indexes_json(alloc: Global, definitions: &[IndexDef]) -> Result<Json, NoMemory>
     ensures { IfOk result (λ v. view v ≡ indexes_value definitions.now) }
 {
-    let listed = all_listed(alloc, definitions)?;
+    let listed = list_definitions(alloc, definitions)?;
     let rows = listed.len() as i64;
     let mut indexes = Json::empty_object(alloc);
     indexes.insert(alloc, "total_rows", Json::Whole(rows))?;
@@ -172,7 +178,8 @@ fn indexes_json(alloc: Global, definitions: &[IndexDef]) -> Result<Json, NoMemor
     Ok(indexes)
 }
 
-// The body of the reply to a definition: its `result` is `exists` if the catalog has it already (`there`), otherwise `created`.
+// Writes the body of the reply to a definition. The `result` is `exists` if the catalog has an equal definition already (`there`),
+// otherwise `created`.
 fn created_line(alloc: Global, definition: &IndexDef, there: bool) -> Result<Vec<u8>, NoMemory>
     ensures { IfOk result
         (λ b. b.items
@@ -194,8 +201,8 @@ fn created_line(alloc: Global, definition: &IndexDef, there: bool) -> Result<Vec
     line(alloc, &created)
 }
 
-// Builds an index on all shards.
-fn all_with<R: Threads + Sync, G>(
+// Builds an index of this definition on each shard. Returns the shards with it; the given shards do not change.
+fn build_on_all<R: Threads + Sync, G>(
     context: &Context<'_, R, G>,
     shards: &[Arc<Shard>],
     definition: &IndexDef,
@@ -209,8 +216,8 @@ fn all_with<R: Threads + Sync, G>(
     wrap_shards(alloc, built)
 }
 
-// Drops an index from all shards.
-fn all_without(
+// Returns the shards without the index of this design document and name; the given shards do not change.
+fn drop_from_all(
     alloc: Global,
     shards: &[Arc<Shard>],
     ddoc: &str,
@@ -226,8 +233,8 @@ fn all_without(
     Ok(all)
 }
 
-// Each definition as the reply lists it, after `_all_docs`.
-fn all_listed(alloc: Global, definitions: &[IndexDef]) -> Result<Vec<Json>, NoMemory>
+// Returns the entries of the reply that lists the indexes: `_all_docs`, and then each definition.
+fn list_definitions(alloc: Global, definitions: &[IndexDef]) -> Result<Vec<Json>, NoMemory>
     ensures { IfOk result (λ v. map view v.items ≡ listed_all_docs ∷ map listed_of definitions.now) }
 {
     let mut listed = Vec::new(alloc);

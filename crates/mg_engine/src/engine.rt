@@ -21,8 +21,8 @@ use std::marker::Model;
 use std::sync::Arc;
 use std::thread::Threads;
 
-/// A database for one caller: documents placed on shards, indexes over them, and the commands. The engine after a write shares with the
-/// one before it what the write does not change.
+/// A database for one caller, which executes commands: documents placed on shards, and indexes over them. A write makes a new state, which
+/// shares with the old one all that the write does not change.
 #[derive(Drop)]
 pub struct Engine<P> {
     placement: Arc<P>,
@@ -57,15 +57,17 @@ impl<P: Placement + Drop> Engine<P> {
         Ok(Engine { placement, state })
     }
 
-    /// Executes one command and returns its reply. If an allocation fails, the reply is `NoMemory` and nothing changes.
+    /// Executes one command and returns its reply. If an allocation fails, or if there are too many references to a part of the engine, the
+    /// reply is `NoMemory` and nothing changes.
     ///
-    /// The number of workers, 1 to 32, does not change the reply. For a query it is a maximum: one that is not worth a second thread runs
-    /// on the thread of the caller. With one worker, a new index and a reshard start no thread; with more, they may start more threads
+    /// The number of workers, 1 to 32, does not change the reply. For a query it is a maximum: a query that is not worth a second thread
+    /// runs on the thread of the caller. With one worker, a new index and a reshard start no thread; with more, they may start more threads
     /// than workers, as `mg_scan::build` and `mg_shard::redeal` say.
     ///
     /// Cost: a bulk costs its edits, each with its document and its rows. A query costs its page, and the rows of its index that it reads
     /// until the page is found; if the index of all documents serves it, the documents that it reads. A new index, or another number of
-    /// shards, costs every document.
+    /// shards, costs every document. Dropping an index costs a copy of the catalog, the top level of the pages of each shard, and the rows
+    /// of the index unless another engine shares them. Every other command costs its reply, and a look-up or the choice of an index.
     pub fn step<R: Threads + Sync>(
         &mut self,
         rt: &R,
@@ -76,8 +78,8 @@ impl<P: Placement + Drop> Engine<P> {
         requires some { 1 ≤ workers }
         requires most { workers ≤ 32 }
 
-        // For each world that the engine stands for, the reply is the definition's, and the engine then stands for
-        // the world that the command leaves; or memory was refused, and it stands for the same world.
+        // For each world that the engine stands for, the reply is the one that the definitions give, and the engine
+        // then stands for the world that the command leaves; or memory was refused, and it stands for the same world.
         ensures answers { (w : World) → Stands P.place self.old w
             → Answers w (asked command.now) (said result) (Stands P.place self.new) }
         ensures refused { IfNone (said result) (self.new ≡ self.old) }
@@ -126,9 +128,10 @@ impl<P: Placement + Drop> Engine<P> {
         reply
     }
 
-    /// Returns the reply to a read, by exactly `workers` workers; `NoMemory` if an allocation fails. A query passes the gate at
-    /// `ShardBegun` before it reads the first row of a shard, and at `ShardDone` after the last. The gate does not change the reply.
-    /// Cost: as for `step`.
+    /// Returns the reply to a read; `NoMemory` if an allocation fails. A query is executed by exactly `workers` workers. Unless it is
+    /// refused, it passes the gate at `ShardBegun` before it reads the first row of a shard, and at `ShardDone` after the last row. If an
+    /// allocation fails in a shard, the gate is not passed at that shard's `ShardDone`. The gate does not change the reply. Cost: as for
+    /// `step`.
     pub fn answer<R: Threads + Sync, G: Gate + Sync>(
         &self,
         rt: &R,
@@ -146,8 +149,8 @@ impl<P: Placement + Drop> Engine<P> {
         self.answer_by(rt, alloc, command, Workers::exactly(workers), gate)
     }
 
-    /// Does what `answer` does. If the number of workers is only a maximum, a query that is not worth a second thread runs on the thread
-    /// of the caller, and passes no gate.
+    /// Does what `answer` does, but the number of workers may be a maximum. Then a query over one shard, with one worker, or not worth a
+    /// second thread runs on the thread of the caller and passes no gate.
     pub fn answer_by<R: Threads + Sync, G: Gate + Sync>(
         &self,
         rt: &R,
@@ -170,8 +173,8 @@ impl<P: Placement + Drop> Engine<P> {
         reply
     }
 
-    /// Returns the reply to a write, and the engine after it if the status is 200 or 201, otherwise `None`. `self` does not change.
-    /// The reply is `NoMemory` if an allocation fails. Cost: as for `step`.
+    /// Returns the reply to a write, and the engine after the write if the status is 200 or 201, otherwise `None`. `self` does not change.
+    /// The reply is `NoMemory` if an allocation fails, or if there are too many references to a part of the engine. Cost: as for `step`.
     pub fn commit<R: Threads + Sync>(
         &self,
         rt: &R,
@@ -230,14 +233,14 @@ impl<P: Placement + Drop> Engine<P> {
         }
     }
 
-    /// The catalog of the indexes. Takes no memory.
+    /// Returns the catalog of the indexes. Takes no memory.
     pub fn catalog(&self) -> &Catalog
         ensures { result.now ≡ self.now.1.catalog }
     {
         &self.state.catalog
     }
 
-    /// The shards, each of which has the rows of exactly the indexes of the catalog. Takes no memory.
+    /// Returns the shards. Each has the rows of the indexes of the catalog, and of no other index. Takes no memory.
     pub fn shards(&self) -> &[Arc<Shard>]
         ensures shards { shards_seen result.now ≡ self.now.1.shards }
         ensures rows { All (λ s. s.definitions ≡ self.now.1.catalog) (shards_seen result.now) }

@@ -18,8 +18,9 @@ use mg_value::NoMemory;
 use std::thread::Threads;
 
 impl State {
-    /// Executes a command. Returns the reply, and the next state if the command is a write and was accepted. If memory is refused, there
-    /// is no next state. A query passes the gate.
+    /// Executes a command. Returns the reply, and the next state if the command is a write and was accepted. If an allocation fails, or if
+    /// there are too many references to a part of this state, the reply is `NoMemory`, without a next state. A query passes the gate where
+    /// `Engine::answer_by` says.
     pub(crate) fn execute<P: Placement, R: Threads + Sync, G: Gate + Sync>(
         &self,
         context: &Context<'_, R, G>,
@@ -77,7 +78,7 @@ impl State {
     }
 }
 
-// The reply to a write and the next state. If memory was refused, the reply is `NoMemory`, and there is no next state.
+// Returns what a write made: its reply, and the next state if it was accepted. An error gives `NoMemory` without a next state.
 fn answer_write(made: Result<(Reply, Option<State>), NoMemory>) -> (Reply, Option<State>)
     ensures { result ≡ settled_of made }
 {
@@ -87,7 +88,7 @@ fn answer_write(made: Result<(Reply, Option<State>), NoMemory>) -> (Reply, Optio
     }
 }
 
-// The reply to a read, which makes no next state. If memory was refused, the reply is `NoMemory`.
+// Returns the reply to a read, without a next state. An error gives `NoMemory`.
 fn answer_read(made: Result<Reply, NoMemory>) -> (Reply, Option<State>)
     ensures { result ≡ (reply_made made, None) }
 {

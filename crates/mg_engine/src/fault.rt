@@ -5,7 +5,7 @@ use mg_query::{PageError, QueryError};
 use mg_value::NoMemory;
 use std::alloc::{AllocError, AllocFailed};
 
-/// Why a body was not read, or a query has no page: the request is refused, or an allocation failed.
+/// Why a body was not read, or why a query has no page or explanation: the request is refused, or an allocation failed.
 #[derive(Clone, Copy, PartialEq, Eq, Debug, Drop)]
 pub(crate) enum Fault {
     Refused(Refusal),

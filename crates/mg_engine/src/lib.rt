@@ -1,4 +1,4 @@
-//! The engine: executes commands on documents, indexes and shards. Its replies are those of one thread that keeps plain revision paths.
+//! The engine: executes commands on documents, indexes and shards. specs/Commands.antt defines each reply, over plain revision paths.
 #![tactic(auto)]
 
 mod body;

@@ -10,10 +10,10 @@ use std::alloc::Global;
 use std::marker::Model;
 use std::snapshot::Snapshot;
 
-/// A command to be executed. If it is a bulk, its documents are already read into edits. Contracts see what the command asks.
+/// A command to be executed. The documents of a bulk are already read into edits. Contracts see what the command asks.
 #[derive(Drop)]
 pub struct Prepared {
-    /// The command as it was given. It has no bytes: only contracts see it.
+    /// The command as it was given. Only contracts see this field; it takes no memory.
     pub(crate) given: Snapshot<Command>,
     pub(crate) task: Task,
 }
@@ -44,10 +44,11 @@ impl Model for Prepared {
 }
 
 impl Prepared {
-    /// Reads a bulk before it is executed: its documents are read into edits, and its body is dropped. Other commands stay as they are.
-    /// This needs no engine, and therefore no lock on one. If the body has a fault, the prepared bulk is refused when it is executed.
+    /// Prepares a command: the documents of a bulk are read into edits, and its body is dropped. Other commands stay as they are. This
+    /// needs no engine, and therefore no lock on one. If the body of a bulk has a fault, the prepared bulk is refused when it is executed.
     ///
-    /// Errors: `NoMemory` if an allocation fails. Cost: that of `Edit::read` for each document of a bulk; constant for any other command.
+    /// Errors: `NoMemory` if an allocation fails; the command is then dropped. Cost: that of `Edit::read` for each document of a bulk;
+    /// constant for any other command.
     pub fn of(alloc: Global, command: Command) -> Result<Prepared, NoMemory>
         ensures { IfOk result (λ p. p ≡ asked command) }
     {
@@ -58,7 +59,7 @@ impl Prepared {
 }
 
 impl Task {
-    // What is to be done for a command.
+    // Returns what is to be done for a command. Reads the documents of a bulk into edits.
     fn of(alloc: Global, command: Command) -> Result<Task, NoMemory>
         ensures { IfOk result (λ t. Does t (asked command)) }
     {

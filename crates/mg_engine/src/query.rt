@@ -28,8 +28,10 @@ use std::sync::Arc;
 use std::thread::Threads;
 
 impl State {
-    /// The reply to a query: its page. Cost: the choice of the index, a look-up in each shard, the rows or documents that are read
-    /// until the page is found, and the page.
+    /// Makes the reply to a query: its page, or its refusal.
+    ///
+    /// Errors: `NoMemory` if an allocation fails. Cost: the choice of the index, a look-up in each shard, the rows or documents that are
+    /// read until the page is found, and the page.
     pub(crate) fn find<R: Threads + Sync, G: Gate + Sync>(
         &self,
         context: &Context<'_, R, G>,
@@ -44,7 +46,8 @@ impl State {
         Ok(reply)
     }
 
-    /// The reply that explains a query. Cost: the choice of the index, and the query.
+    /// Makes the reply that explains a query or refuses it. Errors: `NoMemory` if an allocation fails. Cost: the choice of the index, and
+    /// the size of the query.
     pub(crate) fn explain(&self, alloc: Global, body: &Json) -> Result<Reply, NoMemory>
         ensures { IfOk result
             (λ r. (place : Placing) (w : World) → StateStandsFor place self.now w
@@ -56,7 +59,8 @@ impl State {
     }
 }
 
-// Reads a query and writes the line of its page. Each shard has the indexes of the catalog.
+// Reads a query and writes the line of its page. Each shard has the indexes of the catalog. Errors: those of `Query::read` and of
+// `page_text`, as faults.
 fn page_line<R: Threads + Sync, G: Gate + Sync>(
     context: &Context<'_, R, G>,
     catalog: &Catalog,
@@ -72,7 +76,7 @@ fn page_line<R: Threads + Sync, G: Gate + Sync>(
     answer_line(context, catalog, shards, &query)
 }
 
-// Writes the line of a query's page.
+// Writes the line of a query's page. Errors: those of `page_text`, as faults.
 fn answer_line<R: Threads + Sync, G: Gate + Sync>(
     context: &Context<'_, R, G>,
     catalog: &Catalog,
@@ -99,7 +103,8 @@ fn answer_line<R: Threads + Sync, G: Gate + Sync>(
     }
 }
 
-// Reads a query and writes the line that explains it, for a database of this name and catalog.
+// Reads a query and writes the line that explains it, for a database of this name and catalog. Errors: those of `Query::read` and of
+// `mg_query::explain`, as faults.
 fn explanation_line(
     alloc: Global,
     name: &str,
@@ -114,7 +119,7 @@ fn explanation_line(
     Ok(line(alloc, &value)?)
 }
 
-// The reply with this body, or the refusal as a reply.
+// Makes the reply: status 200 with the body, or the refusal. Errors: `NoMemory` if the body is that error, or if an allocation fails.
 fn make_reply(alloc: Global, body: Result<Vec<u8>, Fault>) -> Result<Reply, NoMemory>
     ensures { IfOk result (λ r. (a : Answer) → MakesAnswer body a → said r ≡ Some a) }
 {

@@ -7,7 +7,7 @@ ghost use Rattle.mg_revtree.specs.Tree.{StandsFor};
 ghost use Rattle.mg_doc.specs.Conflicts.{with_conflicts_of};
 ghost use Rattle.mg_shard.specs.Documents.{StandsAt, form_of};
 ghost use Rattle.mg_engine.specs.Bodies.{line_of};
-ghost use Rattle.mg_engine.specs.Commands.{got};
+ghost use Rattle.mg_engine.specs.Commands.{get_answer};
 ghost use Rattle.mg_engine.specs.Stands.{StateStandsFor};
 ghost use Rattle.mg_shard.specs.Shard.{shards_seen};
 ghost use Rattle.mg_engine.specs.View.{said};
@@ -27,8 +27,10 @@ use std::alloc::Global;
 use std::sync::Arc;
 
 impl State {
-    /// The reply to a `GET` of a document. Cost: the placement, one look-up in one shard, and a copy of the document's text, or of the
-    /// document if conflicts are asked for.
+    /// Makes the reply to a `GET` of a document: the document, or a refusal if there is none with this id or it is deleted.
+    ///
+    /// Errors: `NoMemory` if an allocation fails. Cost: the placement, one look-up in one shard, and a copy of the document's text; if
+    /// conflicts are asked for, a copy of the document instead, the leaves of its tree, and the reply.
     pub(crate) fn get<P: Placement>(
         &self,
         alloc: Global,
@@ -37,7 +39,7 @@ impl State {
         conflicts: bool,
     ) -> Result<Reply, NoMemory>
         ensures { IfOk result (λ r. (w : World) → StateStandsFor (P.place placement.now) self.now w
-            → said r ≡ Some (got id.now conflicts (finite.get w.docs id.now))) }
+            → said r ≡ Some (get_answer id.now conflicts (finite.get w.docs id.now))) }
     {
         each_id_has_its_shard();
         let shard = shard_of(placement, &self.shards, id);
@@ -46,7 +48,7 @@ impl State {
     }
 }
 
-// The shard on which an id is placed.
+// Returns the shard on which an id is placed.
 fn shard_of<'a, P: Placement>(placement: &P, shards: &'a [Arc<Shard>], id: &str) -> &'a Shard
     requires { 0 < length shards.now }
     ensures { slice_get (shards_seen shards.now)
@@ -57,10 +59,10 @@ fn shard_of<'a, P: Placement>(placement: &P, shards: &'a [Arc<Shard>], id: &str)
     shard
 }
 
-// The reply to a `GET` of a document that is placed on this shard.
+// Makes the reply to a `GET` of a document. Its id is placed on this shard.
 fn get_from(alloc: Global, shard: &Shard, id: &str, conflicts: bool) -> Result<Reply, NoMemory>
     ensures { IfOk result (λ r. (o : Option Paths) → StandsAt id.now (get shard.now.documents id.now) o
-        → said r ≡ Some (got id.now conflicts o)) }
+        → said r ≡ Some (get_answer id.now conflicts o)) }
 {
     let Some(document) = shard.document(id) else {
         return Ok(Reply::refusing(alloc, Refusal::Missing)?);
@@ -76,25 +78,25 @@ fn get_from(alloc: Global, shard: &Shard, id: &str, conflicts: bool) -> Result<R
     Ok(Reply::Full { status: 200, body })
 }
 
-// The line of a document with its conflicts.
+// Writes the line of a document with its conflicts.
 fn conflicted_line(alloc: Global, form: &Part<'_>, tree: &RevTree) -> Result<Vec<u8>, NoMemory>
     ensures { IfOk result
         (λ b. (h : Paths) → StandsFor tree.now h → b.items ≡ line_of (with_conflicts_of h form.now)) }
 {
-    let document = form.copy(alloc)?;
+    let document = form.to_json(alloc)?;
     let shown = with_conflicts(alloc, document, tree)?;
     let body = line(alloc, &shown)?;
     Ok(body)
 }
 
-// The line of a document that is served in this form. Copies the document's text if it is kept.
+// Writes the line of a document that is served in this form. A served document keeps its text, and this text is copied.
 fn served_line(alloc: Global, document: &Document, form: &Part<'_>) -> Result<Vec<u8>, NoMemory>
     requires { form_of document.now ≡ Some form.now }
     ensures { IfOk result (λ b. b.items ≡ line_of form.now) }
 {
-    let body = match document.text() {
+    let body = match document.compact_text() {
         Some(text) => text_line(alloc, text)?,
-        None => with_line_feed(form.text(alloc)?)?,
+        None => with_line_feed(form.compact_text(alloc)?)?,
     };
     Ok(body)
 }

@@ -57,8 +57,8 @@ pub const BAD_HISTORY_ERROR: &str = "bad_history";
 /// The `reason` of an edit whose revision history does not fit the document.
 pub const BAD_HISTORY_REASON: &str = "Revision history does not fit the document.";
 
-/// Why a request is refused. The definitions spell out the texts themselves (specs/Refusals.antt); `body`, which uses the constants
-/// above, is proved to return those texts.
+/// Why a request is refused. specs/Refusals.antt spells out the texts once more; `body`, which uses the constants above, is proved to
+/// return those texts.
 #[derive(Clone, Copy, PartialEq, Eq, Debug, Drop)]
 pub enum Refusal {
     /// The body is not JSON, or has a number that is not a 64-bit integer.
@@ -67,7 +67,7 @@ pub enum Refusal {
     WrongShape,
     /// A selector has an unknown operator.
     InvalidOperator,
-    /// An operator of a selector does not take its argument, or a path of the selector has an empty step.
+    /// An operator of a selector does not allow its argument, or a path of the selector has an empty step.
     BadArg,
     /// The bookmark of a query is malformed, or belongs to another index or direction, or its key has another number of values than the
     /// index has columns.
@@ -88,9 +88,9 @@ pub enum Refusal {
     Deleted,
     /// The target names another database.
     NoDatabase,
-    /// The path matches a route, but the route has another method.
+    /// The path matches a route, but no route with this path has the method.
     MethodNotAllowed,
-    /// The head has no `Content-Length` where it needs one, or it has a `Transfer-Encoding`.
+    /// The head of a `POST` has no `Content-Length`, or a head has a `Transfer-Encoding`.
     LengthRequired,
     /// The body would be too long, or the database can count no more commits.
     TooLarge,
@@ -103,7 +103,7 @@ pub enum Refusal {
 }
 
 impl Refusal {
-    /// The status of the reply.
+    /// Returns the status of the reply.
     pub fn status(self) -> u16
         ensures { result ≡ status_of self }
     {
@@ -118,7 +118,7 @@ impl Refusal {
         }
     }
 
-    /// The body of the reply: the compact text of `{"error":..,"reason":..}` and a line feed.
+    /// Returns the body of the reply: the compact text of `{"error":..,"reason":..}` and a line feed.
     pub fn body(self) -> &'static str
         ensures { result.now ≡ refusal_body self }
     {

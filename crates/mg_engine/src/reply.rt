@@ -10,14 +10,14 @@ use std::alloc::Global;
 pub enum Reply {
     /// A complete reply: its status, and its body with the final line feed.
     Full { status: u16, body: Vec<u8> },
-    /// An allocation failed; then nothing has changed.
+    /// An allocation failed, or there were too many references to a part of the engine. Nothing has changed.
     NoMemory,
 }
 
 impl Reply {
     ghost use Rattle.mg_engine.specs.View.{answer_in, said};
 
-    /// The status: 503 where memory was refused. Takes no memory.
+    /// Returns the status; 503 for `NoMemory`. Takes no memory.
     pub fn status(&self) -> u16
         ensures { result ≡ (answer_in self.now).status }
     {
@@ -27,7 +27,7 @@ impl Reply {
         }
     }
 
-    /// The body with its final line feed: the body of `OutOfMemory` where memory was refused. Takes no memory.
+    /// Returns the body with its final line feed; for `NoMemory`, the body of `Refusal::OutOfMemory`. Takes no memory.
     pub fn body(&self) -> &[u8]
         ensures { result.now ≡ (answer_in self.now).body }
     {
@@ -37,7 +37,7 @@ impl Reply {
         }
     }
 
-    /// The reply that refuses a command. Errors: `NoMemory` if an allocation fails. Cost: its text.
+    /// Makes the reply that refuses a command. Errors: `NoMemory` if an allocation fails. Cost: the length of its body.
     pub fn refusing(alloc: Global, refusal: Refusal) -> Result<Reply, NoMemory>
         ensures { IfOk result (λ r. said r ≡ Some (refused refusal)) }
     {

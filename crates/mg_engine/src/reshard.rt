@@ -27,7 +27,10 @@ use std::thread::Threads;
 impl State {
     /// Deals the documents to the number of shards that the body asks for. Returns the reply, and the next state. If the body does not ask
     /// for a whole number from 1 to 64, the command is refused as `WrongShape` and there is no next state. The documents, the indexes and
-    /// the counter stay as they are. Cost: the number of shards, if it does not change; otherwise that of `mg_shard::redeal`.
+    /// the counter stay as they are.
+    ///
+    /// Errors: `NoMemory` if an allocation fails, or if there are too many references to a part of this state. Cost: the number of shards
+    /// if that number does not change; otherwise the cost of `mg_shard::redeal`.
     pub(crate) fn reshard<P: Placement, R: Threads + Sync, G>(
         &self,
         context: &Context<'_, R, G>,
@@ -50,7 +53,7 @@ impl State {
         Ok((Reply::Full { status: 200, body }, Some(next)))
     }
 
-    // The state over `count` shards. If this state has that many already, the result shares all its parts.
+    // Makes the state over `count` shards. If this state has `count` shards already, the result shares all parts of this state.
     fn over_shards<P: Placement, R: Threads + Sync, G>(
         &self,
         context: &Context<'_, R, G>,
@@ -74,7 +77,7 @@ impl State {
     }
 }
 
-// Deals the documents of these shards to `count` new ones, with the rows of the same indexes.
+// Deals the documents of these shards to `count` new shards, which have the rows of the indexes that these shards have.
 fn deal_shards<P: Placement, R: Threads + Sync, G>(
     context: &Context<'_, R, G>,
     shards: &[Arc<Shard>],
@@ -96,7 +99,7 @@ fn deal_shards<P: Placement, R: Threads + Sync, G>(
     Ok(shards)
 }
 
-// The number of shards that a body asks for in its member `shards`, if that is a whole number from 1 to 64.
+// Returns the number of shards that a body asks for in its member `shards`; `None` unless that is a whole number from 1 to 64.
 fn shards_asked(body: &Json) -> Option<usize>
     ensures asked { result ≡ shards_asked (view body.now) }
     ensures some { IfSome result (λ n. 0 < n) }
@@ -104,7 +107,7 @@ fn shards_asked(body: &Json) -> Option<usize>
     shard_number(body.member("shards"))
 }
 
-// The member `shards` as a number of shards, if it is a whole number from 1 to 64.
+// Returns the value of the member `shards` as a number of shards; `None` if it is absent, or not a whole number from 1 to 64.
 fn shard_number(value: Option<&Json>) -> Option<usize>
     ensures asked { result ≡ shard_number (option_map (λ j. view j.now) value.entry) }
     ensures some { IfSome result (λ n. 0 < n) }
@@ -115,7 +118,7 @@ fn shard_number(value: Option<&Json>) -> Option<usize>
     }
 }
 
-// A whole number as a number of shards, if it is from 1 to 64.
+// Returns a whole number as a number of shards; `None` unless it is from 1 to 64.
 fn shards_within(count: i64) -> Option<usize>
     ensures asked { result ≡ shard_number (Some (whole count)) }
     ensures some { IfSome result (λ n. 0 < n) }

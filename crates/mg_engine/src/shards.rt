@@ -8,7 +8,7 @@ use mg_value::NoMemory;
 use std::alloc::Global;
 use std::sync::Arc;
 
-/// Makes shards without documents and indexes. Cost: their number.
+/// Makes shards without documents or indexes. Errors: `NoMemory` if an allocation fails. Cost: their number.
 pub(crate) fn empty_shards(alloc: Global, shards: usize) -> Result<Vec<Arc<Shard>>, NoMemory>
     ensures { IfOk result (λ v. shards_seen v.items ≡ replicate shards empty_shard) }
 {
@@ -19,7 +19,8 @@ pub(crate) fn empty_shards(alloc: Global, shards: usize) -> Result<Vec<Arc<Shard
     Ok(made)
 }
 
-/// A second list that shares these shards. Cost: their number.
+/// Makes a second list that shares these shards. Errors: `NoMemory` if an allocation fails, or if there are too many references to a
+/// shard. Cost: their number.
 pub(crate) fn share_shards(
     alloc: Global,
     shards: &[Arc<Shard>],
@@ -33,7 +34,7 @@ pub(crate) fn share_shards(
     Ok(all)
 }
 
-/// Puts each shard into an `Arc`. Cost: their number.
+/// Puts each shard into an `Arc`. Errors: `NoMemory` if an allocation fails. Cost: their number.
 pub(crate) fn wrap_shards(alloc: Global, shards: Vec<Shard>) -> Result<Vec<Arc<Shard>>, NoMemory>
     ensures { IfOk result (λ v. shards_seen v.items ≡ shards.items) }
 {

@@ -15,7 +15,7 @@ use std::marker::Model;
 use std::sync::Arc;
 
 /// The database's name, the catalog of its indexes, its shards, and the number that was last given to a document without an id.
-/// Each shard has the rows of exactly the indexes of the catalog.
+/// Each shard has the rows of the indexes of the catalog, and of no other index.
 #[derive(Drop)]
 pub(crate) struct State {
     pub(crate) name: Arc<String>,
@@ -39,7 +39,8 @@ impl Model for State {
 }
 
 impl State {
-    /// The state of an empty database: shards without a document, and no index. Cost: the number of shards, and the name.
+    /// Makes the state of an empty database: shards without documents, and no index. Errors: `NoMemory` if an allocation fails. Cost: the
+    /// number of shards, and the name.
     pub(crate) fn new(alloc: Global, name: &str, shards: usize) -> Result<State, NoMemory>
         requires { 0 < shards }
         ensures stands { IfOk result
@@ -58,7 +59,8 @@ impl State {
         })
     }
 
-    /// The state with these shards, which have the rows of its indexes, and this counter. Cost: constant.
+    /// Makes a state with this state's name and catalog, these shards, which have the rows of the catalog's indexes, and this counter.
+    /// Errors: `NoMemory` if there are too many references to the name or the catalog. Takes no memory. Cost: constant.
     pub(crate) fn with_shards(
         &self,
         shards: Vec<Arc<Shard>>,
@@ -77,7 +79,8 @@ impl State {
         })
     }
 
-    /// The state with this catalog, and with these shards, which have the rows of its indexes. Cost: constant.
+    /// Makes a state with this state's name and counter, this catalog, and these shards, which have the rows of the catalog's indexes.
+    /// Errors: `NoMemory` if an allocation fails, or if there are too many references to the name. Cost: constant.
     pub(crate) fn with_catalog(
         &self,
         alloc: Global,
@@ -97,7 +100,7 @@ impl State {
         })
     }
 
-    /// The shards, each of which has the rows of exactly the indexes of the catalog. Takes no memory.
+    /// Returns the shards. Each has the rows of the indexes of the catalog, and of no other index. Takes no memory.
     pub(crate) fn indexed_shards(&self) -> &[Arc<Shard>]
         ensures shards { shards_seen result.now ≡ self.now.shards }
         ensures rows { All (λ s. s.definitions ≡ self.now.catalog) (shards_seen result.now) }
@@ -105,7 +108,8 @@ impl State {
         &self.shards
     }
 
-    /// A second state that shares all parts of this one. Cost: the number of shards.
+    /// Makes a second state that shares all parts of this one. Errors: `NoMemory` if an allocation fails, or if there are too many
+    /// references to one of the parts. Cost: the number of shards.
     pub(crate) fn share(&self, alloc: Global) -> Result<State, NoMemory>
         ensures { IfOk result (λ s. s ≡ self.now) }
     {

@@ -123,7 +123,7 @@ some_head_text blank method = simp append_assoc refl
 part_of_target : (u more : List ℕ) → AllPass is_uri_byte (u ++ more) → AllPass is_uri_byte u
 part_of_target u more all = λ k d inside. rw (get_or_append_left u more d k inside) at (all k d (omega (arith, length-append u more)))
 
--- bytes that can never become a head and end within a target once more arrive, end within a target already
+-- bytes that can never become a head, but end within a target after more arrive, end within a target already
 in_target_before : (w more : List ℕ) → NeverHasRequest w → EndsInTarget (w ++ more) → EndsInTarget w
 in_target_before w more never (blank, method, target, token, uri, is) =
     let start : List ℕ = print_blank blank ++ method in
@@ -164,7 +164,7 @@ window_full k bytes more full = take-append-le k bytes more full
 pub rest_of_window : (bytes : List ℕ) (k n : ℕ) → n ≤ length (take k bytes) → drop n (take k bytes) ++ drop k bytes ≡ drop n bytes
 rest_of_window bytes k n inside = sym (drop-append-le n (take k bytes) (drop k bytes) inside) ∙ ap (drop n) (take-append-drop k bytes)
 
--- a window of 16,384 bytes, or of all bytes if there are fewer, is the same
+-- the first k bytes are the window, if k is the lesser of their number and 16,384
 pub same_window : (k : ℕ) (bytes : List ℕ) → k ≡ min (length bytes) 16384 → take k bytes ≡ take 16384 bytes
 same_window k bytes e =
     elim (cases_lt (length bytes) 16384) [

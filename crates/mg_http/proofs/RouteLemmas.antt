@@ -109,7 +109,7 @@ module _ {K : Type 0} where
       → found ≡ list_any (λ row. bytes_eq row.0 path) rows
   some_first rows path found plain e = sym e ∙ ap is_some (first_plain rows path plain) ∙ some_row rows path
 
--- a test that is repeated three times more changes nothing
+-- `or` with one test four times is `or` with it once
 again : (b c : Bool) → (b || c) ≡ (b || (b || (b || (b || c))))
 again true c = refl
 again false c = refl
@@ -144,7 +144,7 @@ one_or_none : {X : Type 0} (o : Option X) → option_to_list o ≡ cons_option o
 one_or_none None = refl
 one_or_none (Some x) = refl
 
--- the rests of the routes so far, and of one more
+-- one step of the loop over routes: the rests so far, and then the rest of one more route
 pub one_behind : {X Y : Type 0} (f : X → Y) (h : Y → Option Y) (xs : List X) (i : ℕ) (d : X) (before after : List X) (found : Option X) → i < length xs
     → map f before ≡ filter_map (λ r. h (f r)) (take i xs) → option_map f found ≡ h (f (get_or xs i d)) → map f after ≡ map f before ++ option_to_list (option_map f found)
     → map f after ≡ filter_map (λ r. h (f r)) (take (i + 1) xs)
@@ -154,7 +154,7 @@ one_behind {Y = Y} f h xs i d before after found inside was e pushed =
     ∙ ap (λ (t : List Y). filter_map (λ r. h (f r)) (take i xs) ++ t) (one_or_none (h (f (get_or xs i d))))
     ∙ sym (filter_map-append (λ r. h (f r)) (take i xs) (get_or xs i d ∷ [])) ∙ ap (filter_map (λ r. h (f r))) (sym (take_more xs i d inside))
 
--- if any routes are left, they are those of the table, so either answers the test
+-- if any routes are left, they are the whole table, so a test of the table is a test of them
 pub the_table : {A : Type 0} (f : A → Route) (xs : List A) (b : Bool) (segment : List ℕ) → 0 < length xs
     → (map f xs ≡ []) ⊎ (map f xs ≡ routes) → b ≡ any_begins_with (literal segment) routes → b ≡ any_begins_with (literal segment) (map f xs)
 the_table f [] b segment some left h = absurd (omega (arith, some))

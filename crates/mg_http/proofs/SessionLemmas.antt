@@ -46,7 +46,7 @@ module _ (db : List ℕ) (h : RequestHead) (f : Framed) (bytes : List ℕ) (has 
   -- if the body is incomplete, the session waits
   pub part_message : f.head_len ≤ length bytes → length bytes < f.head_len + f.body_len → IsWaiting db bytes
   part_message within short =
-      inr (h, drop f.head_len bytes, request_in f.target, f.body_len, has, is.framing, omega (arith, within, short, length-drop f.head_len bytes))
+      inr (h, drop f.head_len bytes, request_in f.request, f.body_len, has, is.framing, omega (arith, within, short, length-drop f.head_len bytes))
 
   -- there may be no memory after a complete head
   pub lacks_memory : LacksMemory bytes f.omits_body
@@ -194,7 +194,7 @@ module _ {S : Type 0} (answers : S → Asked → Option Answer → S → Type 0)
       (written : Result A IoFault) (result : Result ⊤ SessionEnd)
       → HasHead held h (drop f.head_len held) → IsFramed db h f → f.head_len ≤ length held → Consumes r r' came → bytes ≡ held ++ came → f.head_len + f.body_len ≤ length bytes
       → left ≡ drop (f.head_len + f.body_len) bytes
-      → Handles answers (request_in f.target) (slice_range bytes f.head_len (f.head_len + f.body_len)) (handling old reply new) → WritesBytes w w' (reply_text f.omits_body reply) written
+      → Handles answers (request_in f.request) (slice_range bytes f.head_len (f.head_len + f.body_len)) (handling old reply new) → WritesBytes w w' (reply_text f.omits_body reply) written
       → result ≡ cond (is_ok written) (cond f.closes (Err Closed) (Ok tt)) (Err WriteFault)
       → (came : List ℕ) × (text : List ℕ) × Consumes r r' came × Appends w w' text × Steps answers db (exchange old (held ++ came) text new) left result
   answered r r' w w' old held came bytes left h f new reply written result has is within read joined there rest handled wrote e =

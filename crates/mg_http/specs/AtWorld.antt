@@ -1,4 +1,4 @@
--- The transcripts of a world: the text that the specification gives for some input, from this world (RFC 9112).
+-- Transcripts from a world: the text of the replies that the definitions give to some input, from this world on (RFC 9112).
 use Rattle.std.specs.Prelude.{◌≡◌, ℕ, List, ◌++◌, Option}
 use Rattle.mg_engine.specs.Commands.{Asked, Answer}
 use Rattle.mg_engine.specs.Execution.{Answers}
@@ -8,11 +8,11 @@ use Rattle.mg_http.specs.Device.{IsBytePrefix}
 use Rattle.mg_http.specs.Session.{Exchange, Converses}
 use Rattle.mg_http.specs.Transcript.{Course, WroteTranscript, IsAmple, IsTranscript}
 
--- at w the command has the specification's reply and leaves the world u; or memory ran out, and u is w
+-- at w the command gets the reply of the definitions and leaves the world u; or memory ran out, and u is w
 abbrev pub AtWorld : World → Asked → Option Answer → World → Type 0
 AtWorld w command reply u = Answers w command reply (λ v. v ≡ u)
 
--- a session of the database db with this end, from one world to another
+-- a session of the database db had this end and this exchange, from one world to another
 abbrev pub ConversesAt : List ℕ → SessionEnd → Exchange World → Type 0
 ConversesAt db end all = Converses AtWorld db end all
 
@@ -20,8 +20,8 @@ ConversesAt db end all = Converses AtWorld db end all
 abbrev pub IsTranscriptAt : List ℕ → World → List ℕ → List ℕ → Type 0
 IsTranscriptAt db w bytes text = IsTranscript AtWorld db (record { from = w; bytes = bytes; text = text })
 
--- A session over an input and an output, from one world to another. If memory sufficed for it, what it wrote is a prefix of each
--- transcript of what it read and of any bytes that might have followed, however it ended and wherever its input was cut.
+-- A session took this course from one world to another. If memory sufficed for it, its text is a prefix of each transcript of the
+-- bytes that it read and any bytes after them, however it ended and wherever its input was cut.
 pub record WroteTranscriptAt (db : List ℕ) (course : Course World) : Type 0 where
   pub session : WroteTranscript AtWorld db course
   pub prefix

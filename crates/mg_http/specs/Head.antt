@@ -10,7 +10,7 @@ use Rattle.mg_http.specs.declared.request.fields.Length.TheVariants.{Absent, Byt
 use Rattle.mg_http.specs.Fields.{Field, has_field, length_in, asks_close}
 use Rattle.mg_http.specs.Target.{Request, body, asks, refuses, request_of}
 
--- what a head asks: a request whose body has this many bytes, or a refusal before the body
+-- what a head asks for: a request whose body has this many bytes, or a refusal before the body
 pub data Framing : Type 0 where
   framed : Request → ℕ → Framing
   unframed : Refusal → Framing
@@ -21,7 +21,8 @@ refusal_before refusal (body endpoint) = refusal
 refusal_before refusal (asks command) = refusal
 refusal_before refusal (refuses first) = first
 
--- how a body is framed, by its length, whether a Transfer-Encoding is given (coded), and whether the method is POST, which needs a length
+-- How a body is framed, by its length, whether a Transfer-Encoding is given (coded), and whether the method is POST, which needs a length.
+-- The request's own refusal goes before these, but not before that of a faulty length.
 abbrev pub framed_by : Length → Bool → Bool → Request → Framing
 framed_by Faulty coded post request = unframed BadHead
 framed_by Absent coded post request =
@@ -31,7 +32,7 @@ framed_by (Bytes n) coded post request =
 framed_by TooMany coded post request =
     if coded then unframed (refusal_before LengthRequired request) else unframed (refusal_before TooLarge request)
 
--- what a head with this method, target and fields asks of the database
+-- what a head with this method, target and fields asks of the database; more than 64 fields are refused
 abbrev pub framing_by_parts : List ℕ → List ℕ → List ℕ → List Field → Framing
 framing_by_parts db method target fields =
     if nat_le (length fields) 64
@@ -42,7 +43,7 @@ framing_by_parts db method target fields =
 abbrev pub framing_of : List ℕ → RequestHead → Framing
 framing_of db h = framing_by_parts db h.method h.target (map name_and_value h.fields)
 
--- the reply leaves out the bytes of its body
+-- the reply leaves out the bytes of its body: the method is HEAD
 abbrev pub omits_body_of : RequestHead → Bool
 omits_body_of h = bytes_eq h.method (codes "HEAD")
 

@@ -6,6 +6,6 @@ use Rattle.mg_http.specs.declared.sessions.inbox.Inbox.{Inbox}
 abbrev pub unanswered : Inbox → List ℕ
 unanswered inbox = drop inbox.start inbox.held.items
 
--- how many more messages may be answered and reads made
+-- how many more messages may be answered, plus how many more reads may be made
 abbrev pub steps_left : Inbox → ℕ
 steps_left inbox = (4294967295 - inbox.messages) + (4294967295 - inbox.reads)

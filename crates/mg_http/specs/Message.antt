@@ -18,7 +18,7 @@ pub record HasHead (bytes : List ℕ) (h : RequestHead) (after : List ℕ) : Typ
   pub reads : ReadsRequest bytes h after
   pub fits : length (print_request h) ≤ 16384
 
--- the head is the head of the message
+-- the message has the request, the length of the body, `omits_body` and `closes` that the head gives
 pub record IsHeadOf (db : List ℕ) (h : RequestHead) (m : Message) : Type 0 where
   pub framing : framing_of db h ≡ framed m.request (length m.body)
   pub omits_body : m.omits_body ≡ omits_body_of h
@@ -32,32 +32,32 @@ pub record Begins (db bytes : List ℕ) (m : Message) (rest : List ℕ) : Type 0
   pub framed : IsHeadOf db head m
   pub joined : after ≡ m.body ++ rest
 
--- bytes that can never become a head; not those that end within a target, since a target may go on whatever its bytes are
+-- the bytes can never become a head; bytes that end within a target do not count, since any target may go on
 abbrev pub IsNoHead : List ℕ → Type 0
 IsNoHead bytes = NeverHasRequest bytes × (¬ (EndsInTarget bytes))
 
--- bytes that do not begin with a head and may go on: they can still become one, or they end within a target
+-- the bytes do not begin with a head, and may go on: they can still become a head, or they end within a target
 abbrev pub CanGoOn : List ℕ → Type 0
 CanGoOn bytes = HasNoRequest bytes × (¬ (IsNoHead bytes))
 
--- Bytes that are refused, why, and whether the reply leaves out its body: a refused head, bytes that can never become a head, and a
--- head that is longer than its limit.
+-- The bytes are refused for this reason (`omits_body`: the reply leaves out its body): they begin with a refused head, or their first
+-- 16,384 bytes can never become a head or are still an incomplete one.
 abbrev pub IsRefused : List ℕ → List ℕ → Refusal → Bool → Type 0
 IsRefused db bytes refusal omits_body =
     ((h : RequestHead) × (after : List ℕ) × HasHead bytes h after × (framing_of db h ≡ unframed refusal) × (omits_body ≡ omits_body_of h))
     ⊎ ((IsNoHead (take 16384 bytes) × (refusal ≡ BadHead) × (omits_body ≡ false))
     ⊎ ((16384 ≤ length bytes) × CanGoOn (take 16384 bytes) × (refusal ≡ HeadTooLarge) × (omits_body ≡ false)))
 
--- an incomplete head within its limit
+-- the bytes are an incomplete head within its limit, or there is no byte
 abbrev pub IsPartHead : List ℕ → Type 0
 IsPartHead bytes = (length bytes < 16384) × CanGoOn bytes
 
--- a head, and an incomplete body
+-- the bytes are a head and an incomplete body
 abbrev pub IsPartBody : List ℕ → List ℕ → Type 0
 IsPartBody db bytes =
     (h : RequestHead) × (after : List ℕ) × (request : Request) × (body : ℕ)
     × HasHead bytes h after × (framing_of db h ≡ framed request body) × (length after < body)
 
--- an incomplete message, or no byte
+-- the bytes are an incomplete message, or there is no byte
 abbrev pub IsWaiting : List ℕ → List ℕ → Type 0
 IsWaiting db bytes = IsPartHead bytes ⊎ IsPartBody db bytes

@@ -4,7 +4,7 @@ use Rattle.http.specs.StatusCode.{reason_phrase}
 use Rattle.mg_engine.specs.declared.refusal.Refusal.TheVariants.{OutOfMemory}
 use Rattle.mg_engine.specs.Commands.{Answer, refused}
 
--- the standard reason phrase of a status of three digits; empty if there is none
+-- the standard reason phrase of a status; empty if it has none, or has not three digits
 abbrev pub phrase_of : ℕ → List ℕ
 phrase_of status =
     if nat_le 100 status && nat_lt status 1000 then unwrap_or (reason_phrase status) [] else []

@@ -85,7 +85,7 @@ matches_route segments r =
 abbrev pub is_matched_by : List ℕ → List (List ℕ) → Route → Bool
 is_matched_by method segments r = matches_route segments r && bytes_eq r.method method
 
--- the percent-decoded parameters of a path
+-- the percent-decoded segments at the parameters of a route's path
 abbrev pub parameters_of : List (List ℕ) → List RouteSegment → List (List ℕ)
 parameters_of [] path = []
 parameters_of (s ∷ segments) [] = []

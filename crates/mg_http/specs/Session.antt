@@ -1,5 +1,5 @@
--- What a session writes for what it reads (RFC 9112, section 9). `answers old command reply new`: from the state `old`, the service may
--- answer the command with the reply (`None`: out of memory) and be left in the state `new`.
+-- What a session writes for what it reads (RFC 9112, section 9). `answers old command reply new`: in the state `old`, the service may
+-- answer the command with the reply (`None`: out of memory), and is then in the state `new`.
 use Rattle.std.specs.Prelude.{◌≡◌, ◌⊎◌, ℕ, Bool, true, false, List, [], ◌∷◌, ◌++◌, Option, Some, None}
 use Rattle.httparse.specs.Grammar.{RequestHead}
 use Rattle.mg_value.specs.Value.{Value}
@@ -31,21 +31,21 @@ pub record Handling (S : Type 0) : Type 0 where
   pub reply : Option Answer
   pub new : S
 
--- The reply to a body: the service's reply to the value; or invalid JSON, for a body that is not a value; or out of memory before the
--- service was asked.
+-- The body is handled in one of three ways: the service replies to its value; it is refused as invalid JSON, since it is not the text of
+-- a value; or memory runs out before the service is asked.
 abbrev pub HandlesBody : {S : Type 0} → (S → Asked → Option Answer → S → Type 0) → Endpoint → List ℕ → Handling S → Type 0
 HandlesBody answers endpoint bytes handling =
     ((value : Value) × Reads bytes value × answers handling.old (asked_by endpoint value) handling.reply handling.new)
     ⊎ ((((value : Value) → ¬ (Reads bytes value)) × (handling.reply ≡ Some (refused InvalidJson)) × (handling.new ≡ handling.old))
     ⊎ ((handling.reply ≡ None) × (handling.new ≡ handling.old)))
 
--- the reply to a request with this body; only an endpoint uses the body
+-- the request with this body is handled in this way; only an endpoint uses the body
 abbrev pub Handles : {S : Type 0} → (S → Asked → Option Answer → S → Type 0) → Request → List ℕ → Handling S → Type 0
 Handles answers (body endpoint) bytes handling = HandlesBody answers endpoint bytes handling
 Handles answers (asks command) bytes handling = answers handling.old command handling.reply handling.new
 Handles answers (refuses refusal) bytes handling = (handling.reply ≡ Some (refused refusal)) × (handling.new ≡ handling.old)
 
--- a message, and its reply
+-- a message, and its reply (`None`: out of memory)
 pub record Call : Type 0 where
   pub message : Message
   pub reply : Option Answer
@@ -66,8 +66,8 @@ pub record Exchange (S : Type 0) : Type 0 where
   pub text : List ℕ
   pub new : S
 
--- The bytes begin with the message of the call, which does not end the session, and the text begins with its reply. `others` is what
--- the later calls do: it holds of the input and output after these, from the state that the call leaves.
+-- The bytes begin with the message of the call, which does not end the session, and the text begins with its reply. `others` holds of the
+-- rest of the bytes and of the text, from the state that the call leaves.
 pub record ServesFirst
     {S : Type 0} (answers : S → Asked → Option Answer → S → Type 0) (db : List ℕ) (call : Call) (all : Exchange S)
     (others : Exchange S → Type 0) : Type 0 where
@@ -87,7 +87,7 @@ abbrev pub Serves
 Serves answers db [] rest all = (all.bytes ≡ rest) × (all.text ≡ []) × (all.new ≡ all.old)
 Serves answers db (call ∷ calls) rest all = ServesFirst answers db call all (Serves answers db calls rest)
 
--- the bytes begin with the message of the call; it was handled, and the text is its reply
+-- the bytes begin with the message of the call, the message was handled, and the text is its reply
 pub record IsLastCall
     {S : Type 0} (answers : S → Asked → Option Answer → S → Type 0) (db : List ℕ) (call : Call) (all : Exchange S) : Type 0 where
   pub after : List ℕ
@@ -95,8 +95,8 @@ pub record IsLastCall
   pub handled : IsHandled answers all.old call all.new
   pub text_is : all.text ≡ call_text call
 
--- There was no memory for the message: before its first byte, within its head, or after its head (for its target or its body). After a
--- complete head the method decides whether the reply omits its body.
+-- Memory ran out for the session's buffers, or for a message: before its first byte, within its head, or after its head (for its target or
+-- the bytes of its body). After a complete head the method decides whether the reply omits its body.
 abbrev pub LacksMemory : List ℕ → Bool → Type 0
 LacksMemory bytes omits_body =
     ((bytes ≡ []) × (omits_body ≡ false))
@@ -109,7 +109,8 @@ IsRefusalText db bytes text =
     ((refusal : Refusal) × (omits_body : Bool) × IsRefused db bytes refusal omits_body × (text ≡ text_of omits_body (refused refusal)))
     ⊎ ((omits_body : Bool) × LacksMemory bytes omits_body × (text ≡ reply_text omits_body None))
 
--- How a session ends, from the last part of its input and output: the bytes that were still unanswered, and the last text.
+-- A session may end in this way if `last` is its exchange after the messages that did not end it: the bytes that were left, and the text
+-- that was written for them.
 abbrev pub IsSessionEnd : {S : Type 0} → (S → Asked → Option Answer → S → Type 0) → List ℕ → SessionEnd → Exchange S → Type 0
 IsSessionEnd answers db Eof last = IsWaiting db last.bytes × (last.text ≡ []) × (last.new ≡ last.old)
 IsSessionEnd answers db ReadFault last = IsWaiting db last.bytes × (last.text ≡ []) × (last.new ≡ last.old)
@@ -121,7 +122,7 @@ IsSessionEnd answers db WriteFault last =
     × (((call : Call) × IsLastCall answers db call (record last { text = whole }))
     ⊎ (IsRefusalText db last.bytes whole × (last.new ≡ last.old)))
 
--- a session with this end: it read these bytes, wrote this text, and took the service from the old state to the new one
+-- a session read these bytes, wrote this text, took the service from the old state to the new one, and had this end
 pub record Converses
     {S : Type 0} (answers : S → Asked → Option Answer → S → Type 0) (db : List ℕ) (end : SessionEnd) (all : Exchange S) : Type 0 where
   pub calls : List Call

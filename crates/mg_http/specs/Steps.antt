@@ -16,8 +16,8 @@ use Rattle.mg_http.specs.declared.sessions.inbox.Stop.{Stop}
 use Rattle.mg_http.specs.declared.sessions.inbox.Stop.TheVariants as stop
 use Rattle.mg_http.specs.declared.sessions.SessionEnd.{SessionEnd}
 use Rattle.mg_http.specs.declared.sessions.SessionEnd.TheVariants.{Eof, Closed, Refused, ReadFault, WriteFault, Limit}
-use Rattle.mg_http.specs.declared.request.target.RequestTarget.{RequestTarget}
-use Rattle.mg_http.specs.declared.request.target.RequestTarget.TheVariants as target
+use Rattle.mg_http.specs.declared.request.target.ParsedRequest.{ParsedRequest}
+use Rattle.mg_http.specs.declared.request.target.ParsedRequest.TheVariants as parsed
 use Rattle.mg_http.specs.Device.{WritesPrefix}
 use Rattle.mg_http.specs.Inbox.{unanswered}
 use Rattle.mg_http.specs.Reply.{reply_text}
@@ -26,11 +26,11 @@ use Rattle.mg_http.specs.Message.{Message, HasHead, IsNoHead, CanGoOn, IsPartHea
 use Rattle.mg_http.specs.Session.{Call, Exchange, Serves, Converses}
 use Rattle.mg_http.specs.Target.{Request, body, asks, refuses}
 
--- the request that a `RequestTarget` stands for
-abbrev pub request_in : RequestTarget → Request
-request_in (target.Body endpoint) = body endpoint
-request_in (target.Asks command) = asks (engine.asked command)
-request_in (target.Refuses refusal) = refuses refusal
+-- the request that a `ParsedRequest` stands for
+abbrev pub request_in : ParsedRequest → Request
+request_in (parsed.Body endpoint) = body endpoint
+request_in (parsed.Asks command) = asks (engine.asked command)
+request_in (parsed.Refuses refusal) = refuses refusal
 
 -- the answer that a `MessageReply` stands for
 abbrev pub answer_in : MessageReply → Option Answer
@@ -39,11 +39,11 @@ answer_in (message.Refusal refusal) = Some (refused refusal)
 
 -- the message of a head and its body
 abbrev pub message_of : Framed → List ℕ → Message
-message_of f bytes = record { request = request_in f.target; body = bytes; omits_body = f.omits_body; closes = f.closes }
+message_of f bytes = record { request = request_in f.request; body = bytes; omits_body = f.omits_body; closes = f.closes }
 
--- the code's view of the head is right
+-- the code read the head right: its request, the length of the body, `omits_body` and `closes`
 pub record IsFramed (db : List ℕ) (h : RequestHead) (f : Framed) : Type 0 where
-  pub framing : framing_of db h ≡ framed (request_in f.target) f.body_len
+  pub framing : framing_of db h ≡ framed (request_in f.request) f.body_len
   pub omits_body : f.omits_body ≡ omits_body_of h
   pub closes : f.closes ≡ closes_after h
 
@@ -52,8 +52,8 @@ abbrev pub IsBodyFramed : Framing → Request → Result ℕ Refusal → Type 0
 IsBodyFramed asked request (Ok n) = (asked ≡ framed request n) × (n ≤ 8388608)
 IsBodyFramed asked request (Err refusal) = asked ≡ unframed refusal
 
--- the code's framing of a message is right: its target and the length of its body; or a refusal before the body, or out of memory
-abbrev pub IsFramedBy : Framing → Result (RequestTarget × ℕ) Refusal → Type 0
+-- the code's framing of a message is right: its request and the length of its body; or a refusal before the body, or out of memory
+abbrev pub IsFramedBy : Framing → Result (ParsedRequest × ℕ) Refusal → Type 0
 IsFramedBy asked (Ok f) = (asked ≡ framed (request_in f.0) f.1) × (f.1 ≤ 8388608)
 IsFramedBy asked (Err refusal) = (asked ≡ unframed refusal) ⊎ (refusal ≡ OutOfMemory)
 
@@ -64,11 +64,11 @@ IsHeadRead db bytes (pending.Refused refusal omits_body) =
     ((h : RequestHead) × (after : List ℕ) × ReadsRequest bytes h after
     × ((framing_of db h ≡ unframed refusal) ⊎ (refusal ≡ OutOfMemory)) × (omits_body ≡ omits_body_of h))
     ⊎ (IsNoHead bytes × (refusal ≡ BadHead) × (omits_body ≡ false))
-IsHeadRead db bytes (pending.Message f) =
+IsHeadRead db bytes (pending.Head f) =
     (f.head_len ≤ length bytes) × (f.body_len ≤ 8388608)
     × (h : RequestHead) × ReadsRequest bytes h (drop f.head_len bytes) × IsFramed db h f
 
--- a complete head, for whose target there was no memory
+-- the bytes begin with a complete head, and there was no memory for its target
 abbrev pub LacksMemoryForHead : List ℕ → Refusal → Bool → Type 0
 LacksMemoryForHead bytes refusal omits_body =
     (refusal ≡ OutOfMemory) × (h : RequestHead) × (after : List ℕ) × HasHead bytes h after × (omits_body ≡ omits_body_of h)
@@ -78,7 +78,7 @@ abbrev pub IsPending : List ℕ → List ℕ → Pending → Type 0
 IsPending db bytes pending.Waiting = IsPartHead bytes
 IsPending db bytes (pending.Refused refusal omits_body) =
     IsRefused db bytes refusal omits_body ⊎ LacksMemoryForHead bytes refusal omits_body
-IsPending db bytes (pending.Message f) =
+IsPending db bytes (pending.Head f) =
     (f.head_len ≤ length bytes) × (f.body_len ≤ 8388608)
     × (h : RequestHead) × HasHead bytes h (drop f.head_len bytes) × IsFramed db h f
 
@@ -97,15 +97,16 @@ pub record Progress : Type 0 where
 abbrev pub progress_of : Inbox → Progress
 progress_of inbox = record { messages = inbox.messages; reads = inbox.reads; held = length (unanswered inbox) }
 
--- How a step that read the bytes `came` changes the progress: each answered message, and each read that continued the session, has at
--- least one byte. The step ends the session at its limit only after that many messages or reads.
+-- A step that read the bytes `came` may change the progress in this way: each answered message, and each read that continued the session,
+-- has at least one byte. The step ends the session at its limit only if there were 4,294,967,295 messages before it, or if the reads before
+-- it and the bytes `came` are as many together.
 abbrev pub Counts : Progress → Progress → List ℕ → Result ⊤ SessionEnd → Type 0
 Counts old new came (Ok a) =
     (new.messages + new.held ≤ old.messages + (old.held + length came)) × (new.reads ≤ old.reads + length came)
 Counts old new came (Err end) =
     end ≡ Limit → (4294967295 ≤ old.messages) ⊎ (4294967295 ≤ old.reads + length came)
 
--- What was written of a refusing text: all of it if the session ends `Refused`, a prefix of it after a write fault.
+-- The session ends `Refused`, and all of the text was written; or it ends at a write fault, and a prefix of the text was written.
 abbrev pub RefusesBy : Option (List ℕ) → Option (List ℕ) → List ℕ → SessionEnd → Type 0
 RefusesBy old new text Refused = Appends old new text
 RefusesBy old new text WriteFault = WritesPrefix old new text
@@ -114,7 +115,7 @@ RefusesBy old new text Closed = ⊥
 RefusesBy old new text ReadFault = ⊥
 RefusesBy old new text Limit = ⊥
 
--- How a session ends after it stopped reading for this reason, and what was written then.
+-- A session that stopped reading for this reason may end in this way: it writes a reply only if memory ran out.
 abbrev pub StopsWith : Option (List ℕ) → Option (List ℕ) → Bool → Stop → SessionEnd → Type 0
 StopsWith old new omits_body stop.End end = (end ≡ Eof) × (new ≡ old)
 StopsWith old new omits_body stop.Failed end = (end ≡ ReadFault) × (new ≡ old)

@@ -10,12 +10,12 @@ skip_blank (a ∷ []) = if a == 10 then [] else a ∷ []
 skip_blank (a ∷ b ∷ rest) =
     if a == 10 then skip_blank (b ∷ rest) else (if a == 13 && b == 10 then skip_blank rest else a ∷ b ∷ rest)
 
--- a method, a space, and the beginning of a target; `true`: a part of the method comes before these bytes
+-- the bytes are a method, a space, and the beginning of a target; `seen`: the beginning of the method comes before these bytes
 abbrev pub is_method_and_target : Bool → List ℕ → Bool
 is_method_and_target seen [] = false
 is_method_and_target seen (b ∷ rest) =
     if is_token_byte b then is_method_and_target true rest else seen && (b == 32 && list_all is_uri_byte rest)
 
--- empty lines, a method, a space, and the beginning of a target
+-- the bytes are empty lines, a method, a space, and the beginning of a target
 abbrev pub is_in_target : List ℕ → Bool
 is_in_target bytes = is_method_and_target false (skip_blank bytes)

@@ -10,7 +10,7 @@ use Rattle.mg_http.specs.Message.{Message, Begins, IsRefused, IsWaiting}
 use Rattle.mg_http.specs.Reply.{text_of}
 use Rattle.mg_http.specs.Session.{Call, Exchange, Handles, IsSessionEnd, Converses}
 
--- the bytes do not begin with a message that can be answered: they are incomplete, or this text refuses them
+-- the bytes do not begin with a message that can be answered: they are incomplete and the text is empty, or the text refuses them
 abbrev pub EndsTranscript : List ℕ → List ℕ → List ℕ → Type 0
 EndsTranscript db bytes text =
     (IsWaiting db bytes × (text ≡ []))
@@ -22,8 +22,8 @@ pub record TextFor (S : Type 0) : Type 0 where
   pub bytes : List ℕ
   pub text : List ℕ
 
--- The bytes begin with the message, and the text begins with its reply, which is not out of memory. `others` is what follows: it holds of
--- the bytes after the message and the text after its reply, from the state between.
+-- The bytes begin with the message, and the text begins with its reply, which is not out of memory. `others` holds of the bytes after the
+-- message and of the text after its reply, from the state that the message leaves.
 pub record AnswersFirst
     {S : Type 0} (answers : S → Asked → Option Answer → S → Type 0) (db : List ℕ) (m : Message) (all : TextFor S)
     (others : TextFor S → Type 0) : Type 0 where
@@ -36,8 +36,8 @@ pub record AnswersFirst
   pub text_is : all.text ≡ text_of m.omits_body answer ++ later
   pub others_follow : others (record { from = mid; bytes = after; text = later })
 
--- These are the messages of the bytes that are answered, and the text is their replies. What follows a message is answered from the state
--- that it leaves, unless the message ends the session.
+-- The bytes begin with these messages, and the text is their replies and then what ends the transcript. What follows a message is answered
+-- from the state that the message leaves; after a message that ends the session, the text ends.
 abbrev pub IsTranscriptOf : {S : Type 0} → (S → Asked → Option Answer → S → Type 0) → List ℕ → List Message → TextFor S → Type 0
 IsTranscriptOf answers db [] all = EndsTranscript db all.bytes all.text
 IsTranscriptOf answers db (m ∷ ms) all =
@@ -52,7 +52,7 @@ IsTranscript answers db all = (messages : List Message) × IsTranscriptOf answer
 abbrev pub IsAnswered : Call → Type 0
 IsAnswered call = (answer : Answer) × (call.reply ≡ Some answer)
 
--- the session's last reply, if there is one, is not out of memory
+-- the reply with which the session ends, if there is one, is not out of memory
 abbrev pub EndsAmply
     : {S : Type 0} (answers : S → Asked → Option Answer → S → Type 0) (db : List ℕ) (end : SessionEnd) (last : Exchange S)
     → IsSessionEnd answers db end last → Type 0
@@ -101,7 +101,8 @@ pub record Course (S : Type 0) : Type 1 where
   pub new : S
   pub end : SessionEnd
 
--- What the session did. If memory sufficed and it wrote all that it had to write, it wrote a transcript of what it read.
+-- The session read these bytes and wrote this text. If memory sufficed and it wrote all that it had to write, the text is a transcript of
+-- the bytes. If it ended at its limit, it had read at least 4,294,967,295 bytes.
 pub record WroteTranscript
     {S : Type 0} (answers : S → Asked → Option Answer → S → Type 0) (db : List ℕ) (course : Course S) : Type 0 where
   pub bytes : List ℕ

@@ -9,12 +9,12 @@ use Rattle.mg_engine.specs.declared.refusal.Refusal.TheVariants.{Missing, NoData
 use Rattle.mg_http.specs.Routes.{RouteSegment, literal, parameter, Route, routes, same_part}
 use Rattle.mg_http.specs.Target.{Request, refuses, requested_by, names}
 
--- the rest of a path after the part; `None`: it does not begin with the part
+-- the rest of a path after the part; `None`: the path does not begin with the part
 abbrev pub path_after : RouteSegment → List RouteSegment → Option (List RouteSegment)
 path_after part [] = None
 path_after part (p ∷ ps) = if same_part p part then Some ps else None
 
--- the rest of a route after the part
+-- the rest of a route after the part; `None`: its path does not begin with the part
 abbrev pub route_after : RouteSegment → Route → Option Route
 route_after part r = option_map (λ path. record r { path = path }) (path_after part r.path)
 

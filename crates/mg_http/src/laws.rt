@@ -8,21 +8,21 @@ ghost use Rattle.mg_http.specs.AtWorld.{AtWorld, ConversesAt, IsTranscriptAt};
 ghost use Rattle.mg_http.specs.Transcript.{IsAmple, WroteAll};
 ghost use Rattle.mg_http.specs.declared.sessions.SessionEnd.{SessionEnd};
 
-/// Bytes begin with at most one message: they determine what it asks for, its body, and what follows it.
+/// Bytes begin with at most one message: they determine the whole message and the bytes after it.
 pub fn one_message()
     ensures { (db bytes : List ℕ) (m n : Message) (p q : List ℕ) → Begins db bytes m p → Begins db bytes n q
         → (m ≡ n) × (p ≡ q) }
 {}
 
-/// Any cut of the input: the transcript of some bytes is a prefix of each transcript of those bytes and more.
+/// Wherever an input is cut, each transcript of its first part is a prefix of each transcript of the whole input.
 pub fn any_cut()
     ensures { (db : List ℕ) (w : World) (bytes more text longer : List ℕ)
         → IsTranscriptAt db w bytes text → IsTranscriptAt db w (bytes ++ more) longer
         → IsBytePrefix text longer }
 {}
 
-/// A session for which memory sufficed writes the transcript of the bytes that it read, unless it ended at a write fault or at its
-/// limit. However it ended, what it wrote is a prefix of each transcript of those bytes and of any bytes that might have followed.
+/// A session for which memory sufficed writes a transcript of the bytes that it read, unless it ended at a write fault or at its limit.
+/// However it ended, its text is a prefix of each transcript of these bytes and any bytes after them.
 pub fn sessions_write_transcripts()
     ensures whole { (db : List ℕ) (end : SessionEnd) (all : Exchange World)
         (conversation : ConversesAt db end all)

@@ -1,4 +1,4 @@
-//! Reads the request, or the part of one, that a session's unanswered bytes begin with.
+//! Reads the head, complete or not, that a session's unanswered bytes begin with.
 ghost use Rattle.std.specs.Prelude.{◌≤◌, length};
 ghost use Rattle.mg_http.specs.Steps.{IsPending};
 
@@ -19,12 +19,15 @@ use mg_engine::Refusal;
 pub(crate) use routes::Endpoint;
 pub(crate) use second_literals::SecondLiterals;
 use std::alloc::Global;
-pub(crate) use target::RequestTarget;
+pub(crate) use target::ParsedRequest;
 
 /// The most bytes of a head.
 pub(crate) const MAX_HEAD: usize = 16_384;
 
-/// Reads the head that the bytes begin with. A head that is still incomplete at its limit is refused. `spans` is room for its fields.
+/// Reads the head that the bytes begin with. `spans` is room for the head's fields.
+///
+/// Refuses a head that is incomplete after `MAX_HEAD` bytes, bytes that can never become a head, a head with more than 64 fields, a head
+/// whose fields give no acceptable length of the body, and a head for whose target there is no memory.
 pub(crate) fn read_pending(
     alloc: Global,
     db: &str,
@@ -45,6 +48,6 @@ pub(crate) fn read_pending(
         Pending::Waiting if bytes.len() < MAX_HEAD => Pending::Waiting,
         Pending::Waiting => Pending::Refused(Refusal::HeadTooLarge, false),
         Pending::Refused(refusal, omits_body) => Pending::Refused(refusal, omits_body),
-        Pending::Message(framed) => Pending::Message(framed),
+        Pending::Head(framed) => Pending::Head(framed),
     }
 }

@@ -31,21 +31,22 @@ use std::thread::Threads;
 /// How a session ended.
 #[derive(Clone, Copy, Debug, PartialEq, Eq)]
 pub enum SessionEnd {
-    /// The input ended.
+    /// The input ended, between two messages or within one.
     Eof,
-    /// The last message asked to close, or its version was 1.0.
+    /// The last message asked to close, or its version was 1.0; it is answered.
     Closed,
-    /// The input was refused at its head, or there was no memory for a message or its target; the last reply says which.
+    /// A head was refused, the bytes can never become a head, or memory ran out for the session's buffers, for the bytes of a message or
+    /// for its target. The last reply gives the reason.
     Refused,
-    /// The reader failed.
+    /// The reader returned an error.
     ReadFault,
-    /// The writer failed.
+    /// The writer returned an error, or took no byte of a reply.
     WriteFault,
-    /// The session answered 4,294,967,295 messages or called its reader as often, and the next message or call would be one too many.
+    /// The session has answered 4,294,967,295 messages or called its reader 4,294,967,295 times, and would have to do it once more.
     Limit,
 }
 
-/// How a session ends after the write of its last reply, which refused the input.
+/// Returns how the session ends after the write of its last reply: a refusal, or out of memory.
 fn end_after_refusal(written: Result<(), IoFault>) -> SessionEnd
     ensures { result ≡ (if is_ok written then SessionEnd.Refused else SessionEnd.WriteFault) }
 {
@@ -55,7 +56,9 @@ fn end_after_refusal(written: Result<(), IoFault>) -> SessionEnd
     }
 }
 
-/// Whether the session continues after the write of a reply. `closes`: the message asked to close.
+/// Decides whether the session continues after the write of a reply. `closes`: the message ends the session.
+///
+/// Errors: `WriteFault` if the write failed; else `Closed` if the message ends the session.
 fn continue_after(written: Result<(), IoFault>, closes: bool) -> Result<(), SessionEnd>
     ensures { result
         ≡ (if is_ok written then
@@ -68,7 +71,7 @@ fn continue_after(written: Result<(), IoFault>, closes: bool) -> Result<(), Sess
     }
 }
 
-/// How a session ends after it stopped reading. Out of memory gets a reply; the other reasons get none.
+/// Returns how the session ends after it stopped reading. Writes a reply only if memory ran out.
 fn end_after_stop<W: Write>(
     writer: &mut Device<W>,
     output: &mut Vec<u8>,
@@ -94,6 +97,8 @@ fn end_after_stop<W: Write>(
 }
 
 /// Reads the rest of the message whose head was read, and answers it.
+///
+/// Errors: how the session ends.
 fn answer_message<H: Wait + Threads + Sync, S: Service, R: Read, W: Write>(
     rt: &H,
     alloc: Global,
@@ -136,14 +141,16 @@ fn answer_message<H: Wait + Threads + Sync, S: Service, R: Read, W: Write>(
         return Err(SessionEnd::Limit);
     }
     let body = &rest_of(&inbox.held, inbox.start)[framed.head_len..end];
-    let answer = answer_request(rt, alloc, service, &mut inbox.buffer, framed.target, body);
+    let answer = answer_request(rt, alloc, service, &mut inbox.buffer, framed.request, body);
     let written = write_answer(writer, &mut inbox.output, framed.omits_body, &answer);
     inbox.messages += 1;
     inbox.start += end;
     continue_after(written, framed.closes)
 }
 
-/// One step: answers a message, or reads more bytes, or ends the session.
+/// Answers a message, reads more bytes, or ends the session.
+///
+/// Errors: how the session ends.
 fn step<H: Wait + Threads + Sync, S: Service, R: Read, W: Write>(
     rt: &H,
     alloc: Global,
@@ -183,16 +190,14 @@ fn step<H: Wait + Threads + Sync, S: Service, R: Read, W: Write>(
             omits_body,
             refusal,
         ))),
-        Pending::Message(framed) => answer_message(
-            rt, alloc, inbox, reader, writer, service, framed,
-        ),
+        Pending::Head(framed) => answer_message(rt, alloc, inbox, reader, writer, service, framed),
     }
 }
 
 /// Answers message after message until the session ends. Does not flush the writer.
 ///
 /// Errors: each error ends the session; see `SessionEnd`. Cost: that of the service, and one pass over the bytes; a head that arrives in
-/// several pieces is parsed again for each piece.
+/// several pieces is parsed again for each piece. Holds at most one message and the bytes of one more read, at most 16,384.
 pub fn session<H: Wait + Threads + Sync, S: Service, R: Read, W: Write>(
     rt: &H,
     alloc: Global,

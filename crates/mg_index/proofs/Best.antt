@@ -24,7 +24,7 @@ not_both_ways Less h = absurd (false≢true h)
 not_both_ways Equal h = refl
 not_both_ways Greater h = refl
 
--- the lesser of the first and the lesser of the others is that of the lesser of the first two and the last
+-- `lesser` is associative: of three, the first two or the last two may be compared first
 pub lesser_first : {X : Type 0} {R : X → X → Ordering} (o : IsTotalOrder R) (x y : X) (z : Option X) → lesser R x (Some (lesser R y z)) ≡ lesser R (lesser R x (Some y)) z
 lesser_first o x y None = refl
 lesser_first {X} {R} o x y (Some z) = by_tests (is_gt (R x y)) (is_gt (R y z)) (is_gt (R x z)) refl refl refl
@@ -45,7 +45,7 @@ preference_total atoms hint =
     (then_total (on_total (λ (d : IndexDefinition). length d.columns) nat_cmp_total)
     (then_total (on_total (λ (d : IndexDefinition). d.name) nat_list_cmp_total) (on_total (λ (d : IndexDefinition). d.ddoc) nat_list_cmp_total))))
 
--- the least of the usable ones from a place on, where the one there is usable
+-- if the index at a place is usable, the least usable one from there on is the lesser of it and the least after it
 from_place : (atoms : List Atom) (hint : Hint) (sort : List Steps) (ds : List IndexDefinition) (i : ℕ) (d : IndexDefinition) → i < length ds → d ≡ get_or ds i d → is_usable atoms sort d.columns ≡ true
     → least (preference atoms hint) (usable_of atoms sort (drop i ds)) ≡ Some (lesser (preference atoms hint) d (least (preference atoms hint) (usable_of atoms sort (drop (i + 1) ds))))
 from_place atoms hint sort ds i d lt is h =
@@ -53,7 +53,7 @@ from_place atoms hint sort ds i d lt is h =
     ∙ ap (λ x. least (preference atoms hint) (usable_of atoms sort (x ∷ drop (i + 1) ds))) (sym is)
     ∙ ap (λ b. least (preference atoms hint) (cond b (d ∷ usable_of atoms sort (drop (i + 1) ds)) (usable_of atoms sort (drop (i + 1) ds)))) h
 
--- one more usable index
+-- the invariant of the search holds after a usable index
 pub goes_on : (atoms : List Atom) (hint : Hint) (sort : List Steps) (ds : List IndexDefinition) (i : ℕ) (d : IndexDefinition) (best : Option Candidate) (r : Candidate) (all : Option IndexDefinition)
     → i < length ds → d ≡ get_or ds i d → is_usable atoms sort d.columns ≡ true
     → Some r.definition.now ≡ least_with atoms hint best (Some d)
@@ -68,7 +68,7 @@ goes_on atoms hint sort ds i d (Some b) r all lt is h e so_far =
     so_far ∙ ap (λ o. Some (lesser (preference atoms hint) b.definition.now o)) (from_place atoms hint sort ds i d lt is h)
     ∙ ap (λ x. Some x) (lesser_first (preference_total atoms hint) b.definition.now d rest) ∙ ap (λ x. Some (lesser (preference atoms hint) x rest)) equal
 
--- one that is not usable
+-- the invariant holds after an index that is not usable
 pub goes_past : (atoms : List Atom) (hint : Hint) (sort : List Steps) (ds : List IndexDefinition) (i : ℕ) (d : IndexDefinition) (best : Option Candidate) (all : Option IndexDefinition)
     → i < length ds → d ≡ get_or ds i d → is_usable atoms sort d.columns ≡ false
     → all ≡ least_with atoms hint best (least (preference atoms hint) (usable_of atoms sort (drop i ds)))
@@ -78,14 +78,14 @@ goes_past atoms hint sort ds i d best all lt is h so_far =
     ∙ ap (λ xs. least_with atoms hint best (least (preference atoms hint) xs))
     (at_drop_more (usable_of atoms sort) ds i d lt ∙ ap (λ x. usable_of atoms sort (x ∷ drop (i + 1) ds)) (sym is) ∙ ap (λ b. cond b (d ∷ usable_of atoms sort (drop (i + 1) ds)) (usable_of atoms sort (drop (i + 1) ds))) h)
 
--- after all, the best is the least
+-- at the end, the best so far is the least of all
 pub ends : (atoms : List Atom) (hint : Hint) (sort : List Steps) (ds : List IndexDefinition) (i : ℕ) (best : Option Candidate) (all : Option IndexDefinition)
     → length ds ≤ i
     → all ≡ least_with atoms hint best (least (preference atoms hint) (usable_of atoms sort (drop i ds)))
     → all ≡ least_with atoms hint best None
 ends atoms hint sort ds i best all le so_far = so_far ∙ at_drop_all (λ xs. least_with atoms hint best (least (preference atoms hint) (usable_of atoms sort xs))) ds i le
 
--- what stands at a place
+-- the item at a place
 pub read_at : {X : Type 0} (xs : List X) (i : ℕ) (x : X) → i < length xs → x ≡ get_or xs i x → slice_get xs i ≡ Some x
 read_at [] i x lt is = absurd (omega arith)
 read_at (y ∷ ys) zero x lt is = ap (λ z. Some z) (sym is)
@@ -107,7 +107,7 @@ by_columns = then_cmp (on (λ d. length d.columns) nat_cmp) by_name
 abbrev by_bounds : List Atom → IndexDefinition → IndexDefinition → Ordering
 by_bounds atoms = then_cmp (flip_args (on (λ d. bounded_count atoms d.columns) nat_cmp)) by_columns
 
--- only definitions of one design document and name tie
+-- only definitions of the same design document and name tie
 pub decides : (atoms : List Atom) (hint : Hint) (a b : IndexDefinition) → preference atoms hint a b ≡ Equal → (a.ddoc ≡ b.ddoc) × (a.name ≡ b.name)
 decides atoms hint a b h =
     let p = then_ties (bool_cmp (is_hinted hint b) (is_hinted hint a)) (by_bounds atoms a b) h in

@@ -1,4 +1,4 @@
--- A bound that fixes the value of a column is found where there is one.
+-- A search finds an element exactly if some element passes the test.
 use Rattle.std.proofs.Common.{◌≡◌, Bool, true, false, cond, ◌||◌, List, [], ◌∷◌, Option, Some, is_some, refl}
 use Rattle.std.specs.List.{find, list_any}
 
@@ -6,7 +6,6 @@ find_at : {X : Type 0} (x : X) (more : Bool) (o : Option X) → more ≡ is_some
 find_at x more o e true = refl
 find_at x more o e false = e
 
--- some element passes a test exactly if a search finds one
 pub some_found : {X : Type 0} (p : X → Bool) (xs : List X) → list_any p xs ≡ is_some (find p xs)
 some_found p [] = refl
 some_found p (x ∷ xs) = find_at x (list_any p xs) (find p xs) (some_found p xs) (p x)

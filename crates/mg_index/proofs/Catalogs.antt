@@ -1,4 +1,4 @@
--- Lists of definitions in the order of a catalog: where one goes, and that the order stays.
+-- Lists of definitions in the order of a catalog: where a definition goes, and that adding and removing keep the order.
 use Rattle.std.proofs.Common.{◌≡◌, ℕ, zero, suc, ◌<◌, ◌≤◌, Bool, true, false, cond, ◌&&◌, List, [], ◌∷◌, length, get_or, set, Option, Some, None, is_some, unwrap_or, Ordering, Less, Equal, Greater, refl, sym, ap, ap₂, ◌∙◌, arith}
 use Rattle.std.proofs.lemmas.Bool.Decides.{nat_tests}
 use Rattle.std.proofs.lemmas.Bool.{and_parts, false≢true}
@@ -31,7 +31,7 @@ bytes_eq-is : (s t : List ℕ) → bytes_eq s t ≡ is_eq (slice_cmp nat_cmp s t
 bytes_eq-is s t =
     sym (same_from_slice_cmp nat_cmp is_eq bytes_eq refl (λ _ _. refl) (λ _ _. refl) (λ x y xs ys o h. grind (arith, nat_tests)) s t (slice_cmp nat_cmp s t) refl)
 
--- a definition has the design document and name of another exactly where the two tie
+-- a definition has the design document and name of another exactly if the two tie in the order
 is_named-is : (d e : IndexDefinition) → is_named d.ddoc d.name e ≡ is_eq (definition_order d e)
 is_named-is d e = ap₂ ◌&&◌ (bytes_eq-is d.ddoc e.ddoc) (bytes_eq-is d.name e.name) ∙ sym (is_eq-then (slice_cmp nat_cmp d.ddoc e.ddoc) (slice_cmp nat_cmp d.name e.name))
 
@@ -55,7 +55,7 @@ none_below d (x ∷ xs) h = ap (λ b. cond b (Some x) (definition_at d.ddoc d.na
 abbrev with_at : IndexDefinition → IndexDefinition → List IndexDefinition → Ordering → List IndexDefinition
 with_at d e es o = match_ordering o (d ∷ e ∷ es) (d ∷ es) (e ∷ with_definition d es)
 
--- all before the place are below, and the one there, if any, is above
+-- d is inserted at a place if all definitions before it are below d, and the one there, if any, is above d
 pub goes_before : (d : IndexDefinition) (ds : List IndexDefinition) (i : ℕ) → IsCatalog ds → i ≤ length ds
     → ((x : IndexDefinition) (k : ℕ) → k < i → definition_order d (get_or ds k x) ≡ Greater)
     → (i < length ds → definition_order d (get_or ds i d) ≡ Less)
@@ -72,7 +72,7 @@ goes_before d (e ∷ es) (suc i) c le above here =
       ap (λ b. cond b (Some e) (definition_at d.ddoc d.name es)) (is_named-is d e ∙ ap is_eq g) ∙ more.1,
     )
 
--- all before the place are below, and the one there ties
+-- d replaces the definition at a place if all before it are below d, and the one there ties with d
 pub goes_at : (d : IndexDefinition) (ds : List IndexDefinition) (i : ℕ) → i < length ds
     → ((x : IndexDefinition) (k : ℕ) → k < i → definition_order d (get_or ds k x) ≡ Greater)
     → definition_order d (get_or ds i d) ≡ Equal
@@ -87,9 +87,9 @@ goes_at d (e ∷ es) (suc i) lt above here =
       λ x. ap (λ b. cond b (Some e) (definition_at d.ddoc d.name es)) (is_named-is d e ∙ ap is_eq g) ∙ more.1 x,
     )
 
--- ---- a definition is looked for
+-- ---- looking a definition up
 
--- the one at the place is the first
+-- the first definition of this design document and name is found, and is the one that is removed
 pub stands_at : (ddoc name : List ℕ) (ds : List IndexDefinition) (i : ℕ) (d : IndexDefinition) → i < length ds
     → ((x : IndexDefinition) (k : ℕ) → k < i → is_named ddoc name (get_or ds k x) ≡ false)
     → is_named ddoc name (get_or ds i d) ≡ true
@@ -104,7 +104,7 @@ stands_at ddoc name (e ∷ es) (suc i) d lt before here =
       ap (λ b. cond b es (e ∷ without_definition ddoc name es)) no ∙ ap (λ xs. e ∷ xs) more.1,
     )
 
--- none is the one
+-- if no definition has this design document and name, none is found, and removing changes nothing
 pub stands_nowhere : (ddoc name : List ℕ) (ds : List IndexDefinition) (n : ℕ) → n ≡ length ds
     → ((x : IndexDefinition) (k : ℕ) → k < n → is_named ddoc name (get_or ds k x) ≡ false)
     → (is_some (definition_at ddoc name ds) ≡ false) × (without_definition ddoc name ds ≡ ds)
@@ -116,7 +116,7 @@ stands_nowhere ddoc name (d ∷ ds) n e before =
       ap (λ b. cond b ds (d ∷ without_definition ddoc name ds)) no ∙ ap (λ xs. d ∷ xs) more.1,
     )
 
--- ---- the order stays
+-- ---- adding and removing keep the order
 
 all_at : (P : IndexDefinition → Type 0) (d e : IndexDefinition) (es : List IndexDefinition) → P d → AllByRecursion P (e ∷ es) → AllByRecursion P (with_definition d es)
     → (o : Ordering) → AllByRecursion P (with_at d e es o)
@@ -133,7 +133,7 @@ in_order_at d e es h w Less eq = ((eq, below_all d e es eq h.0), h)
 in_order_at d e es h w Equal eq = (alike_all d e es eq h.0, h.1)
 in_order_at d e es h w Greater eq = (all_with (λ x. definition_order e x ≡ Less) d es (total.antisymm e d ∙ ap ordering_reverse eq) h.0, w)
 
--- with one definition more
+-- adding a definition keeps the order
 pub IsCatalog-with : (d : IndexDefinition) (ds : List IndexDefinition) → IsCatalog ds → IsCatalog (with_definition d ds)
 IsCatalog-with d [] h = (tt, tt)
 IsCatalog-with d (e ∷ es) h = in_order_at d e es h (IsCatalog-with d es h.1) (definition_order d e) refl
@@ -150,7 +150,7 @@ in_order_without : (d : IndexDefinition) (ds more : List IndexDefinition) → Is
 in_order_without d ds more h w true = h
 in_order_without d ds more h w false = w
 
--- with one definition less
+-- removing a definition keeps the order
 pub IsCatalog-without : (ddoc name : List ℕ) (ds : List IndexDefinition) → IsCatalog ds → IsCatalog (without_definition ddoc name ds)
 IsCatalog-without ddoc name [] h = tt
 IsCatalog-without ddoc name (d ∷ ds) h =
@@ -191,9 +191,9 @@ same_definition a b h =
     let columns = (paths_eq-Decides a.columns b.columns).0 r.1 in
     same_fields a b ddoc name texts columns direction
 
--- a definition passes the test with itself
-pub finds_same : (a : IndexDefinition) → is_same_definition a a ≡ true
-finds_same a =
+-- a definition passes the test against itself
+pub same_as_itself : (a : IndexDefinition) → is_same_definition a a ≡ true
+same_as_itself a =
     ap₂ ◌&&◌ (ap₂ ◌&&◌ ((bytes_eq-Decides a.ddoc a.ddoc).1 refl) ((bytes_eq-Decides a.name a.name).1 refl))
     (ap₂ ◌&&◌ (is_same-itself a.direction) (ap₂ ◌&&◌ ((path_eq-Decides a.texts a.texts).1 refl) ((paths_eq-Decides a.columns a.columns).1 refl)))
 
@@ -205,9 +205,9 @@ found_same d found o h same = h ∙ ap (λ x. Some x) (sym (same_definition d fo
 pub found_other : (d found : IndexDefinition) (o : Option IndexDefinition) → o ≡ Some found → is_same_definition d found ≡ false → o ≡ Some d → ⊥
 found_other d found o h other e =
     let equal : found ≡ d = cc (h, e) in
-    false≢true (sym other ∙ ap (is_same_definition d) equal ∙ finds_same d)
+    false≢true (sym other ∙ ap (is_same_definition d) equal ∙ same_as_itself d)
 
--- ---- a definition that stands there, in its own place
+-- ---- adding a definition that is already there changes nothing
 
 some_same : (d e : IndexDefinition) → Some e ≡ Some d → d ≡ e
 some_same d e h = sym (ap (λ o. unwrap_or o e) h)

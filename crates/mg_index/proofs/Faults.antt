@@ -4,22 +4,23 @@ use Rattle.std.specs.List.{list_all}
 use Rattle.std.specs.Option.{option_map_or}
 use Rattle.std.specs.Result.{result_err}
 use Rattle.mg_value.specs.Value.{Value}
+use Rattle.std.specs.Prelude.{ok_or}
+use Rattle.mg_value.specs.Results.{◌>>=◌}
 use Rattle.mg_path.specs.Part.{steps_of}
 use Rattle.mg_collate.specs.declared.direction.Direction.{Direction}
 use Rattle.mg_index.specs.Definition.{Steps}
 use Rattle.mg_index.specs.Fault.{is_column, is_directed, fault_of_directions}
-use Rattle.mg_selector.specs.Fault.{◌>>=◌, or_fault}
 use Rattle.mg_index.specs.Reading.{each_of, field_path, field_direction, is_same, one_direction, Columns, columns_of, ReadsAs}
 use Rattle.mg_index.specs.declared.error.IndexError.{IndexError}
 use Rattle.mg_index.specs.declared.error.IndexError.TheVariants.{Shape, Mixed, NoMemory}
 
--- two things are both there
+-- a pair of options gives something exactly if both are `Some`
 both : {A B C : Type 0} (f : A → B → C) (o : Option A) (q : Option B) → is_some (option_and_then (λ y. option_map (f y) q) o) ≡ (is_some o && is_some q)
 both f None q = refl
 both f (Some y) None = refl
 both f (Some y) (Some z) = refl
 
--- something is given of all where it is given of each
+-- f gives something for all items exactly if it does for each
 all_of : {A B : Type 0} (f : A → Option B) (xs : List A) → is_some (each_of f xs) ≡ list_all (λ x. is_some (f x)) xs
 all_of f [] = refl
 all_of f (x ∷ xs) = both (λ y ys. y ∷ ys) (f x) (each_of f xs) ∙ ap (λ b. is_some (f x) && b) (all_of f xs)
@@ -48,7 +49,7 @@ all_and : (p q : Value → Bool) (vs : List Value) → (list_all p vs && list_al
 all_and p q [] = refl
 all_and p q (v ∷ vs) = swapped (p v) (list_all p vs) (q v) (list_all q vs) ∙ ap (λ b. (p v && q v) && b) (all_and p q vs)
 
--- all fields give a path and a direction where each does
+-- the fields give paths and directions exactly if each is a column
 columns_all : (vs : List Value) → (is_some (option_and_then (each_of steps_of) (each_of field_path vs)) && is_some (each_of field_direction vs)) ≡ list_all is_column vs
 columns_all vs =
     ap (λ b. b && is_some (each_of field_direction vs)) (paths_of vs)
@@ -64,23 +65,23 @@ direction_fault texts steps (Ok d) = refl
 direction_fault texts steps (Err e) = refl
 
 steps_fault : (texts : List (List ℕ)) (s : Option (List Steps)) (d : Option (List Direction))
-    → result_err (or_fault Shape s >>= (λ steps. or_fault Shape d >>= (λ directions. one_direction directions >>= (λ direction. columns_with texts steps direction))))
-    ≡ cond (is_some s && is_some d) (result_err (or_fault Shape d >>= one_direction)) (Some Shape)
+    → result_err (ok_or s Shape >>= (λ steps. ok_or d Shape >>= (λ directions. one_direction directions >>= (λ direction. columns_with texts steps direction))))
+    ≡ cond (is_some s && is_some d) (result_err (ok_or d Shape >>= one_direction)) (Some Shape)
 steps_fault texts None d = refl
 steps_fault texts (Some steps) None = refl
 steps_fault texts (Some steps) (Some ds) = direction_fault texts steps (one_direction ds)
 
 texts_fault : (a : Option (List (List ℕ))) (d : Option (List Direction))
-    → result_err (or_fault Shape a >>= (λ texts. or_fault Shape (each_of steps_of texts) >>= (λ steps. or_fault Shape d >>= (λ directions. one_direction directions >>= (λ direction. columns_with texts steps direction)))))
-    ≡ cond (is_some (option_and_then (each_of steps_of) a) && is_some d) (result_err (or_fault Shape d >>= one_direction)) (Some Shape)
+    → result_err (ok_or a Shape >>= (λ texts. ok_or (each_of steps_of texts) Shape >>= (λ steps. ok_or d Shape >>= (λ directions. one_direction directions >>= (λ direction. columns_with texts steps direction)))))
+    ≡ cond (is_some (option_and_then (each_of steps_of) a) && is_some d) (result_err (ok_or d Shape >>= one_direction)) (Some Shape)
 texts_fault None d = refl
 texts_fault (Some texts) d = steps_fault texts (each_of steps_of texts) d
 
--- the fault of columns: a wrong shape where some field gives no path or no direction, and else that of the directions
+-- the fault of columns: `Shape` if some field gives no path or no direction; otherwise the fault of the directions
 pub columns_fault : (vs : List Value) → result_err (columns_of vs) ≡ cond (list_all is_column vs) (fault_of_directions vs) (Some Shape)
-columns_fault vs = texts_fault (each_of field_path vs) (each_of field_direction vs) ∙ ap (λ b. cond b (result_err (or_fault Shape (each_of field_direction vs) >>= one_direction)) (Some Shape)) (columns_all vs)
+columns_fault vs = texts_fault (each_of field_path vs) (each_of field_direction vs) ∙ ap (λ b. cond b (result_err (ok_or (each_of field_direction vs) Shape >>= one_direction)) (Some Shape)) (columns_all vs)
 
--- fields that all give a column all give a direction
+-- if each field is a column, each gives a direction
 pub directions_there : (vs : List Value) → list_all is_column vs ≡ true → is_some (each_of field_direction vs) ≡ true
 directions_there vs all = second (is_some (option_and_then (each_of steps_of) (each_of field_path vs))) (is_some (each_of field_direction vs)) (columns_all vs ∙ all)
   where
@@ -94,7 +95,7 @@ one_same d None os = refl
 one_same d (Some y) None = not_both (is_same d y)
 one_same d (Some y) (Some ys) = refl
 
--- the directions are all this one where each field gives it
+-- all directions are this one exactly if each field gives it
 all_same : (d : Direction) (vs : List Value) → option_map_or (list_all (is_same d)) (each_of field_direction vs) false ≡ list_all (is_directed d) vs
 all_same d [] = refl
 all_same d (v ∷ vs) = one_same d (field_direction v) (each_of field_direction vs) ∙ ap (λ b. is_directed d v && b) (all_same d vs)
@@ -104,12 +105,12 @@ mixed_fault d true = refl
 mixed_fault d false = refl
 
 first_fault : (o : Option Direction) (os : Option (List Direction)) → is_some (option_and_then (λ y. option_map (λ ys. y ∷ ys) os) o) ≡ true
-    → result_err (or_fault Shape (option_and_then (λ y. option_map (λ ys. y ∷ ys) os) o) >>= one_direction) ≡ option_map_or (λ d. cond (option_map_or (list_all (is_same d)) os false) None (Some Mixed)) o (Some Shape)
+    → result_err (ok_or (option_and_then (λ y. option_map (λ ys. y ∷ ys) os) o) Shape >>= one_direction) ≡ option_map_or (λ d. cond (option_map_or (list_all (is_same d)) os false) None (Some Mixed)) o (Some Shape)
 first_fault None os there = refl
 first_fault (Some y) None there = absurd cc
 first_fault (Some y) (Some ys) there = mixed_fault y (list_all (is_same y) ys)
 
--- the fault of directions that are all there: the others differ from the first
+-- if each field gives a direction, the fault is `Mixed` exactly if one of the others differs from the first
 pub directions_fault : (v : Value) (vs : List Value) (d : Direction) → is_some (each_of field_direction (v ∷ vs)) ≡ true → field_direction v ≡ Some d
     → fault_of_directions (v ∷ vs) ≡ cond (list_all (is_directed d) vs) None (Some Mixed)
 directions_fault v vs d there is =
@@ -117,7 +118,7 @@ directions_fault v vs d there is =
     ∙ ap (λ o. option_map_or (λ d. cond (option_map_or (list_all (is_same d)) (each_of field_direction vs) false) None (Some Mixed)) o (Some Shape)) is
     ∙ ap (λ b. cond b None (Some Mixed)) (all_same d vs)
 
--- a fault of what was read, or a refusal, is what a reading may return
+-- a reading may return the fault of its value, or `NoMemory` if the value has none
 pub fault_or_no_memory : {A B : Type 0} (seen : A → B) (r : Result B IndexError) → ReadsAs seen (Err (unwrap_or (result_err r) NoMemory)) r
 fault_or_no_memory seen (Ok x) = tt
 fault_or_no_memory seen (Err Shape) = refl

@@ -1,5 +1,6 @@
--- Bounds on a column: what the atoms of a selector ask of it by the collation order, after the operators of CouchDB's `_find`.
--- That an operator in the negated sense bounds as its opposite, and that no other operator bounds, is this project's own rule.
+-- Bounds on a column: how the atoms of a selector require its values to compare with other values, after the operators of CouchDB's
+-- `_find`. Two rules are this project's own: an operator in the negated sense gives the bound of its opposite, and `$ne` and the
+-- operators that do not compare give no bound.
 use Rattle.std.specs.Prelude.{ℕ, suc, List, [], ◌∷◌, Bool, true, false, Option, Some, None, option_and_then, if◌then◌else◌}
 use Rattle.std.specs.List.{list_all, list_any, filter_map}
 use Rattle.std.specs.Ordering.{is_lt, is_le, is_eq, is_ge, is_gt}
@@ -15,7 +16,7 @@ use Rattle.mg_index.specs.Definition.{Steps}
 use Rattle.mg_index.specs.declared.bound.Comparison.{Comparison}
 use Rattle.mg_index.specs.declared.bound.Comparison.TheVariants.{Below, AtMost, Exactly, AtLeast, Above}
 
--- the values of a column have this comparison with this value
+-- a bound on the values of a column: how they compare with a value
 pub record Bound : Type 0 where
   pub comparison : Comparison
   pub value : Value
@@ -36,7 +37,7 @@ allows Above o = is_gt o
 abbrev pub meets : Value → Bound → Bool
 meets v b = allows b.comparison (value_order v b.value)
 
--- the bound that an operator gives in the plain sense
+-- the bound that an operator gives in the plain sense; `None` for `$ne` and for an operator that does not compare
 abbrev pub plain_bound : Operator → Option Bound
 plain_bound (less v) = Some (bound_by Below v)
 plain_bound (at_most v) = Some (bound_by AtMost v)
@@ -45,7 +46,7 @@ plain_bound (at_least v) = Some (bound_by AtLeast v)
 plain_bound (greater v) = Some (bound_by Above v)
 plain_bound o = None
 
--- the opposite of an operator that compares: on a part that is there, it holds exactly if the operator does not
+-- the opposite of an operator that compares: of a part that is there, it holds if and only if the operator does not
 abbrev pub opposite_of : Operator → Option Operator
 opposite_of (less v) = Some (at_least v)
 opposite_of (at_most v) = Some (greater v)
@@ -55,12 +56,12 @@ opposite_of (at_least v) = Some (less v)
 opposite_of (greater v) = Some (at_most v)
 opposite_of o = None
 
--- the bound that an operator gives in a sense
+-- the bound that an operator gives in a sense: in the negated sense, the bound of its opposite
 abbrev pub bound_in : Sense → Operator → Option Bound
 bound_in Plain o = plain_bound o
 bound_in Negated o = option_and_then plain_bound (opposite_of o)
 
--- the bound that the atom gives on the column, if it is on the part at that path
+-- the bound that the atom gives on the column: the bound of its operator, if the atom is on the part at the column's path
 abbrev pub bound_on : Steps → Atom → Option Bound
 bound_on column a = if path_eq a.steps column then bound_in a.sense a.operator else None
 

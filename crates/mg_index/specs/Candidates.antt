@@ -6,10 +6,10 @@ use Rattle.mg_index.specs.Choice.{Hint, is_hinted, lesser, preference}
 use Rattle.mg_index.specs.Definition.{IndexDefinition}
 use Rattle.mg_index.specs.declared.choice.Candidate.{Candidate}
 
--- the place, if there is one, is that of the best definition
-abbrev pub Names : List IndexDefinition → Option IndexDefinition → Option ℕ → Type 0
-Names ds best None = best ≡ None
-Names ds best (Some place) = (d : IndexDefinition) × (slice_get ds place ≡ Some d) × (best ≡ Some d)
+-- the place is that of the best definition; there is no place if there is no best definition
+abbrev pub IsBestPlace : List IndexDefinition → Option IndexDefinition → Option ℕ → Type 0
+IsBestPlace ds best None = best ≡ None
+IsBestPlace ds best (Some place) = (d : IndexDefinition) × (slice_get ds place ≡ Some d) × (best ≡ Some d)
 
 -- the candidate is right about its definition: whether the hint names it, and how many of its columns are bounded
 pub record IsRanked (atoms : List Atom) (hint : Hint) (c : Candidate) : Type 0 where
@@ -26,7 +26,7 @@ abbrev pub DescribesBest : List Atom → Hint → List IndexDefinition → Optio
 DescribesBest atoms hint ds None = Unit {0}
 DescribesBest atoms hint ds (Some c) = Describes atoms hint ds c
 
--- the lesser of two: the best candidate so far, and the least of other definitions; either may be absent
+-- the lesser of the best candidate so far and the least of other definitions; if one is absent, the other
 abbrev pub least_with : List Atom → Hint → Option Candidate → Option IndexDefinition → Option IndexDefinition
 least_with atoms hint None others = others
 least_with atoms hint (Some c) others = Some (lesser (preference atoms hint) c.definition.now others)

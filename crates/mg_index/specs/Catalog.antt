@@ -1,4 +1,5 @@
--- The indexes of a database, as a map from design document and name: a list in the order of these, each pair once.
+-- The indexes of a database, as a map from design document and name: a list sorted by design document, then name, in which no two
+-- definitions have equal design documents and names.
 use Rattle.std.specs.Prelude.{◌≡◌, ⊤, ℕ, List, [], ◌∷◌, Bool, ◌&&◌, Option, if◌then◌else◌}
 use Rattle.std.specs.List.{find, AllByRecursion}
 use Rattle.std.specs.Cmp.Lexicographic.{slice_cmp}
@@ -25,12 +26,12 @@ abbrev pub with_definition : IndexDefinition → List IndexDefinition → List I
 with_definition d [] = d ∷ []
 with_definition d (e ∷ es) = match_ordering (definition_order d e) (d ∷ e ∷ es) (d ∷ es) (e ∷ with_definition d es)
 
--- the definitions but the one of that design document and name
+-- the definitions without the one of that design document and name
 abbrev pub without_definition : List ℕ → List ℕ → List IndexDefinition → List IndexDefinition
 without_definition ddoc name [] = []
 without_definition ddoc name (d ∷ ds) = if is_named ddoc name d then ds else d ∷ without_definition ddoc name ds
 
--- the definitions are in the order of design document, then name, each pair once: each is below all after it
+-- the definitions are sorted by design document, then name, and no two tie: each is below all definitions after it
 abbrev pub IsCatalog : List IndexDefinition → Type 0
 IsCatalog [] = ⊤
 IsCatalog (d ∷ ds) = AllByRecursion (λ e. definition_order d e ≡ Less) ds × IsCatalog ds

@@ -13,7 +13,7 @@ use Rattle.mg_normal.specs.Atoms.{Atom}
 use Rattle.mg_index.specs.Definition.{Steps, IndexDefinition}
 use Rattle.mg_index.specs.Bound.{bounded_count}
 
--- what a query says of the indexes: nothing, a design document, or a design document and a name
+-- which indexes a query prefers: no index, those of a design document, or the one with this design document and this name
 pub data Hint : Type 0 where
   no_hint : Hint
   in_document : List ℕ → Hint
@@ -31,12 +31,12 @@ rev_path = codes "_rev" ∷ []
 abbrev pub needs_part : Atom → Bool
 needs_part a = not (operator_holds a.operator a.sense None)
 
--- the atom is on the column, and fails if that is missing
+-- the atom is on the part at the column's path, and fails if the part is missing
 abbrev pub requires_column : Steps → Atom → Bool
 requires_column column a = path_eq a.steps column && needs_part a
 
--- each document that a query with these atoms and this sort finds has the column: each document has it (`_id`, `_rev`), or the
--- sort names it, or some atom on it fails if it is missing
+-- each document that a query with these atoms and this sort finds must have the column, because the column is `_id` or `_rev`, a path of
+-- the sort, or the path of an atom that fails if its part is missing
 abbrev pub is_covered : List Atom → List Steps → Steps → Bool
 is_covered atoms sort column =
     path_eq column id_path || (path_eq column rev_path || (list_any (path_eq column) sort || list_any (requires_column column) atoms))
@@ -51,7 +51,7 @@ all_docs_usable [] = true
 all_docs_usable (path ∷ []) = path_eq path id_path
 all_docs_usable sort = false
 
--- the hint names the index
+-- the hint names the index, or its design document alone
 abbrev pub is_hinted : Hint → IndexDefinition → Bool
 is_hinted no_hint d = false
 is_hinted (in_document ddoc) d = bytes_eq ddoc d.ddoc
@@ -65,12 +65,12 @@ preference atoms hint =
     (then_cmp (on (λ d. length d.columns) nat_cmp)
     (then_cmp (on (λ d. d.name) (slice_cmp nat_cmp)) (on (λ d. d.ddoc) (slice_cmp nat_cmp)))))
 
--- the lesser of x and y, if there is a y
+-- the lesser of x and y; x if they tie, or if there is no y
 abbrev pub lesser : {X : Type 0} → (X → X → Ordering) → X → Option X → X
 lesser order x None = x
 lesser order x (Some y) = if is_gt (order x y) then y else x
 
--- the least of a list in an order, if there is any
+-- the least of a list in an order; `None` for an empty list
 abbrev pub least : {X : Type 0} → (X → X → Ordering) → List X → Option X
 least order [] = None
 least order (x ∷ xs) = Some (lesser order x (least order xs))
@@ -84,7 +84,7 @@ pub data Source : Type 0 where
 abbrev pub all_docs_for : List Steps → Option Source
 all_docs_for sort = if all_docs_usable sort then Some all_docs else None
 
--- a defined index, or else that of all documents
+-- the defined index, if there is one; otherwise the index of all documents, if it is usable
 abbrev pub or_all_docs : List Steps → Option IndexDefinition → Option Source
 or_all_docs sort None = all_docs_for sort
 or_all_docs sort (Some d) = Some (defined d)
@@ -93,6 +93,6 @@ or_all_docs sort (Some d) = Some (defined d)
 abbrev pub usable_of : List Atom → List Steps → List IndexDefinition → List IndexDefinition
 usable_of atoms sort ds = filter (λ d. is_usable atoms sort d.columns) ds
 
--- what serves the query, if anything
+-- what serves the query; `None` if nothing serves it
 abbrev pub choice_of : List IndexDefinition → List Atom → List Steps → Hint → Option Source
 choice_of ds atoms sort hint = or_all_docs sort (least (preference atoms hint) (usable_of atoms sort ds))

@@ -1,5 +1,5 @@
 -- Index definitions, after `_index` of the CouchDB 3.x API reference: JSON indexes, all of whose columns have one direction.
--- A missing name is an MD5 digest (RFC 1321) in lower-case hexadecimal.
+-- An absent name is an MD5 digest (RFC 1321) in lower-case hexadecimal.
 use Rattle.std.specs.Prelude.{ℕ, List, [], ◌∷◌, ◌++◌, codes, map, nat_eq, refl, if◌then◌else◌}
 use Rattle.std.specs.Coded.{Coded, code_by, coded×, coded_ℕ, coded_list}
 use Rattle.std.specs.List.{starts_with}
@@ -47,12 +47,12 @@ abbrev pub fields_digest : Direction → List (List ℕ) → List ℕ
 fields_digest direction paths = encode_lower (md5 (compact (fields_value direction paths)))
 
 -- what the names of design documents begin with
-abbrev pub design_front : List ℕ
-design_front = codes "_design/"
+abbrev pub design_prefix : List ℕ
+design_prefix = codes "_design/"
 
 -- the name of a design document: `_design/` is put before a text that does not begin with it
 abbrev pub design_document : List ℕ → List ℕ
-design_document t = if starts_with nat_eq t design_front then t else design_front ++ t
+design_document t = if starts_with nat_eq t design_prefix then t else design_prefix ++ t
 
 -- an index as it is listed: `{"ddoc":..,"def":{"fields":[..]},"name":..,"type":"json"}`
 abbrev pub listed_of : IndexDefinition → Value

@@ -1,4 +1,5 @@
--- The choice among usable indexes: the least of them in a total order in which no two of a catalog tie.
+-- The laws of the order of preference, in which `Choice` takes the least usable index: it is total, and no two definitions of a
+-- catalog tie.
 use Rattle.std.specs.Prelude.{◌≡◌, List, false, Some}
 use Rattle.std.specs.List.{All, Contains}
 use Rattle.std.specs.Cmp.{IsTotalOrder}
@@ -17,7 +18,7 @@ IsLeast order xs x = Contains xs x × All (λ y. is_gt (order x y) ≡ false) xs
 abbrev pub PreferenceIsTotal : Type 0
 PreferenceIsTotal = (atoms : List Atom) (hint : Hint) → IsTotalOrder (preference atoms hint)
 
--- only definitions of the same design document and name tie in it
+-- only definitions with equal design documents and names tie in the order of preference
 abbrev pub PreferenceDecides : Type 0
 PreferenceDecides = (atoms : List Atom) (hint : Hint) (a b : IndexDefinition) → preference atoms hint a b ≡ Equal → (a.ddoc ≡ b.ddoc) × (a.name ≡ b.name)
 

@@ -6,12 +6,13 @@ use Rattle.mg_index.specs.Definition.{IndexDefinition}
 use Rattle.mg_index.specs.declared.catalog.Slot.{Slot}
 use Rattle.mg_index.specs.declared.catalog.Slot.TheVariants.{At, Before}
 
--- the place of the definition of the same design document and name, or the place before which d is to be inserted
+-- the slot is right for d: it is at the definition of d's design document and name, or, if there is no such definition, before the
+-- definition (or at the end) where d is to be inserted
 abbrev pub IsSlotOf : IndexDefinition → List IndexDefinition → Slot → Type 0
 IsSlotOf d ds (At n) = (n < length ds) × (with_definition d ds ≡ slice_set ds n d) × ((x : IndexDefinition) → definition_at d.ddoc d.name ds ≡ Some (slice_index_or ds n x))
 IsSlotOf d ds (Before n) = (n ≤ length ds) × (with_definition d ds ≡ insert ds n d) × (definition_at d.ddoc d.name ds ≡ None)
 
--- the place, if there is one, is that of the definition of this design document and name
+-- the place is that of the definition of this design document and name; there is no place if there is no such definition
 abbrev pub IsPlaceOf : List ℕ → List ℕ → List IndexDefinition → Option ℕ → Type 0
 IsPlaceOf ddoc name ds None = (is_some (definition_at ddoc name ds) ≡ false) × (without_definition ddoc name ds ≡ ds)
 IsPlaceOf ddoc name ds (Some n) = (n < length ds) × (is_some (definition_at ddoc name ds) ≡ true) × (without_definition ddoc name ds ≡ remove ds n)

@@ -19,7 +19,7 @@ hint_of code.TheVariants.None = no_hint
 hint_of (code.TheVariants.Ddoc ddoc) = in_document (string_bytes ddoc)
 hint_of (code.TheVariants.Both ddoc name) = exactly (string_bytes ddoc) (string_bytes name)
 
--- the choice is what serves the query: a defined index is named by its place in the catalog
+-- the choice is what serves the query, a defined index being given by its place in the catalog; the error says that nothing serves it
 abbrev pub Chooses : List IndexDefinition → Option Source → Result Choice NoUsableIndex → Type 0
 Chooses ds source (Ok AllDocs) = source ≡ Some all_docs
 Chooses ds source (Ok (Index place)) = (d : IndexDefinition) × (slice_get ds place ≡ Some d) × (source ≡ Some (defined d))

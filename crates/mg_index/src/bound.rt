@@ -12,7 +12,7 @@ use mg_selector::Op;
 use mg_value::Json;
 use std::cmp::Ordering;
 
-/// How the values that meet a bound compare with its value, in the collation order.
+/// How the values that meet a bound compare with the bound's value, in the collation order.
 #[derive(Clone, Copy, PartialEq, Eq, Debug, Drop)]
 pub enum Comparison {
     Below,
@@ -37,20 +37,20 @@ impl Comparison {
     }
 }
 
-/// A bound on the values of a column: what an atom of a selector asks of them by the collation order.
+/// A bound on the values of a column: how an atom of a selector requires them to compare with a value.
 #[derive(Clone, Copy, Debug, Drop)]
 pub struct Bound<'a> {
-    /// How the values of the column compare with the bound's value.
+    /// How the values of the column have to compare with the bound's value.
     pub comparison: Comparison,
     /// The value, lent by the atom.
     pub value: &'a Json,
 }
 
 impl<'a> Bound<'a> {
-    /// The bound that the atom gives on the column, if the atom is on the part at that path and its
-    /// operator bounds. `$lt`, `$lte`, `$eq`, `$gte` and `$gt` bound in the plain sense. In the negated
-    /// sense, `$lt`, `$lte`, `$gte` and `$gt` bound as their opposites, and `$ne` as `$eq`. Nothing else
-    /// bounds. Takes no memory.
+    /// Finds the bound that the atom gives on the column; `None` if it gives no bound. The atom gives one if it is
+    /// on the part at the column's path and its operator is one of these: in the plain sense `$lt`, `$lte`, `$eq`,
+    /// `$gte` or `$gt`; in the negated sense `$lt`, `$lte`, `$gte` or `$gt`, which give the bounds of their
+    /// opposites, or `$ne`, which gives the bound of `$eq`. Takes no memory. Cost: a comparison of two paths.
     pub fn on(column: &Path, atom: &'a Atom) -> Option<Bound<'a>>
         ensures { option_map (λ b. bound_by b.comparison (view b.value.now)) result
             ≡ bound_on column.now (atom_view atom.now) }
@@ -70,7 +70,7 @@ pub(crate) fn is_on(atom: &Atom, column: &Path) -> bool
     atom.steps.as_slice() == column.steps()
 }
 
-// The bound that the operator gives in the sense.
+// Finds the bound that the operator gives in the negated or the plain sense; `None` if it gives no bound.
 fn bound_of(op: &Op, negated: bool) -> Option<Bound<'_>>
     ensures { option_map (λ b. bound_by b.comparison (view b.value.now)) result
         ≡ bound_in (sense_of negated) (operator_of op.now) }
@@ -89,8 +89,8 @@ fn bound_of(op: &Op, negated: bool) -> Option<Bound<'_>>
     Some(Bound { comparison, value })
 }
 
-/// How many columns are bounded: the leading ones whose value the atoms fix, and the next one if they
-/// give a bound on it. Takes no memory. Cost: the columns times the atoms.
+/// Counts the bounded columns: the leading ones whose value the atoms fix, and the next one if the atoms give a
+/// bound on it. Takes no memory. Cost: the columns times the atoms.
 pub fn bounded_count(columns: &[Path], atoms: &[Atom]) -> usize
     ensures count { result ≡ bounded_count (atoms_view atoms.now) columns.now }
     ensures within { result ≤ length columns.now }
@@ -103,7 +103,8 @@ pub fn bounded_count(columns: &[Path], atoms: &[Atom]) -> usize
     columns.len()
 }
 
-/// The first value that the atoms ask the column to equal. Takes no memory. Cost: each atom once.
+/// Finds the first value that an atom requires the column to equal; `None` if no atom requires one. Takes no
+/// memory. Cost: at most one comparison of paths for each atom.
 pub fn fixed_value<'a>(column: &Path, atoms: &'a [Atom]) -> Option<&'a Json>
     ensures { option_map (λ v. bound_by Comparison.Exactly (view v.now)) result
         ≡ find is_exact (bounds_on (atoms_view atoms.now) column.now) }

@@ -9,7 +9,7 @@ use std::alloc::Global;
 use std::cmp::Ordering;
 use std::marker::Model;
 
-/// The indexes of a database, sorted by design document, then name, with at most one for each such pair.
+/// The indexes of a database, sorted by design document, then name. No two have equal design documents and names.
 #[derive(Debug, Drop)]
 pub struct Catalog {
     definitions: Vec<IndexDef>,
@@ -20,11 +20,12 @@ pub struct Catalog {
 pub enum Added {
     /// The definition is new, or it replaced another one of its design document and name.
     Created,
-    /// The same definition was already there.
+    /// An equal definition was already there.
     Exists,
 }
 
-// Where a definition goes.
+// Where a definition goes: in the place of one with its design document and name, or before the definition at a
+// place, or at the end if there is no definition at that place.
 #[derive(Clone, Copy, Debug)]
 enum Slot {
     At(usize),
@@ -47,7 +48,7 @@ impl Model for Catalog {
 }
 
 impl Catalog {
-    /// The catalog with no index. Takes no memory.
+    /// Makes a catalog with no index. Takes no memory.
     pub fn new(alloc: Global) -> Catalog
         ensures { result ≡ [] }
     {
@@ -56,7 +57,8 @@ impl Catalog {
         }
     }
 
-    /// The definition of this design document and name, if there is one. Takes no memory.
+    /// Finds the definition of this design document and name; `None` if there is no such definition. Takes no
+    /// memory.
     ///
     /// Cost: linear in the number of definitions. `ddoc` is compared byte for byte, so it needs its
     /// `_design/`.
@@ -66,7 +68,7 @@ impl Catalog {
         definition_at(&self.definitions, ddoc, name)
     }
 
-    /// Whether the catalog has a definition equal to this one; if it has, adding it changes nothing. Takes no
+    /// Whether the catalog has a definition equal to this one; if so, adding this one changes nothing. Takes no
     /// memory. Cost: linear in the number of definitions.
     pub fn has(&self, definition: &IndexDef) -> bool
         ensures there { result ≡ is_there definition.now self.now }
@@ -79,7 +81,7 @@ impl Catalog {
         }
     }
 
-    /// The definitions by design document, then name. Takes no memory.
+    /// Returns the definitions, sorted by design document, then name. Takes no memory.
     pub fn list(&self) -> &[IndexDef]
         ensures all { result.now ≡ self.now }
         ensures in_order { IsCatalog self.now }
@@ -87,10 +89,11 @@ impl Catalog {
         &self.definitions
     }
 
-    /// Adds the definition. Another one of its design document and name is replaced.
+    /// Adds the definition, and replaces another one of its design document and name.
     ///
-    /// Returns `Exists` exactly if the same definition was already there, with the same columns, path texts
-    /// and direction; then nothing has changed.
+    /// Returns `Exists` if an equal definition was already there (see `IndexDef::is_same`); then nothing has
+    /// changed. Otherwise returns `Created`.
+    ///
     /// Errors: `NoMemory` if an allocation fails; then nothing has changed. Cost: linear in the number of
     /// definitions.
     pub fn add(&mut self, definition: IndexDef) -> Result<Added, NoMemory>
@@ -136,7 +139,7 @@ impl Catalog {
         }
     }
 
-    /// A copy of the catalog. Errors: `NoMemory` if an allocation fails. Cost: its size.
+    /// Copies the catalog. Errors: `NoMemory` if an allocation fails. Cost: its size.
     pub fn copy(&self, alloc: Global) -> Result<Catalog, NoMemory>
         ensures { IfOk result (λ c. c ≡ self.now) }
     {
@@ -146,14 +149,14 @@ impl Catalog {
     }
 }
 
-// The definition of this design document and name.
+// Finds the definition of this design document and name; `None` if there is no such definition.
 fn definition_at<'a>(definitions: &'a [IndexDef], ddoc: &str, name: &str) -> Option<&'a IndexDef>
     ensures { option_map (λ d. d.now) result ≡ definition_at ddoc.now name.now definitions.now }
 {
     definitions.iter().find(|d| d.is_named(ddoc, name))
 }
 
-// The place of the definition of this design document and name, if there is one.
+// Finds the place of the definition of this design document and name; `None` if there is no such definition.
 fn place_of(definitions: &[IndexDef], ddoc: &str, name: &str) -> Option<usize>
     ensures { IsPlaceOf ddoc.now name.now definitions.now result }
 {
@@ -165,7 +168,8 @@ fn place_of(definitions: &[IndexDef], ddoc: &str, name: &str) -> Option<usize>
     None
 }
 
-// The place of a definition in a catalog, or the place where it is to be inserted.
+// Finds the place of the definition with this one's design document and name, or the place where this one is to be
+// inserted.
 fn slot_of(definitions: &[IndexDef], definition: &IndexDef) -> Slot
     requires { IsCatalog definitions.now }
     ensures { IsSlotOf definition.now definitions.now result }

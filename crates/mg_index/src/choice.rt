@@ -3,7 +3,7 @@ ghost use Rattle.mg_normal.specs.View.{atoms_view};
 ghost use Rattle.mg_index.specs.Choice.{Hint as HintValue, choice_of, least, preference, usable_of};
 ghost use Rattle.mg_index.specs.View.{Chooses, hint_of};
 ghost use Rattle.mg_normal.specs.Atoms.{Atom as AtomValue};
-ghost use Rattle.mg_index.specs.Candidates.{Names, Describes, DescribesBest, IsRanked, least_with};
+ghost use Rattle.mg_index.specs.Candidates.{IsBestPlace, Describes, DescribesBest, IsRanked, least_with};
 ghost use Rattle.mg_index.specs.Definition.{IndexDefinition};
 
 use crate::bound::bounded_count;
@@ -21,11 +21,12 @@ use std::cmp::Ordering;
 pub enum Choice {
     /// The index of all documents, by id.
     AllDocs,
-    /// The defined index at this place of the catalog's list, from 0.
+    /// The defined index at this place in the catalog's list, from 0.
     Index(usize),
 }
 
-// A usable index, its place, and what decides how it is preferred.
+// A usable index, its place in the catalog, and what decides its preference: whether the hint names it, and how many
+// of its columns are bounded.
 #[derive(Clone, Copy, Debug)]
 pub(crate) struct Candidate<'a> {
     definition: &'a IndexDef,
@@ -36,15 +37,15 @@ pub(crate) struct Candidate<'a> {
 
 /// Chooses the index that serves a query. Takes no memory.
 ///
-/// An index is usable if its first columns are the sort's paths, and if every document that the query finds
-/// has all of its columns. A found document has `_id` and `_rev`, each path of the sort, and each part on
-/// which some atom fails if it is missing. Of the usable indexes, one that the hint names is preferred;
-/// then the one with more bounded columns, then with fewer columns, then with the lesser name, then with
-/// the lesser design document. If no index is usable, the index of all documents serves a query without a
-/// sort, or with a sort by `_id` alone.
+/// An index is usable if its columns begin with the sort's paths, and if each column is one that every
+/// document that the query finds must have: `_id`, `_rev`, a path of the sort, or the path of an atom that
+/// fails if its part is missing. Of the usable indexes, those that the hint names come first (`Hint::names`); then
+/// those with more bounded columns, with fewer columns, with the lesser name, with the lesser design document, in
+/// this order. If no index is usable, the index of all documents serves a query without a sort, or with a sort
+/// by `_id` alone.
 ///
-/// Errors: `NoUsableIndex` if that index cannot serve either.
-/// Cost: for each definition, its columns times the atoms and the paths of the sort. Source: the selection of
+/// Errors: `NoUsableIndex` if no index is usable and the query has any other sort.
+/// Cost: for each definition, its columns times the number of atoms and paths of the sort. Source: the selection of
 /// indexes in CouchDB.
 pub fn choose(
     catalog: &Catalog,
@@ -65,9 +66,9 @@ pub fn choose(
     }
 }
 
-// The place of the usable index that is preferred to all others.
+// Finds the place of the usable index that is preferred to all others; `None` if no index is usable.
 fn best_place(definitions: &[IndexDef], atoms: &[Atom], sort: &[Path], hint: &Hint) -> Option<usize>
-    ensures { Names definitions.now (least (preference (atoms_view atoms.now) (hint_of hint.now))
+    ensures { IsBestPlace definitions.now (least (preference (atoms_view atoms.now) (hint_of hint.now))
         (usable_of (atoms_view atoms.now) sort.now definitions.now)) result }
 {
     let mut best = None;
@@ -89,7 +90,7 @@ fn best_place(definitions: &[IndexDef], atoms: &[Atom], sort: &[Path], hint: &Hi
     }
 }
 
-// The preferred of two candidates: the best so far, if there is one, and the other.
+// Returns the preferred one of two candidates: the best so far and the other; the other if there is no best yet.
 fn better<'a>(best: Option<Candidate<'a>>, other: Candidate<'a>) -> Candidate<'a>
     ensures described { (atoms : List AtomValue) (hint : HintValue) (ds : List IndexDefinition)
         → DescribesBest atoms hint ds best.entry → Describes atoms hint ds other.entry
@@ -108,7 +109,7 @@ fn better<'a>(best: Option<Candidate<'a>>, other: Candidate<'a>) -> Candidate<'a
     }
 }
 
-// The order of preference; the lesser is preferred.
+// Compares two candidates in the order of preference; the lesser one is preferred.
 fn order(a: &Candidate<'_>, b: &Candidate<'_>) -> Ordering
     ensures { (atoms : List AtomValue) (hint : HintValue)
         → IsRanked atoms hint a.now → IsRanked atoms hint b.now

@@ -1,9 +1,8 @@
 // The columns of an index, as `fields` of CouchDB's `_index` gives them.
-ghost use Rattle.std.specs.Prelude.{◌≡◌, Some, map, string_bytes};
+ghost use Rattle.std.specs.Prelude.{◌≡◌, Some, map, string_bytes, ok_or};
 ghost use Rattle.mg_value.specs.View.{view, items_view};
 ghost use Rattle.mg_value.specs.Value.{list};
 ghost use Rattle.mg_path.specs.Part.{steps_of};
-ghost use Rattle.mg_selector.specs.Fault.{or_fault};
 ghost use Rattle.mg_index.specs.Reading.{ReadsAs, each_of, field_path, field_direction, one_direction, columns_of, columns_read};
 ghost use Rattle.mg_index.specs.View.{columns_seen};
 
@@ -22,7 +21,10 @@ pub(crate) struct Columns {
     pub(crate) direction: Direction,
 }
 
-// The columns of the array `fields`, or its first fault; an empty array has the fault `Shape`.
+// Reads the columns of the array `fields`.
+//
+// Errors: `Shape` for an empty array, or for an item that is not a column; then `Mixed` for columns in both
+// directions. `NoMemory` if an allocation fails, even if the array has a fault.
 pub(crate) fn read_columns(alloc: Global, fields: &[Json]) -> Result<Columns, IndexError>
     ensures { ReadsAs columns_seen result (columns_read (Some (list (items_view fields.now)))) }
 {
@@ -45,7 +47,7 @@ fn columns_in(alloc: Global, fields: &[Json]) -> Result<Columns, IndexError>
 
 fn read_texts(alloc: Global, fields: &[Json]) -> Result<Vec<String>, IndexError>
     ensures { ReadsAs (λ v. map string_bytes v.items) result
-        (or_fault IndexError.Shape (each_of field_path (map view fields.now))) }
+        (ok_or (each_of field_path (map view fields.now)) IndexError.Shape) }
 {
     let mut texts = Vec::with_capacity(alloc, fields.len())?;
     for field in fields {
@@ -59,7 +61,7 @@ fn read_texts(alloc: Global, fields: &[Json]) -> Result<Vec<String>, IndexError>
 
 fn read_paths(alloc: Global, texts: &[String]) -> Result<Vec<Path>, IndexError>
     ensures { ReadsAs (λ v. v.items) result
-        (or_fault IndexError.Shape (each_of steps_of (map string_bytes texts.now))) }
+        (ok_or (each_of steps_of (map string_bytes texts.now)) IndexError.Shape) }
 {
     let mut paths = Vec::with_capacity(alloc, texts.len())?;
     for text in texts {
@@ -71,7 +73,7 @@ fn read_paths(alloc: Global, texts: &[String]) -> Result<Vec<Path>, IndexError>
 
 fn read_directions(alloc: Global, fields: &[Json]) -> Result<Vec<Direction>, IndexError>
     ensures { ReadsAs (λ v. v.items) result
-        (or_fault IndexError.Shape (each_of field_direction (map view fields.now))) }
+        (ok_or (each_of field_direction (map view fields.now)) IndexError.Shape) }
 {
     let mut directions = Vec::with_capacity(alloc, fields.len())?;
     for field in fields {
@@ -83,7 +85,7 @@ fn read_directions(alloc: Global, fields: &[Json]) -> Result<Vec<Direction>, Ind
     Ok(directions)
 }
 
-// The direction that all columns have. `Shape` without columns, `Mixed` if the directions differ.
+// Finds the direction that all columns have. Errors: `Shape` without columns, `Mixed` if the directions differ.
 fn one_direction(directions: &[Direction]) -> Result<Direction, IndexError>
     ensures { ReadsAs (λ d. d) result (one_direction directions.now) }
 {

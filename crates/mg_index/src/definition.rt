@@ -24,6 +24,7 @@ use std::marker::Model;
 pub struct IndexDef {
     pub(crate) ddoc: String,
     pub(crate) name: String,
+    // the texts of the columns' paths, as they were given
     pub(crate) texts: Vec<String>,
     pub(crate) columns: Vec<Path>,
     pub(crate) direction: Direction,
@@ -50,16 +51,16 @@ impl IndexDef {
     /// Reads the body of `POST _index`, an object with these members:
     ///
     /// - `index`, an object whose `fields` is an array of one or more columns, each `{path: "asc"}`,
-    ///   `{path: "desc"}`, or the text of a path, which is ascending.
+    ///   `{path: "desc"}`, or the text of a path, which stands for an ascending column.
     /// - `ddoc` and `name`, texts that are not empty; either may be absent. `_design/` is put before a `ddoc`
     ///   that does not begin with it. An absent name is the MD5, in lower-case hexadecimal, of the compact
-    ///   text of `{"fields":[{path: direction},..]}`, and an absent ddoc is `_design/` and that digest.
-    /// - `type`, which is `json`; `partial_filter_selector`, here or in `index`, which is `{}`;
-    ///   `partitioned`, which is false. Each may be absent. Other members are ignored.
+    ///   text of `{"fields":[{path: direction},..]}`, and an absent `ddoc` is `_design/` and that digest.
+    /// - `type`, which has to be `json`; `partial_filter_selector`, in the body or in `index`, which has to be
+    ///   `{}`; `partitioned`, which has to be false. Each may be absent. Other members are ignored.
     ///
-    /// Errors: `Shape` for any other body, or for a path with an empty step; then `Mixed` for columns in both
-    /// directions; `NoMemory` if an allocation fails and the body has no fault. Cost: the size of the body.
-    /// Source: `_index` of CouchDB's API reference.
+    /// Errors: `Shape` for any other body, or for a path with an empty step; `Mixed` for a body of this shape with
+    /// columns in both directions; `NoMemory` if an allocation fails and the body has no fault. Cost: the size of
+    /// the body. Source: `_index` of CouchDB's API reference.
     pub fn read(alloc: Global, body: &Json) -> Result<IndexDef, IndexError>
         ensures reading { ReadsAs (λ d. d) result (definition_of (json_view body.now)) }
         ensures refused { (e : IndexError) → definition_of (json_view body.now) ≡ Err e → result ≡ Err e }
@@ -70,35 +71,35 @@ impl IndexDef {
         }
     }
 
-    /// The name of the design document, which begins with `_design/`. Takes no memory.
+    /// Returns the name of the design document, which begins with `_design/`. Takes no memory.
     pub fn ddoc(&self) -> &str
         ensures { result.now ≡ self.now.ddoc }
     {
         &self.ddoc
     }
 
-    /// The name. Takes no memory.
+    /// Returns the name of the index. Takes no memory.
     pub fn name(&self) -> &str
         ensures { result.now ≡ self.now.name }
     {
         &self.name
     }
 
-    /// The columns, in order. Takes no memory.
+    /// Returns the columns, in order. Takes no memory.
     pub fn columns(&self) -> &[Path]
         ensures { result.now ≡ self.now.columns }
     {
         &self.columns
     }
 
-    /// The direction that was given for the columns. Takes no memory.
+    /// Returns the direction that was given for the columns. Takes no memory.
     pub fn direction(&self) -> Direction
         ensures { result ≡ self.now.direction }
     {
         self.direction
     }
 
-    /// The index as it is listed, with the texts of its paths as they were given:
+    /// Makes the JSON in which the index is listed, with the texts of its paths as they were given:
     /// `{"ddoc":..,"def":{"fields":[{path: direction},..]},"name":..,"type":"json"}`.
     ///
     /// Errors: `NoMemory` if an allocation fails. Cost: the size of the definition.
@@ -114,7 +115,7 @@ impl IndexDef {
         Ok(listed)
     }
 
-    /// A copy of the definition. Errors: `NoMemory` if an allocation fails. Cost: its size.
+    /// Copies the definition. Errors: `NoMemory` if an allocation fails. Cost: its size.
     pub fn copy(&self, alloc: Global) -> Result<IndexDef, NoMemory>
         ensures { IfOk result (λ d. d ≡ self.now) }
     {
@@ -134,7 +135,8 @@ impl IndexDef {
         name == self.name.as_str() && ddoc == self.ddoc.as_str()
     }
 
-    /// The order of definitions in a catalog: by design document, then name. Takes no memory.
+    /// Compares two definitions in the order of a catalog: by design document, then name. Takes no memory. Cost:
+    /// the length of the shorter texts.
     pub fn order(&self, other: &IndexDef) -> Ordering
         ensures { result ≡ definition_order self.now other.now }
     {
@@ -142,8 +144,8 @@ impl IndexDef {
         by_ddoc.then(self.name.as_str().cmp(other.name.as_str()))
     }
 
-    /// Whether the definitions are the same: they have the same design document, name, path texts, columns
-    /// and direction. Takes no memory.
+    /// Whether the definitions are equal: in design document, name, path texts, columns and direction. Takes no
+    /// memory. Cost: the size of the smaller definition.
     pub fn is_same(&self, other: &IndexDef) -> bool
         ensures { result ≡ is_same_definition self.now other.now }
     {
@@ -154,7 +156,7 @@ impl IndexDef {
     }
 }
 
-// After an allocation failed: the fault of the body, or `NoMemory` if it has none.
+// Finds the error to return after an allocation failed: the fault of the body, or `NoMemory` if it has no fault.
 fn fault_or_no_memory(body: &Json) -> IndexError
     ensures { result ≡ unwrap_or (result_err (definition_of (json_view body.now))) IndexError.NoMemory }
 {

@@ -3,7 +3,7 @@ use mg_value::NoMemory;
 use std::alloc::{AllocError, AllocFailed};
 use thiserror::Error;
 
-/// Why a body defines no index.
+/// Why no index definition was read: the body defines no index, or memory ran out.
 #[derive(Clone, Copy, PartialEq, Eq, Debug, Drop, Error)]
 pub enum IndexError {
     /// The body or a member has the wrong shape, or a path has an empty step.
@@ -17,7 +17,7 @@ pub enum IndexError {
     NoMemory,
 }
 
-/// No index serves the query.
+/// No index serves the query, not even the index of all documents.
 #[derive(Clone, Copy, PartialEq, Eq, Debug, Drop, Error)]
 #[error("no index is usable")]
 pub struct NoUsableIndex;

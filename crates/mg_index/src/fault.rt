@@ -1,4 +1,4 @@
-// The fault of a body of an `_index`, found without memory.
+// Finds the fault of a body of `POST _index` without memory.
 ghost use Rattle.std.specs.Prelude.{◌≡◌, None, Some, if◌then◌else◌, is_some, map, option_map, true};
 ghost use Rattle.std.specs.List.{list_all};
 ghost use Rattle.std.specs.Result.{result_err};
@@ -14,7 +14,7 @@ use mg_collate::Direction;
 use mg_path::is_path;
 use mg_value::Json;
 
-// The fault of a body, if it has one.
+// Finds the error that `IndexDef::read` returns for a body if memory suffices; `None` if the body defines an index.
 pub(crate) fn fault_of(body: &Json) -> Option<IndexError>
     ensures { result ≡ result_err (definition_of (view body.now)) }
 {
@@ -27,7 +27,7 @@ pub(crate) fn fault_of(body: &Json) -> Option<IndexError>
     fields_fault(member_of_index(body, "fields"))
 }
 
-// The fault of `fields`.
+// Finds the fault of `fields`; `None` if it is an array of columns in one direction.
 fn fields_fault(fields: Option<&Json>) -> Option<IndexError>
     ensures { result ≡ result_err (columns_read (option_map (λ j. view j.now) fields.entry)) }
 {
@@ -37,7 +37,7 @@ fn fields_fault(fields: Option<&Json>) -> Option<IndexError>
     }
 }
 
-// The fault of the columns.
+// Finds the fault of the items of `fields`: `Shape` comes before `Mixed`.
 fn columns_fault(fields: &[Json]) -> Option<IndexError>
     ensures { result ≡ result_err (columns_read (Some (list (items_view fields.now)))) }
 {
@@ -69,7 +69,7 @@ fn is_column(field: &Json) -> bool
     }
 }
 
-// The fault of the directions of columns that each have one.
+// Finds the fault of the directions, of which each field has one: `Shape` without fields, `Mixed` if they differ.
 fn direction_fault(fields: &[Json]) -> Option<IndexError>
     requires { is_some (each_of field_direction (map view fields.now)) ≡ true }
     ensures { result ≡ fault_of_directions (map view fields.now) }
@@ -83,7 +83,7 @@ fn direction_fault(fields: &[Json]) -> Option<IndexError>
     }
 }
 
-// `Mixed` if one of the others does not have this direction.
+// Returns `Mixed` if one of the others does not have this direction, otherwise `None`.
 fn mixed_fault(direction: Direction, others: &[Json]) -> Option<IndexError>
     ensures { result ≡ (if list_all (is_directed direction) (map view others.now)
         then None else Some IndexError.Mixed) }

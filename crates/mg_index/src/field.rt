@@ -1,5 +1,5 @@
-//! The fields of an index and of a sort: a text, which is a path, or an object of one member, whose name is
-//! the path and whose value is the direction.
+//! A field of an index or of a sort: a text, which is a path, or an object of one member, whose name is the
+//! path and whose value is the direction.
 ghost use Rattle.std.specs.Prelude.{◌≡◌, option_map};
 ghost use Rattle.std.specs.List.{list_all};
 ghost use Rattle.mg_value.specs.View.{view, members_view};
@@ -9,7 +9,8 @@ use mg_collate::Direction;
 use mg_value::Json;
 use std::collections::BTreeMap;
 
-/// Whether all others have this direction. Takes no memory. Cost: their number.
+/// Whether all these directions (`others`) equal `direction`; true if there are none. Takes no memory. Cost: the
+/// number of directions.
 pub fn all_have_direction(direction: Direction, others: &[Direction]) -> bool
     ensures { result ≡ list_all (is_same direction) others.now }
 {
@@ -21,8 +22,8 @@ pub fn all_have_direction(direction: Direction, others: &[Direction]) -> bool
     true
 }
 
-/// The text of a field's path, if it has one. Takes no memory. Source: `fields` and `sort` in CouchDB's API
-/// reference.
+/// Finds the text of a field's path; `None` if the field is neither a text nor an object of one member. Checks
+/// neither the text nor the direction. Takes no memory. Source: `fields` and `sort` in CouchDB's API reference.
 pub fn field_path(field: &Json) -> Option<&str>
     ensures { option_map (λ t. t.now) result ≡ field_path (view field.now) }
 {
@@ -36,8 +37,8 @@ pub fn field_path(field: &Json) -> Option<&str>
     }
 }
 
-/// A field's direction, if it has one: ascending if the field is a text. Takes no memory. Source: as for
-/// `field_path`.
+/// Finds a field's direction: ascending for a text. `None` if the field is neither a text nor an object of one
+/// member whose value is `asc` or `desc`. Takes no memory. Source: as for `field_path`.
 pub fn field_direction(field: &Json) -> Option<Direction>
     ensures { result ≡ field_direction (view field.now) }
 {
@@ -51,7 +52,7 @@ pub fn field_direction(field: &Json) -> Option<Direction>
     }
 }
 
-// The direction that a value names.
+// Finds the direction that a value names; `None` if the value is neither `asc` nor `desc`.
 fn direction_in(value: &Json) -> Option<Direction>
     ensures { result ≡ direction_in (view value.now) }
 {
@@ -61,7 +62,7 @@ fn direction_in(value: &Json) -> Option<Direction>
     }
 }
 
-// The one member of an object.
+// Returns the only member of an object; `None` if the object has no member or several.
 fn only_member(members: &BTreeMap<String, Json>) -> Option<(&str, &Json)>
     ensures { option_map (λ m. (m.0.now, view m.1.now)) result
         ≡ only_member (members_view members.now.entries) }

@@ -1,29 +1,29 @@
-// How an index is listed and named.
+// Lists indexes as JSON, and makes their names.
 ghost use Rattle.std.specs.Prelude.{◌≡◌, IfOk, map, string_bytes};
 ghost use Rattle.mg_value.specs.View.{view};
-ghost use Rattle.mg_index.specs.Definition.{fields_value, fields_digest, field_value, design_document, design_front, listed_all_docs};
+ghost use Rattle.mg_index.specs.Definition.{fields_value, fields_digest, field_value, design_document, design_prefix, listed_all_docs};
 
 use md5::{Digest, Md5};
 use mg_collate::Direction;
 use mg_value::{Json, NoMemory, write};
 use std::alloc::Global;
 
-const DESIGN_FRONT: &str = "_design/";
+const DESIGN_PREFIX: &str = "_design/";
 
-/// The name of a design document: the text, with `_design/` put before it if it does not begin with that.
+/// Makes the name of a design document: puts `_design/` before a text that does not begin with it.
 ///
 /// Errors: `NoMemory` if an allocation fails. Cost: the length of the text.
 pub fn design_document(alloc: Global, text: &str) -> Result<String, NoMemory>
     ensures { IfOk result (λ t. string_bytes t ≡ design_document text.now) }
 {
-    if text.starts_with(DESIGN_FRONT) {
+    if text.starts_with(DESIGN_PREFIX) {
         Ok(String::from_str(alloc, text)?)
     } else {
         Ok(format!(in alloc; "_design/{text}")?)
     }
 }
 
-/// The index of all documents as it is listed:
+/// Makes the JSON in which the index of all documents is listed:
 /// `{"ddoc":null,"def":{"fields":[{"_id":"asc"}]},"name":"_all_docs","type":"special"}`.
 ///
 /// Errors: `NoMemory` if an allocation fails. Cost: constant. Source: `_index` of CouchDB's API reference.
@@ -48,7 +48,8 @@ pub fn all_docs_listed(alloc: Global) -> Result<Json, NoMemory>
     Ok(listed)
 }
 
-// The fields of an index: `{"fields":[{path: direction},..]}`.
+// Makes the JSON of an index's fields: `{"fields":[{path: direction},..]}`. Errors: `NoMemory` if an allocation
+// fails.
 pub(crate) fn fields_json(
     alloc: Global,
     direction: Direction,
@@ -75,7 +76,8 @@ fn field_json(alloc: Global, direction: Direction, text: &str) -> Result<Json, N
     Ok(field)
 }
 
-// The MD5 of the fields' compact text, in lower-case hexadecimal.
+// Computes the MD5 of the compact text of the fields' JSON, in lower-case hexadecimal. Errors: `NoMemory` if an
+// allocation fails.
 pub(crate) fn fields_digest(
     alloc: Global,
     direction: Direction,

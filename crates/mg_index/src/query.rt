@@ -14,8 +14,8 @@ pub struct Sort {
     pub direction: Direction,
 }
 
-/// Which indexes a query prefers: none, those of a design document, or the one of a design document and
-/// name. The name of a design document begins with `_design/`.
+/// Which indexes a query prefers: no index, those of a design document, or the one with this design document
+/// and this name. The name of a design document begins with `_design/`.
 #[derive(Debug, Drop)]
 pub enum Hint {
     None,
@@ -24,7 +24,7 @@ pub enum Hint {
 }
 
 impl Hint {
-    /// Whether the hint names the index. Takes no memory.
+    /// Whether the hint names the index, or the index's design document alone. Takes no memory.
     pub fn names(&self, definition: &IndexDef) -> bool
         ensures { result ≡ is_hinted (hint_of self.now) definition.now }
     {

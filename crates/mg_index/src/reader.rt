@@ -1,8 +1,7 @@
-// How the body of an `_index` is read.
-ghost use Rattle.std.specs.Prelude.{◌≡◌, IfOk, Some, is_err, is_none, option_map};
+// Reads the body of `POST _index`.
+ghost use Rattle.std.specs.Prelude.{◌≡◌, IfOk, Some, is_err, is_none, option_map, ok_or};
 ghost use Rattle.mg_value.specs.Value.{object};
 ghost use Rattle.mg_value.specs.View.{view, members_view};
-ghost use Rattle.mg_selector.specs.Fault.{or_fault};
 ghost use Rattle.mg_index.specs.Reading.{ReadsAs, definition_of, columns_read, is_json_index, is_json_type, is_no_filter, is_not_partitioned, member_of_index, definition_named, text_given};
 ghost use Rattle.mg_index.specs.View.{columns_seen};
 
@@ -14,7 +13,8 @@ use mg_value::{Json, NoMemory};
 use std::alloc::Global;
 use std::collections::BTreeMap;
 
-// The definition that a body gives.
+// Reads the definition that a body gives. Errors: those of `IndexDef::read`, except that a failed allocation gives
+// `NoMemory` even if `fields` has a fault.
 pub(crate) fn read_definition(alloc: Global, body: &Json) -> Result<IndexDef, IndexError>
     ensures { ReadsAs (λ d. d) result (definition_of (view body.now)) }
 {
@@ -27,7 +27,7 @@ pub(crate) fn read_definition(alloc: Global, body: &Json) -> Result<IndexDef, In
     Ok(name_definition(alloc, ddoc, name, columns)?)
 }
 
-// The columns of `fields`.
+// Reads the columns of `fields`. Errors: `Shape` for no array; for an array, those of `read_columns`.
 fn read_fields(alloc: Global, fields: Option<&Json>) -> Result<Columns, IndexError>
     ensures { ReadsAs columns_seen result (columns_read (option_map (λ j. view j.now) fields.entry)) }
 {
@@ -37,10 +37,11 @@ fn read_fields(alloc: Global, fields: Option<&Json>) -> Result<Columns, IndexErr
     }
 }
 
-// The text, if the value is there; `Shape` if it is an empty text or not a text.
+// Returns the text; `None` if there is no value. Errors: `Shape` for an empty text, or for a value that is not a
+// text.
 pub(crate) fn text_given(value: Option<&Json>) -> Result<Option<&str>, IndexError>
     ensures text { ReadsAs (option_map (λ t. t.now)) result
-        (or_fault IndexError.Shape (text_given (option_map (λ j. view j.now) value.entry))) }
+        (ok_or (text_given (option_map (λ j. view j.now) value.entry)) IndexError.Shape) }
     ensures fault { is_err result ≡ is_none (text_given (option_map (λ j. view j.now) value.entry)) }
 {
     match value {
@@ -50,8 +51,8 @@ pub(crate) fn text_given(value: Option<&Json>) -> Result<Option<&str>, IndexErro
     }
 }
 
-// The definition of these columns. An absent name is the digest of the fields, and an absent design document is
-// `_design/` and that digest.
+// Makes the definition of these columns. An absent name is the digest of the fields, and an absent design document
+// is `_design/` and that digest. Errors: `NoMemory` if an allocation fails.
 fn name_definition(
     alloc: Global,
     ddoc: Option<&str>,
@@ -104,12 +105,12 @@ fn is_no_filter(value: Option<&Json>) -> bool
 {
     match value {
         None => true,
-        Some(Json::Object(members)) => has_none(members),
+        Some(Json::Object(members)) => has_no_member(members),
         Some(_) => false,
     }
 }
 
-fn has_none(members: &BTreeMap<String, Json>) -> bool
+fn has_no_member(members: &BTreeMap<String, Json>) -> bool
     ensures { result ≡ is_no_filter (Some (object (members_view members.now.entries))) }
 {
     members.iter().next().is_none()
@@ -125,7 +126,7 @@ fn is_not_partitioned(value: Option<&Json>) -> bool
     }
 }
 
-// The member of `index` that has this name.
+// Finds the member of `index` that has this name; `None` if `index` or the member is missing.
 pub(crate) fn member_of_index<'a>(body: &'a Json, name: &str) -> Option<&'a Json>
     ensures { option_map (λ v. view v.now) result ≡ member_of_index name.now (view body.now) }
 {

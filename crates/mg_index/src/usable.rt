@@ -28,7 +28,7 @@ fn are_covered(atoms: &[Atom], sort: &[Path], columns: &[Path]) -> bool
     true
 }
 
-// Whether each document that the query finds has the column.
+// Whether each document that the query finds must have the column.
 fn is_covered(atoms: &[Atom], sort: &[Path], column: &Path) -> bool
     ensures { result ≡ is_covered (atoms_view atoms.now) sort.now column.now }
 {
@@ -80,7 +80,7 @@ fn needs_part(atom: &Atom) -> bool
     !atom.op.holds_in(sense, None)
 }
 
-// Whether the index of all documents is usable for the sort.
+// Whether the index of all documents is usable for the sort: there is no sort, or it is by `_id` alone.
 pub(crate) fn is_all_docs_usable(sort: &[Path]) -> bool
     ensures { result ≡ all_docs_usable sort.now }
 {
@@ -91,7 +91,7 @@ pub(crate) fn is_all_docs_usable(sort: &[Path]) -> bool
     }
 }
 
-// Whether the path is this one step.
+// Whether the path has one step, and the step is this name.
 fn is_member(path: &Path, name: &str) -> bool
     ensures { result ≡ path_eq path.now (name.now ∷ []) }
 {

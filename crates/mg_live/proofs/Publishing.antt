@@ -23,7 +23,7 @@ use Rattle.mg_live.specs.declared.snapshot.Snapshot.{Snapshot}
 use Rattle.mg_machine.proofs.Beginnings.{itself, two}
 use Rattle.mg_live.proofs.Prefixes.{longer_second}
 
--- what a snapshot of this database shows
+-- a snapshot of this database stands after its own commits
 pub stands_after : {P : Type 0} {place : P → List ℕ → ℕ → ℕ} (book : Book) (name : List ℕ) (opened : ℕ) (s : Snapshot P) → IsSnapshotOf place book name opened s → StandsAfter place name opened s (commits_of s)
 stands_after book name opened s is = record { commits = refl; stands = is.after.engine; shards = is.dealt }
 
@@ -38,7 +38,7 @@ refused_write name cs seat c r is denied =
     let refuses : is_accepted (write_reply name cs c) ≡ false = answered r (write_reply name cs c) false is denied in
     rw is (refl, refuses)
 
--- if a write is accepted, there is room for one more commit
+-- if a write is accepted, there was room for one more commit
 free : (name : List ℕ) (cs : List Commit) (c : Asked) → is_accepted (write_reply name cs c) ≡ true → are_full cs ≡ false
 free name cs c t = elim (two (are_full cs)) [
   | inl full ↦ absurd (let no : is_accepted (refused TooLarge) ≡ true = rw full at t in cc)
@@ -95,13 +95,13 @@ published name write old new (Some a) later h seen tally =
     let yes : is_accepted (write_reply name old.published write.1) ≡ true = rw h.0 at h.1 in
     record { later = later; answer = h.0; published = rw yes h.2; seen = seen; tally = rw h.1 tally }
 
--- what a seat sees of a write
+-- a write as its seat sees it
 pub wrote : (name : List ℕ) (old : SeatView) (cs : List Commit) (c : Asked) (o : Option Answer) (new : Standing) → Publishes name (old.number, c) (record { published = cs; seen = old.seen; tally = old.tally }) o new
     → SeatWrites name old c o (record { number = old.number; seen = new.seen; tally = new.tally })
 wrote name old cs c None new p = ap (λ (s : Standing). record { number = old.number; seen = s.seen; tally = s.tally }) p
 wrote name old cs c (Some a) new p = record { commits = cs; later = p.later; answer = p.answer; seen = p.seen ∙ p.published; tally = p.tally; number = refl }
 
--- a seat that has seen nothing more
+-- a seat that has not changed is later than itself
 pub later_same : (s : SeatView) → IsLater s s
 later_same s = record { number = refl; seen = itself s.seen; tally = refl }
 

@@ -8,6 +8,6 @@ use Rattle.mg_machine.specs.Machine.{Commit}
 abbrev pub commit_code : Coded Commit
 commit_code = coded× coded_ℕ asked_code
 
--- how it stores a list of commits
+-- how the logic stores a list of commits
 abbrev pub commits_code : Coded (List Commit)
 commits_code = coded_list commit_code

@@ -8,7 +8,8 @@ use Rattle.mg_live.specs.View.{commits_seen}
 use Rattle.mg_live.specs.SeatView.{tally_after}
 use Rattle.mg_live.specs.declared.commit_log.Prefix.{Prefix}
 
--- a write after these commits gets this answer and, if it is accepted, leaves the commits `new`; or memory was refused
+-- a write after these commits gets this answer and, if it is accepted, leaves these new commits, otherwise none. Or memory was refused, and
+-- there is neither an answer nor new commits
 abbrev pub WriteLeaves : List ℕ → List Commit → Commit → Option Answer → Option (List Commit) → Type 0
 WriteLeaves name cs write None None = Unit {0}
 WriteLeaves name cs write None (Some new) = ⊥
@@ -25,8 +26,8 @@ pub record Standing : Type 0 where
 abbrev pub standing : List Commit → Prefix → ℕ → Standing
 standing cs prefix tally = record { published = cs; seen = commits_seen prefix.seen.log; tally = tally }
 
--- a write is answered after the published commits, of which its seat had seen a prefix. If it is accepted, it is published as the last
--- commit, and its seat's tally counts it
+-- a write is answered after the published commits, of which its seat had seen a prefix. An accepted write is published as the last commit,
+-- and its seat's tally counts it. The seat has then seen all that is published
 pub record IsWriteAnswered (name : List ℕ) (write : Commit) (old : Standing) (a : Answer) (new : Standing) : Type 0 where
   pub later : IsPrefix old.seen old.published
   pub answer : a ≡ write_reply name old.published write.1
@@ -34,7 +35,7 @@ pub record IsWriteAnswered (name : List ℕ) (write : Commit) (old : Standing) (
   pub seen : new.seen ≡ new.published
   pub tally : new.tally ≡ tally_after old.tally a
 
--- a write is answered; or memory was refused, and nothing has changed
+-- a write is answered; or the reply is `NoMemory`, and nothing has changed
 abbrev pub Publishes : List ℕ → Commit → Standing → Option Answer → Standing → Type 0
 Publishes name write old None new = new ≡ old
 Publishes name write old (Some a) new = IsWriteAnswered name write old a new

@@ -4,7 +4,8 @@ use Rattle.logbook.specs.Pages.{Book, Cell, Named, Step, View}
 use Rattle.mg_engine.specs.declared.command.Command.{Command}
 use Rattle.mg_live.specs.declared.markers.Entry.{Entry}
 
--- the first word is the length of the commit log. A book, the kit's record of a log and its words, has two; the second is not used and stays 0
+-- the first word is the length of the commit log. A book, the kit's record of a log and its words, has two words; the second is not used
+-- and stays 0
 abbrev pub IsKept : List Cell → List Entry → Type 0
 IsKept cells log = cells ≡ (length log, true) ∷ (0, true) ∷ []
 
@@ -12,7 +13,7 @@ IsKept cells log = cells ≡ (length log, true) ∷ (0, true) ∷ []
 abbrev pub log_word_of : Book → Named
 log_word_of b = record { tracked = true; key = 0; book = b }
 
--- the entry was added right after all that had been seen; or the log was already longer, and now all of it has been seen
+-- the entry was added right after the entries that had been seen; or the log was already longer, and now all its entries have been seen
 abbrev pub Adds : Step Entry → View Entry ℕ → ℕ → View Entry ℕ → Type 0
 Adds s v found w = MatchBool (found == s.old) (w.0 ≡ v.0 ++ s.ask ∷ []) (length w.0 ≡ found)
 

@@ -35,14 +35,15 @@ pub record IsLater (old new : SeatView) : Type 0 where
 
 -- ---- reading
 
--- the seat may see more commits, and the reply is the definition's after those that it has then seen; or memory was refused
+-- the seat may have caught up, and the reply is the one that the definitions give after the commits that the seat has then seen. `None`:
+-- the reply is `NoMemory`; the seat may still have caught up
 abbrev pub SeatReads : List ℕ → SeatView → Asked → Option Answer → SeatView → Type 0
 SeatReads name old c None new = IsLater old new
 SeatReads name old c (Some a) new = IsLater old new × (a ≡ reply_of (world_of name new.seen) c)
 
 -- ---- writing
 
--- the tally after an answer
+-- the tally after an answer: one more if the answer accepts its command
 abbrev pub tally_after : ℕ → Answer → ℕ
 tally_after tally a = if is_accepted a then tally + 1 else tally
 
@@ -56,7 +57,7 @@ pub record HasWritten (name : List ℕ) (old : SeatView) (c : Asked) (a : Answer
   pub tally : new.tally ≡ tally_after old.tally a
   pub number : new.number ≡ old.number
 
--- the write is answered; or memory was refused, and the seat is as it was
+-- the write is answered; or the reply is `NoMemory`, and the seat is as it was
 abbrev pub SeatWrites : List ℕ → SeatView → Asked → Option Answer → SeatView → Type 0
 SeatWrites name old c None new = new ≡ old
 SeatWrites name old c (Some a) new = HasWritten name old c a new
@@ -69,7 +70,7 @@ Answered name old c o new = MatchBool (is_write c) (SeatWrites name old c o new)
 
 -- ---- learning
 
--- the seat has learned a list of commits: it has then seen the longer of both lists, and both are prefixes of it
+-- the seat has learned a list of commits: it has then seen the longer of this list and its own, and both are prefixes of what it has seen
 pub record Learned (old : SeatView) (heard : List Commit) (new : SeatView) : Type 0 where
   pub longer : new.seen ≡ longer_of old.seen heard
   pub own : IsPrefix old.seen new.seen
@@ -87,7 +88,7 @@ all_tallies seats = sum_by (λ s. s.tally) seats
 abbrev pub HasSeenMore : List SeatView → ℕ → Type 0
 HasSeenMore seats made = Any (λ s. made < length s.seen) seats
 
--- the commits of all seats: what each seat has seen is a prefix of them, and their number is the sum of the tallies
+-- these are all commits of the seats: what each seat has seen is a prefix of them, and their number `n` is the sum of the tallies
 pub record AreAll (commits : List Commit) (seats : List SeatView) (n : ℕ) : Type 0 where
   pub begin : All (λ s. IsPrefix s.seen commits) seats
   pub number : n ≡ length commits

@@ -1,4 +1,4 @@
--- For public clauses: what a snapshot shows, which is a database as it is after some of its commits.
+-- For public clauses: a snapshot shows a database as some of its commits leave it.
 use Rattle.std.specs.Prelude.{◌≡◌, ℕ, List, length}
 use Rattle.std.specs.Arc.{arc_value}
 use Rattle.logbook.specs.Pages.{Book}
@@ -17,7 +17,7 @@ abbrev pub state_of : {P : Type 0} → Snapshot P → StateView
 state_of s = (arc_value s.point.engine).1
 
 -- a snapshot of the database with this commit log and name, whose documents are placed by `place` and which was opened with `opened`
--- shards: its point is the one after its commits
+-- shards: the snapshot's point comes after its commits
 pub record IsSnapshotOf {P : Type 0} (place : P → List ℕ → ℕ → ℕ) (log : Book) (name : List ℕ) (opened : ℕ) (s : Snapshot P) : Type 0 where
   pub book : s.prefix.seen.book ≡ log
   pub after : IsAfter place name s.point (commits_of s)

@@ -17,13 +17,13 @@ use mg_value::Json;
 use std::sync::Wait;
 use std::thread::Threads;
 
-/// Each call makes a command from copies of its arguments, and is answered as `Seat::answer` answers that command. The reply is also
-/// `NoMemory` if an allocation for a copy fails.
+/// Each call makes a command from copies of its arguments, and returns the reply that `Seat::answer` gives to that command. The reply is
+/// also `NoMemory` if an allocation for a copy fails.
 impl<D: Database, C: EndsWriter, P: Placement + Drop> Seat<D, C, P>
 where
     Snapshot<P>: Absorb<(), State = ()>,
 {
-    /// The page of a query, by at most `workers` workers, 1 to 32.
+    /// Answers a query with its page, by at most `workers` workers, 1 to 32.
     pub fn find<R: Threads + Sync>(&mut self, rt: &R, body: &Json, workers: usize) -> Reply
         requires some { 1 ≤ workers }
         requires most { workers ≤ 32 }
@@ -35,8 +35,9 @@ where
         }
     }
 
-    /// The page of a query, by exactly `workers` workers, 1 to 32, whatever the gate does. It passes the gate at `Snapshot` right after it
-    /// has its snapshot, and then where the engine's query passes it. It holds no lock once it has its snapshot.
+    /// Answers a query with its page, by exactly `workers` workers, 1 to 32. The query passes the gate at `Snapshot`, once it has taken its
+    /// snapshot, and then where `Engine::answer` passes it; the gate does not change the reply. The query takes no lock, and no writer
+    /// waits for it once it has its snapshot.
     pub fn find_with<R: Threads + Sync, G: Gate + Sync>(
         &mut self,
         rt: &R,
@@ -54,7 +55,7 @@ where
         }
     }
 
-    /// Explains a query: which index serves it, and which range of the index it looks at.
+    /// Explains a query: which index serves it, and which range of the index it reads.
     pub fn explain<R: Threads + Sync>(&mut self, rt: &R, body: &Json) -> Reply
         ensures { Answered D.db self.old (explain (view body.now)) (said result) self.new }
     {
@@ -64,14 +65,15 @@ where
         }
     }
 
-    /// The list of the indexes.
+    /// Lists the indexes.
     pub fn list_indexes<R: Threads + Sync>(&mut self, rt: &R) -> Reply
         ensures { Answered D.db self.old list_indexes (said result) self.new }
     {
         self.read(rt, &Command::ListIndexes, Workers::most(1), &NoGate)
     }
 
-    /// The document of an id, with its conflicts if `conflicts` is true.
+    /// Gets the document of an id, with its conflicts if `conflicts` is true. Refused as `Missing` if there is no such document, and as
+    /// `Deleted` if the document is deleted.
     pub fn get<R: Threads + Sync>(&mut self, rt: &R, id: &str, conflicts: bool) -> Reply
         ensures { Answered D.db self.old (get id.now conflicts) (said result) self.new }
     {
@@ -86,8 +88,8 @@ where
         }
     }
 
-    /// Applies a bulk of edits, on the thread of the caller. `workers` is 1 to 32 and has no effect. The body is packed first; one that
-    /// would take more than 4,294,967,295 bytes is answered with `NoMemory`.
+    /// Applies a bulk of edits, on the thread of the caller. `workers` is 1 to 32 and has no effect. The body is packed first; the reply is
+    /// `NoMemory` if the packed body would take more than 4,294,967,295 bytes.
     pub fn bulk<R: Wait + Threads + Sync>(&mut self, rt: &R, body: &Json, workers: usize) -> Reply
         requires some { 1 ≤ workers }
         requires most { workers ≤ 32 }
@@ -117,7 +119,8 @@ where
         }
     }
 
-    /// Drops the index of a design document and a name, on the thread of the caller. `workers` is 1 to 32 and has no effect.
+    /// Drops the index of a design document and a name, on the thread of the caller; refused as `Missing` if there is no such index.
+    /// `workers` is 1 to 32 and has no effect.
     pub fn drop_index<R: Wait + Threads + Sync>(
         &mut self,
         rt: &R,
@@ -142,8 +145,9 @@ where
         }
     }
 
-    /// Deals the documents to the number of shards that the body asks for. This changes no other reply. With one worker no thread is
-    /// started; with 2 to 32, each new shard may be made by a thread of its own, as `mg_shard::redeal` says.
+    /// Deals the documents to the number of shards that the body asks for, 1 to 64; refused as `WrongShape` if the body asks for no such
+    /// number. This changes no other reply. With one worker no thread is started; with 2 to 32, each new shard may be made by a thread of
+    /// its own, as `mg_shard::redeal` says.
     pub fn reshard<R: Wait + Threads + Sync>(
         &mut self,
         rt: &R,

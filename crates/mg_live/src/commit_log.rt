@@ -21,7 +21,7 @@ pub(crate) struct Write {
 }
 
 impl Write {
-    /// The write of a seat. Of the command it keeps only what contracts see.
+    /// Makes the write of a seat. It keeps of the command only what contracts see.
     pub(crate) fn of(seat: usize, command: &Command, workers: Workers) -> Write
         ensures seat { result.seat ≡ seat }
         ensures command { result.command.value ≡ command.now }
@@ -42,7 +42,7 @@ pub struct LogWord {
     word: Word<Entry, u64, LogRule>,
 }
 
-/// A prefix of the commit log that was seen.
+/// A prefix of the commit log that has been seen.
 #[derive(Drop)]
 pub struct Prefix {
     count: u64,
@@ -81,7 +81,7 @@ impl CommitLog {
         }
     }
 
-    // The word of the log, and its empty prefix.
+    // Takes the new log apart into its word and its empty prefix.
     pub(crate) fn parts(self) -> (LogWord, Prefix)
         ensures log_word { result.0.word ≡ log_word_of self }
         ensures prefix { (result.1.seen.book ≡ self) × (result.1.seen.log ≡ []) }
@@ -92,14 +92,14 @@ impl CommitLog {
 }
 
 impl Prefix {
-    /// The number of its commits.
+    /// Returns the number of commits in this prefix.
     pub(crate) fn len(&self) -> u64
         ensures { result ≡ length self.now.seen.log }
     {
         self.count
     }
 
-    /// A copy of this prefix.
+    /// Makes a copy of this prefix. Takes no memory.
     pub(crate) fn again(&self) -> Prefix
         ensures { result ≡ self.now }
     {
@@ -109,7 +109,7 @@ impl Prefix {
         }
     }
 
-    /// Whether this prefix is not longer than the other. The shorter of two prefixes of one log is a prefix of the longer.
+    /// Whether this prefix is at most as long as the other, and therefore a prefix of it: both are prefixes of one log.
     pub(crate) fn begins(&self, other: &Prefix) -> bool
         requires { self.now.seen.book ≡ other.now.seen.book }
         ensures begins { MatchBool result
@@ -125,7 +125,7 @@ impl Prefix {
         self.count <= other.count
     }
 
-    /// The longer of two prefixes of one log. Both are prefixes of it.
+    /// Returns the longer of two prefixes of one log. Both are prefixes of the result.
     #[tactic(auto, using(crate::proofs::Prefixes::begins_itself))]
     pub(crate) fn longer(self, other: &Prefix) -> Prefix
         requires { self.seen.book ≡ other.now.seen.book }
@@ -141,7 +141,8 @@ impl Prefix {
         self
     }
 
-    /// Adds a commit to the log right after this prefix. Returns the prefix with the commit, or `None` if the log is longer.
+    /// Adds a commit to the log right after this prefix, and returns the prefix with the commit. If the log is longer than this prefix,
+    /// returns `None`, and the log is unchanged. Takes no memory.
     pub(crate) fn with(&self, log_word: &LogWord, write: &Write) -> Option<Prefix>
         requires log_word { log_word.now.word ≡ log_word_of self.now.seen.book }
         requires room { length self.now.seen.log ≢ 18446744073709551615 }

@@ -8,8 +8,8 @@ use std::sync::Wait;
 use std::sync::ledger::Ledger;
 
 /// A database as contracts name it: its name, the number of shards that it is opened with, its commit log, and the ledger of its
-/// tallies. The outermost function that is generic over it is called with `Brand`, and the proof of that call picks the database. No
-/// `&str` is a parameter or the result of that function; the functions that it calls may have some.
+/// tallies. The outermost function that is generic over it is called with `Brand`, and the proof of that call picks the database. That
+/// function must have no `&str` as a parameter or result; the functions that it calls may have one.
 pub trait Database: Ledger {
     ghost use Rattle.logbook.specs.Pages.{Book};
     ghost use Rattle.std.specs.Prelude.{ℕ, List};
@@ -34,7 +34,7 @@ impl Database for Brand {
     ghost shards = { 0 };
 }
 
-/// What ends the writer of a database that is dropped.
+/// Ends the writer of a database, once the `Live` and all seats are dropped or the database is closed.
 pub trait EndsWriter: Drop {
     /// Ends the writer. May wait for readers.
     fn end<D: Database, P: Placement + Drop>(&self, writer: SnapshotWriter<D, P>)

@@ -1,4 +1,5 @@
-//! The desk, which the writer's lock guards: the writer, which publishes all commits, and the book of the tallies that count them.
+//! The desk, which the writer's lock guards: the writer, which publishes all commits; the book of the tallies, which count them; and what
+//! ends the writer.
 ghost use Rattle.std.specs.Prelude.{◌≡◌, ◌≤◌, true, [], length, MatchBool};
 ghost use Rattle.mg_engine.specs.Commands.{is_write};
 ghost use Rattle.mg_engine.specs.View.{asked, said};
@@ -70,7 +71,7 @@ impl<D: Database, C: EndsWriter, P: Placement + Drop> Desk<D, C, P>
 where
     Snapshot<P>: Absorb<(), State = ()>,
 {
-    // A desk with no commit.
+    // Makes a desk with no commit.
     pub(crate) fn new(ends: C, writer: SnapshotWriter<D, P>, tally_book: Book<D>) -> Desk<D, C, P>
         requires empty { (commits_of writer.desk.shown.value ≡ []) × (tally_book.total ≡ 0) }
         requires here { IsSnapshotOf P.place D.commit_log D.db D.shards writer.desk.shown.value }
@@ -83,10 +84,13 @@ where
         }
     }
 
-    // Executes a write of a seat, after all published commits, and returns its reply. If it is accepted, it is published in one step,
-    // and the seat's tally counts it. Unless memory was refused, the seat has then seen what is published. All memory is taken before the
-    // commit is in the commit log, and nothing after that can fail. The snapshot that is replaced comes back with the reply, so that the
-    // caller can drop it without the lock. A seat that has seen more commits than are published gets `NoMemory`.
+    // Executes a write of a seat, after all published commits, and returns its reply. If the write is accepted, it is published in one
+    // step, and the seat's tally counts it. Unless the reply is `NoMemory`, the seat has then seen what is published. All memory is taken
+    // before the commit is in the commit log, and nothing after that can fail. `publish` may wait for readers; the copy that it replaces
+    // comes back with the reply, so that the caller can drop it without the lock.
+    //
+    // The reply is `NoMemory`, and nothing has changed, if an allocation fails, if there are too many references to the engine, if the
+    // seat has seen more commits than are published, or if the commit log is longer than what is published.
     pub(crate) fn write<R: Wait + Threads + Sync>(
         &mut self,
         rt: &R,
@@ -124,7 +128,8 @@ where
         (reply, Some(before))
     }
 
-    // Lets a seat catch up with what is published. Returns false, and changes nothing, if the seat has seen more commits than that.
+    // Lets a seat catch up with all published commits, and returns true. If the seat has seen more commits than are published, returns
+    // false and changes nothing.
     pub(crate) fn catch_up(&self, prefix: &mut Prefix) -> bool
         requires { prefix.old.seen.book ≡ D.commit_log }
         ensures here { prefix.new.seen.book ≡ D.commit_log }
@@ -140,8 +145,8 @@ where
         true
     }
 
-    // The number of published commits, which all parts of the ledger count together. The prefix `seen` is not longer, so the published
-    // commits begin with it.
+    // Returns the number of published commits, which all parts of the ledger count together. The prefix `seen` is at most as long, so the
+    // published commits begin with it.
     pub(crate) fn count_commits(&mut self, all: &mut Share<D>, seen: &Prefix) -> u64
         requires parts { all.old.parts ≡ D.parts }
         requires here { seen.now.seen.book ≡ D.commit_log }

@@ -75,7 +75,7 @@ pub enum CloseError {
 }
 
 // What an empty database begins with: what its seats share, what makes their readers, the empty prefix, and all parts of the ledger.
-struct Start<D: Database, C: EndsWriter, P: Placement + Drop>
+struct Opening<D: Database, C: EndsWriter, P: Placement + Drop>
 where
     Snapshot<P>: Absorb<(), State = ()>,
 {
@@ -86,7 +86,7 @@ where
 }
 
 impl Closed {
-    /// The number of commits. Takes no memory.
+    /// Returns the number of the database's commits. Takes no memory.
     pub fn commits(&self) -> u64
         ensures { result ≡ self.now }
     {
@@ -94,7 +94,7 @@ impl Closed {
     }
 }
 
-// Makes the `Start` of an empty database with this name.
+// Makes the `Opening` of an empty database with this name, for this number of seats.
 fn begin<D: Database, C: EndsWriter, P: Placement + Drop>(
     ends: C,
     alloc: Global,
@@ -104,7 +104,7 @@ fn begin<D: Database, C: EndsWriter, P: Placement + Drop>(
     placement: P,
     shards: usize,
     seats: usize,
-) -> Result<Start<D, C, P>, NoMemory>
+) -> Result<Opening<D, C, P>, NoMemory>
 where
     Snapshot<P>: Absorb<(), State = ()>,
     requires name { db.now ≡ D.db }
@@ -127,13 +127,13 @@ where
     let factory = writer.factory().another();
     let desk = Desk::new(ends, writer, tally_book);
     let shared = SharedDesk {
-        named: OwnLogWord {
+        own_log_word: OwnLogWord {
             log_word,
             of: PhantomData,
         },
         desk: Mutex::new(desk),
     };
-    Ok(Start {
+    Ok(Opening {
         shared,
         factory: factory?,
         prefix,
@@ -141,7 +141,7 @@ where
     })
 }
 
-// How many commits the seats have made together. Each tally is a u64, so the sum does not overflow.
+// Adds up how many commits the seats have made. The sum of fewer than 2^64 tallies, each of which is a `u64`, fits into a `u128`.
 fn all_made<D: Database, C: EndsWriter, P: Placement + Drop>(seats: &[Seat<D, C, P>]) -> u128
 where
     Snapshot<P>: Absorb<(), State = ()>,
@@ -171,7 +171,8 @@ where
     false
 }
 
-// The longest prefix of the commit log that a seat has seen. The prefixes that the others have seen are prefixes of it.
+// Returns the longest prefix of the commit log that a seat has seen; `empty` if there is no seat. What every other seat has seen is a
+// prefix of the result.
 fn longest<D: Database, C: EndsWriter, P: Placement + Drop>(
     empty: &Prefix,
     seats: &[Seat<D, C, P>],
@@ -192,7 +193,7 @@ where
     longest
 }
 
-// Joins the seats' parts of the ledger.
+// Joins the seats' parts of the ledger, and drops the rest of the seats.
 fn join_all<D: Database, C: EndsWriter, P: Placement + Drop>(
     last_share: Share<D>,
     seats: Vec<Seat<D, C, P>>,
@@ -240,7 +241,7 @@ where
         ensures live { IfOk result (λ t. t.0 ≡ seats) }
         ensures seats { IfOk result (λ t. t.1.items ≡ new_seats seats) }
     {
-        let Start {
+        let Opening {
             shared,
             factory,
             prefix,

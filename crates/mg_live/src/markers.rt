@@ -16,7 +16,7 @@ pub struct Entry {
     pub command: Command,
 }
 
-/// The rule of the commit log.
+/// The rule of the commit log: its first word is the number of its entries.
 pub struct LogRule;
 
 impl Rule<Entry, u64> for LogRule {
@@ -46,7 +46,7 @@ impl Gain<Entry, u64> for NoGain {
     ghost after = { λ names about answer. ftrue };
 }
 
-/// A step that adds an entry.
+/// A step that adds an entry, unless the log is longer than what had been seen of it.
 pub(crate) struct AddEntry;
 
 impl Play<Entry, u64> for AddEntry {
@@ -66,7 +66,7 @@ impl Plain<Write, Entry, u64> for AddEntry {
 
 // ---- what is published
 
-/// The rule: what is published is a snapshot of this database, whose documents are placed by `P`.
+/// The rule of what is published: it is a snapshot of the database `D`, whose documents `P` places.
 pub struct SnapshotRule<D, P> {
     of: PhantomData<D>,
     by: PhantomData<P>,

@@ -13,9 +13,9 @@ use mg_shard::Placement;
 use std::alloc::AllocError;
 use std::sync::Wait;
 
-// `left_right` asks how an operation changes a copy. Its writer never gets an operation here: a new snapshot replaces the old copy.
-// Every snapshot meets the bound `Absorb`; types that hold a writer repeat it, since the prover does not look for the impl of a generic
-// type there.
+// `left_right` asks how an operation changes a copy. Its writer never gets an operation here: a new snapshot replaces a whole copy.
+// Every `Snapshot<P>` implements `Absorb`; a type that holds a writer repeats the bound, since the prover does not look for the impl
+// of a generic type there.
 impl<P> Absorb<()> for Snapshot<P> {
     type State = ();
 
@@ -34,8 +34,9 @@ pub(crate) type SnapshotReader<D, P> = Reader<Snapshot<P>, (), SnapshotRule<D, P
 /// Replaces the published snapshot.
 pub type SnapshotWriter<D, P> = Writer<Snapshot<P>, (), (), SnapshotRule<D, P>>;
 
-/// Publishes a snapshot in one step, which takes no memory and cannot fail. It waits for the readers that still look at the copy that
-/// the snapshot replaces, and returns this copy: dropping it may cost as much as what it alone holds.
+/// Publishes a snapshot in one step. There are two copies: the published one, and the spare, which was published before that one. Waits
+/// for the readers that still look at the spare, replaces it by the snapshot, and publishes the snapshot; the copy that was published
+/// until then becomes the spare. Returns the replaced copy; dropping it frees what it alone holds. Takes no memory, and cannot fail.
 pub(crate) fn publish<D: Database, P: Placement + Drop, R: Wait>(
     rt: &R,
     writer: &mut SnapshotWriter<D, P>,
@@ -69,7 +70,9 @@ where
     (writer, before)
 }
 
-/// A copy of the snapshot that is published now. It waits for nobody.
+/// Returns the reader, and a copy of the snapshot that is published now. Takes no memory, and waits for nobody.
+///
+/// Errors: `AllocError` if there are too many references to the engine, or if the writer has ended. It does not end while a seat exists.
 pub(crate) fn copy_published<D: Database, P: Placement + Drop>(
     reader: SnapshotReader<D, P>,
 ) -> (SnapshotReader<D, P>, Result<Snapshot<P>, AllocError>)

@@ -28,11 +28,11 @@ pub(crate) struct SharedDesk<D: Database, C: EndsWriter, P: Placement + Drop>
 where
     Snapshot<P>: Absorb<(), State = ()>,
 {
-    pub(crate) named: OwnLogWord<D>,
+    pub(crate) own_log_word: OwnLogWord<D>,
     pub(crate) desk: Mutex<Desk<D, C, P>>,
 }
 
-/// The word that counts the entries of this database's commit log.
+/// The word that counts the entries of the commit log of the database `D`.
 #[derive(Drop)]
 pub(crate) struct OwnLogWord<D: Database> {
     pub(crate) log_word: LogWord,
@@ -100,10 +100,11 @@ impl<D: Database, C: EndsWriter, P: Placement + Drop> Seat<D, C, P>
 where
     Snapshot<P>: Absorb<(), State = ()>,
 {
-    /// Catches up with what is published, and returns the database after the commits that the seat has then seen. It waits for nobody.
+    /// Catches up with what is published, and returns the database after the commits that the seat has then seen. It waits for nobody, and
+    /// takes no memory.
     ///
-    /// Errors: `NoMemory` if there are too many references to the engine, if `left_right` gives no reading, or if the seat has seen more
-    /// commits than are published. Cost: constant.
+    /// Errors: `NoMemory` if there are too many references to the engine, or if the seat has seen more commits than are published; then the
+    /// seat has seen what it had seen before. Cost: constant. Dropping the snapshot frees what it alone holds.
     pub fn snapshot(&mut self) -> Result<Snapshot<P>, NoMemory>
         ensures later { IsLater self.old self.new }
         ensures snapshot { IfOk result (λ s. StandsAfter P.place D.db D.shards s self.new.seen) }
@@ -121,12 +122,14 @@ where
         Ok(snapshot)
     }
 
-    /// The reply to a command, with 1 to 32 workers, which count as in `Engine::step`. A read is answered over one snapshot, and waits for
-    /// nobody. A write is answered after all commits; if it is accepted, it is one more commit. It may wait for the writer's lock, and for
-    /// seats that take a snapshot.
+    /// Executes a command and returns its reply. There are 1 to 32 workers, which count as in `Engine::step`. A read is answered over one
+    /// snapshot, and waits for nobody. A write is answered after all commits; if it is accepted, it is one more commit. A write may wait
+    /// for the writer's lock, and for seats that take a snapshot.
     ///
-    /// The reply is `NoMemory` if an allocation fails, or if the seat has seen more commits than are published; a write is then not a
-    /// commit, and leaves the seat as it was. Cost: that of the engine's reply. The documents of a bulk are read from its body in place.
+    /// The reply is `NoMemory` if an allocation fails, if there are too many references to the engine or to a part of it, or if the seat
+    /// has seen more commits than are published; a write is then not a commit, and leaves the seat as it was. A write after
+    /// 18,446,744,073,709,551,615 commits is refused as `TooLarge`. Cost: that of the engine's reply. The documents of a bulk are read from
+    /// the body in place.
     pub fn answer<R: Wait + Threads + Sync>(
         &mut self,
         rt: &R,
@@ -144,8 +147,8 @@ where
         }
     }
 
-    // The reply to a read, over one snapshot, by these workers. The gate is passed at `Snapshot`, and then where the engine's reply
-    // passes it.
+    // Returns the reply to a read, over one snapshot, by these workers; `NoMemory` as `answer` says. The gate is passed at `Snapshot`, once
+    // the snapshot is taken, and then where `Engine::answer_by` passes it.
     pub(crate) fn read<R: Threads + Sync, G: Gate + Sync>(
         &mut self,
         rt: &R,
@@ -166,8 +169,8 @@ where
         }
     }
 
-    // The reply to a write, after all commits. So that the lock is held briefly, the documents of a bulk are read before it is taken, and
-    // the snapshot that the write replaces is dropped after it is released.
+    // Executes a write, after all commits, and returns its reply; `NoMemory` as `answer` says. To hold the lock briefly, the documents of a
+    // bulk are read before the lock is taken, and the copy that `publish` replaces is dropped after the lock is released.
     pub(crate) fn write<R: Wait + Threads + Sync>(
         &mut self,
         rt: &R,
@@ -194,7 +197,7 @@ where
             desk.write(
                 rt,
                 *alloc,
-                &shared.named.log_word,
+                &shared.own_log_word.log_word,
                 &write,
                 prepared,
                 tally,
@@ -205,11 +208,10 @@ where
         reply
     }
 
-    /// Catches up with all commits, under the writer's lock, and returns what another seat can `learn`: the commits that are published
-    /// then.
+    /// Catches up with all commits, under the writer's lock, and returns what another seat can `learn`: all commits that are published at
+    /// that time. It may wait for the lock. Takes no memory. Cost: constant.
     ///
-    /// Errors: `NoMemory` if the seat has seen more commits than are published; then the seat is as it was. Takes no memory.
-    /// Cost: constant; it may wait for the lock.
+    /// Errors: `NoMemory` if the seat has seen more commits than are published; then the seat is as it was.
     pub fn share<R: Wait>(&mut self, rt: &R) -> Result<Seen<D>, NoMemory>
         ensures later { IsLater self.old self.new }
         ensures seen { IfOk result (λ s. s ≡ self.new.seen) }
@@ -226,7 +228,7 @@ where
         })
     }
 
-    /// Learns what another seat has seen: this seat has then seen the longer of both prefixes. Takes no memory. Cost: constant.
+    /// Learns what another seat has seen: this seat has then seen the longer of the two prefixes. Takes no memory. Cost: constant.
     pub fn learn(&mut self, seen: &Seen<D>)
         ensures { Learned self.old seen.now self.new }
     {

@@ -27,14 +27,14 @@ pub struct Snapshot<P = Md5Placement> {
 }
 
 impl<P: Placement + Drop> Snapshot<P> {
-    /// The catalog of its indexes. Takes no memory.
+    /// Returns the catalog of the database's indexes. Takes no memory.
     pub fn catalog(&self) -> &Catalog
         ensures { result.now ≡ (state_of self.now).catalog }
     {
         self.point.engine.catalog()
     }
 
-    /// Its shards, each of which has the rows of exactly the indexes of the catalog. Takes no memory.
+    /// Returns the database's shards. Each has the rows of the indexes of the catalog, and of no other index. Takes no memory.
     pub fn shards(&self) -> &[Arc<Shard>]
         ensures shards { shards_seen result.now ≡ (state_of self.now).shards }
         ensures number { length result.now ≡ length (state_of self.now).shards }
@@ -43,7 +43,9 @@ impl<P: Placement + Drop> Snapshot<P> {
         self.point.engine.shards()
     }
 
-    // A copy of this snapshot, which shares the engine.
+    // Makes a copy of this snapshot, which shares the engine. Takes no memory.
+    //
+    // Errors: `AllocError` if there are too many references to the engine.
     pub(crate) fn again(&self) -> Result<Snapshot<P>, AllocError>
         ensures prefix { IfOk result (λ s. s.prefix ≡ self.now.prefix) }
         ensures engine { IfOk result (λ s. arc_value s.point.engine ≡ arc_value self.now.point.engine) }
@@ -57,7 +59,10 @@ impl<P: Placement + Drop> Snapshot<P> {
         })
     }
 
-    // The reply to a write, and the snapshot after it if the write is accepted: its commit is then in the commit log.
+    // Executes a write after the commits of this snapshot, and returns its reply and, if the write is accepted, the snapshot after it; the
+    // commit is then in the commit log. The reply is `NoMemory`, and the commit log is unchanged, if an allocation fails, if there are too
+    // many references to the engine or to a part of it, or if the commit log is longer than the prefix of this snapshot. Cost: that of the
+    // engine's `commit_prepared`.
     pub(crate) fn next<D: Database, R: Threads + Sync>(
         &self,
         rt: &R,
@@ -91,7 +96,7 @@ impl<P: Placement + Drop> Snapshot<P> {
     }
 }
 
-// Whether a reply accepts its command.
+// Whether a reply says that its command was accepted: its status is 200 or 201.
 fn accepts(reply: &Reply) -> bool
     ensures { result ≡ accepts reply.now }
 {

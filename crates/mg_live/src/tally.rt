@@ -23,7 +23,7 @@ impl<L: Ledger> Model for Tally<L> {
 }
 
 impl<L: Ledger> Tally<L> {
-    // A tally of no commits. It takes one of the parts that are left.
+    // Makes a tally of no commits, with one of the parts in `rest`.
     pub(crate) fn new(rest: &mut Share<L>) -> Tally<L>
         requires part { 0 < rest.old.parts }
         requires backed { rest.old.parts ≡ 1 → rest.old.amount ≡ 0 }
@@ -34,14 +34,14 @@ impl<L: Ledger> Tally<L> {
         Tally { count: 0, share }
     }
 
-    // How many commits it counts.
+    // Returns how many commits this tally counts.
     pub(crate) fn count(&self) -> u64
         ensures { result ≡ self.now }
     {
         self.count
     }
 
-    // Counts one more commit, here and in the book.
+    // Counts one more commit, here and in the book of all tallies.
     pub(crate) fn add(&mut self, tally_book: &mut Book<L>)
         requires room { tally_book.old.total < 18446744073709551615 }
         ensures tally { self.new ≡ self.old + 1 }

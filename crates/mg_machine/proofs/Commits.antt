@@ -18,7 +18,7 @@ pub replies-one : (w : World) (cs : List Asked) (c : Asked) → replies_of w (cs
 replies-one w [] c = refl
 replies-one w (d ∷ cs) c = ap (λ rs. reply_of w d ∷ rs) (replies-one (next w d) cs c)
 
--- the world after one more commit
+-- the world after one more commit is the next one
 pub world_of-one : (name : List ℕ) (cs : List Commit) (p : Commit) → world_of name (cs ++ p ∷ []) ≡ next (world_of name cs) p.1
 world_of-one name cs p = ap (world_after _) (map-append (λ c. c.1) cs (p ∷ [])) ∙ world_after-one _ (commands_of cs) p.1
 
@@ -29,7 +29,7 @@ abbrev pub Adds : List ℕ → Machine → Machine → Option (Commit × Answer)
 Adds name m n None = n.commits ≡ m.commits
 Adds name m n (Some p) = (n.commits ≡ m.commits ++ p.0 ∷ []) × (p.1 ≡ reply_of (world_of name m.commits) p.0.1)
 
--- where a write is accepted, there is room, so its reply is the engine's
+-- an accepted write had room in the log, so its reply is the engine's
 reply_is : (name : List ℕ) (cs : List Commit) (c : Asked) → is_accepted (write_reply name cs c) ≡ true → write_reply name cs c ≡ reply_of (world_of name cs) c
 reply_is name cs c t = elim (two (are_full cs)) [
   | inl full ↦ absurd (let no : is_accepted (refused TooLarge) ≡ true = rw full at t in cc)

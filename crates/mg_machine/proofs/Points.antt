@@ -22,7 +22,7 @@ use Rattle.mg_machine.proofs.Commits.{world_of-one}
 
 -- ---- one read
 
--- an answer that is given, and is a if it is given, is a
+-- an optional answer that is there, and that is `a` if it is there, is `Some a`
 pub said_is : (o : Option Answer) (a : Answer) → is_some o ≡ true → IfSome o (λ x. x ≡ a) → o ≡ Some a
 said_is None a some is = absurd cc
 said_is (Some x) a some is = ap Some is
@@ -34,13 +34,13 @@ abbrev pub Written : {P : Type 0} → (P → List ℕ → ℕ → ℕ) → List 
 Written place name cs seat c o p = (o ≡ Some (write_reply name cs c)) × IsAfter place name p (after_write name cs seat c)
 
 module _ {P : Type 0} {place : P → List ℕ → ℕ → ℕ} where
-  -- with room for one more, the reply is the engine's
+  -- if there is room for one more commit, the reply is the engine's
   replied : (name : List ℕ) (p : Point P) (cs : List Commit) (c : Asked) → p.commits < 18446744073709551615 → IsAfter place name p cs → write_reply name cs c ≡ reply_of (world_of name cs) c
   replied name p cs c room at =
       let free : are_full cs ≡ false = grind (arith, nat_tests, room, at.commits) in
       rw free refl
 
-  -- an answer that accepts
+  -- the point after a write whose answer accepts it
   accepted : (name : List ℕ) (p q : Point P) (cs : List Commit) (seat : ℕ) (c : Asked) (o : Option Answer) → p.commits < 18446744073709551615 → IsAfter place name p cs → is_some o ≡ true
       → Answers (world_of name cs) c o (Stands place (arc_value q.engine)) → true ≡ option_map_or is_accepted o false → q.commits ≡ p.commits + 1 → Written place name cs seat c o q
   accepted name p q cs seat c None room at whole did accepts count = absurd cc
@@ -63,7 +63,7 @@ module _ {P : Type 0} {place : P → List ℕ → ℕ → ℕ} where
       let accepts : true ≡ option_map_or is_accepted (said r) false = rw whole.0 (rw left at settled) in
       accepted name p q cs seat c (said r) room at whole.1 answers accepts count
 
-  -- an answer that refuses
+  -- the point after a write whose answer refuses it
   declined : (name : List ℕ) (p q : Point P) (cs : List Commit) (seat : ℕ) (c : Asked) (o : Option Answer) (ends : World → Type 0) → p.commits < 18446744073709551615 → IsAfter place name p cs → IsAfter place name q cs → is_some o ≡ true
       → Answers (world_of name cs) c o ends → false ≡ option_map_or is_accepted o false → Written place name cs seat c o q
   declined name p q cs seat c None ends room at again whole did refuses = absurd cc
@@ -93,7 +93,7 @@ shards_after_all-one n (d ∷ cs) c = shards_after_all-one (shards_after n d) cs
 shards_of-one : (n : ℕ) (cs : List Commit) (p : Commit) → shards_of n (cs ++ p ∷ []) ≡ shards_after (shards_of n cs) p.1
 shards_of-one n cs p = ap (shards_after_all n) (map-append (λ c. c.1) cs (p ∷ [])) ∙ shards_after_all-one n (commands_of cs) p.1
 
--- a write that is accepted, as in `one_more`
+-- the shards after a write that is accepted, as in `one_more`
 pub dealt_more : {P : Type 0} (name : List ℕ) (n : ℕ) (p : Point P) (q : P × StateView) (cs : List Commit) (seat : ℕ) (c : Asked) (r given : Reply) (next : Option (P × StateView)) (now e : P × StateView)
     → said r ≡ Some (write_reply name cs c) → r ≡ given → now ≡ arc_value p.engine → next ≡ Some e → q ≡ e
     → IfSome (said given) (λ _. shard_count (unwrap_or next now) ≡ shards_after (shard_count now) c) → IsSettled given next → HasShardsAfter n p cs → shard_count q ≡ shards_of n (after_write name cs seat c)
@@ -105,7 +105,7 @@ dealt_more name n p q cs seat c r given next now e is made before kept left deal
     let one = shards_of-one n cs (seat, c) in
     rw (yes, one, left) (count ∙ ap (λ k. shards_after k c) (rw before at))
 
--- a write that is refused
+-- the shards after a write that is refused
 pub dealt_same : {P : Type 0} (name : List ℕ) (n : ℕ) (p : Point P) (q : P × StateView) (cs : List Commit) (seat : ℕ) (c : Asked) (r given : Reply) (next : Option (P × StateView))
     → said r ≡ Some (write_reply name cs c) → r ≡ given → next ≡ None → q ≡ arc_value p.engine → IsSettled given next → HasShardsAfter n p cs → shard_count q ≡ shards_of n (after_write name cs seat c)
 dealt_same name n p q cs seat c r given next is made left same settled at =
@@ -129,7 +129,7 @@ after_get name (q ∷ ps) [] seat d h at = absurd h
 after_get name (q ∷ ps) (c ∷ css) zero d h at = h.0
 after_get name (q ∷ ps) (c ∷ css) (suc n) d h at = after_get name ps css n d h.1 (omega (arith, at))
 
--- a seat that has seen nothing more
+-- the points of all seats, if a seat has seen nothing more
 pub after_same : (name : List ℕ) (ps : List (Point Md5Placement)) (css : List (List Commit)) (seat : ℕ) → AreAfter name ps css → AreAfter name ps (slice_set css seat (unwrap_or (slice_get css seat) []))
 after_same name [] [] seat h = tt
 after_same name [] (d ∷ css) seat h = absurd h
@@ -152,7 +152,7 @@ moved name s t m seat p cs f latest each at = record {
   each = subst (λ (ps : List (Point Md5Placement)). AreAfter name ps (slice_set m.seen seat cs)) (sym each) (after_set name s.each.items m.seen seat p cs f.each at);
 }
 
--- a seat that catches up
+-- the seats after one of them catches up
 pub looks : (name : List ℕ) (s t : Seats) (m : Machine) (seat : ℕ) (p : Point Md5Placement) → SeatsStandFor name s m → t.latest ≡ s.latest → t.each.items ≡ slice_set s.each.items seat p
     → ((n : List ℕ) (cs : List Commit) → IsAfter by_md5 n s.latest cs → IsAfter by_md5 n p cs) → SeatsStandFor name t (entered m seat)
 looks name s t m seat p f latest each again = moved name s t m seat p m.commits f latest each (again name m.commits f.latest)
@@ -161,7 +161,7 @@ looks name s t m seat p f latest each again = moved name s t m seat p m.commits 
 pub at_seat : (name : List ℕ) (s : Seats) (m : Machine) (seat : ℕ) (p : Point Md5Placement) → SeatsStandFor name s m → seat < length s.each.items → p ≡ get_or s.each.items seat p → IsAfter by_md5 name p (seen_by m seat)
 at_seat name s m seat p f here is = subst (λ (x : Point Md5Placement). IsAfter by_md5 name x (seen_by m seat)) (sym is) (after_get name s.each.items m.seen seat p f.each here)
 
--- a seat that learns of more than it has seen
+-- the seats after one of them learns of more than it has seen
 pub hears : (name : List ℕ) (s t : Seats) (m : Machine) (seat by : ℕ) (p q r next : Point Md5Placement) → SeatsStandFor name s m → seat < length s.each.items → by < length s.each.items
     → p ≡ get_or s.each.items seat p → q ≡ get_or s.each.items by q → r ≡ get_or s.each.items by r → p.commits < q.commits → t.latest ≡ s.latest → t.each.items ≡ slice_set s.each.items seat next
     → ((n : List ℕ) (cs : List Commit) → IsAfter by_md5 n r cs → IsAfter by_md5 n next cs) → SeatsStandFor name t (with_seen m seat (longer_of (seen_by m seat) (seen_by m by)))
@@ -171,7 +171,7 @@ hears name s t m seat by p q r next f here there is other same more latest each 
     let longer : nat_lt (length (seen_by m seat)) (length (seen_by m by)) ≡ true = grind (arith, nat_tests, more, old.commits, new.commits) in
     rw longer (moved name s t m seat next (seen_by m by) f latest each (again name (seen_by m by) (at_seat name s m by r f there same)))
 
--- a seat that learns of no more than it has seen
+-- the seats after one of them learns of no more than it has seen
 pub stays : (name : List ℕ) (s : Seats) (m : Machine) (seat by : ℕ) (p q : Point Md5Placement) → SeatsStandFor name s m → seat < length s.each.items → by < length s.each.items
     → p ≡ get_or s.each.items seat p → q ≡ get_or s.each.items by q → q.commits ≤ p.commits → SeatsStandFor name s (with_seen m seat (longer_of (seen_by m seat) (seen_by m by)))
 stays name s m seat by p q f here there is other more =
@@ -180,7 +180,7 @@ stays name s m seat by p q f here there is other more =
     let longer : nat_lt (length (seen_by m seat)) (length (seen_by m by)) ≡ false = grind (arith, nat_tests, more, old.commits, new.commits) in
     rw longer (record { latest = f.latest; each = after_same name s.each.items m.seen seat f.each })
 
--- the latest point after a write, before its seat catches up
+-- the seats after a write, before its seat catches up
 pub wrote : (name : List ℕ) (s t : Seats) (m : Machine) (cs : List Commit) → SeatsStandFor name s m → IsAfter by_md5 name t.latest cs → t.each ≡ s.each → SeatsStandFor name t (record m { commits = cs })
 wrote name s t m cs f at each = record {
   latest = at;

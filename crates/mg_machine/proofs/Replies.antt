@@ -10,13 +10,13 @@ use Rattle.mg_machine.specs.View.{event_seen, events_seen}
 use Rattle.mg_machine.specs.declared.interleave.Event as code
 use Rattle.mg_machine.proofs.Events.{after-append}
 
--- ---- events of the program
+-- ---- events of the code
 
--- the events up to i, and one more
+-- the first i + 1 events are the first i and the event i
 pub seen_more : (es : List code.Event) (i : ℕ) (e : code.Event) → i < length es → e ≡ get_or es i e → events_seen (take (i + 1) es) ≡ events_seen (take i es) ++ event_seen e ∷ []
 seen_more es i e here is = map_more event_seen es i e here ∙ ap (λ x. events_seen (take i es) ++ event_seen x ∷ []) (sym is)
 
--- the events up to the end are all events
+-- the first i events are all events, if there are no more than i
 pub seen_all : (es : List code.Event) (i : ℕ) → length es ≤ i → events_seen (take i es) ≡ events_seen es
 seen_all es i over = ap events_seen (take_all i es over)
 
@@ -33,18 +33,18 @@ at_both : (seats : ℕ) (es : List Event) (e : Event) → AreAt seats es → IsA
 at_both seats [] e at here = (here, tt)
 at_both seats (d ∷ es) e at here = (at.0, at_both seats es e at.1 here)
 
--- the events up to i are at the seats, and one more
+-- if the first i events are at the seats, and the event i is, the first i + 1 are
 pub at_more : (seats : ℕ) (es : List code.Event) (i : ℕ) (e : code.Event) → i < length es → e ≡ get_or es i e
     → AreAt seats (events_seen (take i es)) → IsAt seats (event_seen e) → AreAt seats (events_seen (take (i + 1) es))
 at_more seats es i e below is at here = subst (AreAt seats) (sym (seen_more es i e below is)) (at_both seats (events_seen (take i es)) (event_seen e) at here)
 
--- ---- one event more
+-- ---- one more event
 
--- what happens at an event after these events
+-- the machine and the reply after an event that follows these events
 abbrev pub happens_after : List ℕ → Machine → List Event → Event → Machine × Option Answer
 happens_after name m es e = happens name (machine_after name m es) e
 
--- the machine after one event more
+-- the machine after one more event
 pub machine_more : (name : List ℕ) (m : Machine) (es more : List Event) (e : Event) → more ≡ es ++ e ∷ [] → machine_after name m more ≡ (happens_after name m es e).0
 machine_more name m es more e is = ap (machine_after name m) is ∙ after-append name m es (e ∷ [])
 
@@ -52,14 +52,14 @@ replies_more : (name : List ℕ) (m : Machine) (es : List Event) (e : Event) →
 replies_more name m [] e = refl
 replies_more name m (d ∷ es) e = ap (λ rs. (happens name m d).1 ∷ rs) (replies_more name (happens name m d).0 es e)
 
--- the replies, with the reply to one event more
+-- the replies, with the reply to one more event
 pub said_more : (name : List ℕ) (m : Machine) (es more : List Event) (e : Event) (rs new : List (Option Reply)) (r : Option Reply) → more ≡ es ++ e ∷ [] → new ≡ rs ++ r ∷ []
     → option_and_then said r ≡ (happens_after name m es e).1 → map (option_and_then said) rs ≡ replies_of_events name m es → map (option_and_then said) new ≡ replies_of_events name m more
 said_more name m es more e rs new r is now one before =
     ap (map (option_and_then said)) now ∙ map-append (option_and_then said) rs (r ∷ []) ∙ ap (λ l. l ++ option_and_then said r ∷ []) before
     ∙ ap (λ a. replies_of_events name m es ++ a ∷ []) one ∙ sym (replies_more name m es e) ∙ ap (replies_of_events name m) (sym is)
 
--- which events have a reply, with one event more
+-- which events have a reply, with one more event
 pub some_more : (name : List ℕ) (m : Machine) (es more : List Event) (e : Event) (rs new : List (Option Reply)) (r : Option Reply) → more ≡ es ++ e ∷ [] → new ≡ rs ++ r ∷ []
     → is_some r ≡ is_some (happens_after name m es e).1 → map is_some rs ≡ map is_some (replies_of_events name m es) → map is_some new ≡ map is_some (replies_of_events name m more)
 some_more name m es more e rs new r is now one before =

@@ -3,7 +3,7 @@ use Rattle.std.proofs.Common.{◌≡◌, ◌<◌, ℕ, List, [], ◌∷◌, ◌+
 use Rattle.mg_engine.specs.World.{empty_world}
 use Rattle.mg_engine.specs.Commands.{reply_of, replies_of}
 use Rattle.mg_machine.specs.Machine.{Event, enter, told, Machine, opened, seen_by, entered, commands_of, world_of, happens, machine_after}
-use Rattle.mg_machine.specs.Laws.{AreAt, AreAtOtherSeats, IsLaterMachine, IsPrefix, after, SeatsSeePrefixes, NothingIsLost, WhatWasToldIsSeen, CommitsAreAnswered, ReadsAreOfTheSeen, SnapshotsAreKept, TheCommandDecides}
+use Rattle.mg_machine.specs.Laws.{AreAt, AreAtOtherSeats, IsLaterMachine, IsPrefix, after, SeatsSeePrefixes, NothingIsLost, WhatIsLearnedIsSeen, CommitsAreAnswered, ReadsAreOfTheSeen, SnapshotsAreKept, TheCommandDecides}
 use Rattle.mg_machine.proofs.Beginnings.{in_turn}
 use Rattle.mg_machine.proofs.Events.{Stands, step, tells, run, opened_stands, after-append, at_left, at_right, same_seat, apart_run}
 use Rattle.mg_machine.proofs.Commits.{committed, replies-one}
@@ -19,8 +19,8 @@ nothing_is_lost name seats es more at =
     let m = after name seats es in
     subst (IsLaterMachine m) (sym (after-append name (opened seats) es more)) (run name seats m more (at_right seats es more at) (stands_after name seats es (at_left seats es more at))).grows
 
-pub what_was_told_is_seen : WhatWasToldIsSeen
-what_was_told_is_seen name seats es more seat by at =
+pub what_is_learned_is_seen : WhatIsLearnedIsSeen
+what_is_learned_is_seen name seats es more seat by at =
     let m = after name seats es in
     let n = (happens name m (told seat by)).0 in
     let s = stands_after name seats es (at_left seats es (told seat by ∷ more) at) in
@@ -45,7 +45,7 @@ reads_are_of_the_seen name seats es seat c a at reads said =
     let h : Some (reply_of (world_of name cs) c) ≡ Some a = rw reads at said in
     replies-one (empty_world name) (commands_of cs) c ∙ ap (λ x. replies_of (empty_world name) (commands_of cs) ++ x ∷ []) (is_said (reply_of (world_of name cs) c) a h)
 
--- what a seat has seen when it catches up is what it has seen while all events are at other seats
+-- while all events are at other seats, a seat has seen what it had seen when it caught up
 looked : (name : List ℕ) (seats : ℕ) (es others : List Event) (seat : ℕ) → AreAt seats (es ++ enter seat ∷ others) → AreAtOtherSeats seat others → seen_by (after name seats (es ++ enter seat ∷ others)) seat ≡ (after name seats es).commits
 looked name seats es others seat at ne =
     let m = after name seats es in

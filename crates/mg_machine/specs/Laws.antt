@@ -6,14 +6,14 @@ use Rattle.mg_engine.specs.Commands.{Asked, Answer, is_write, reply_of, replies_
 use Rattle.mg_machine.specs.Machine.{Commit, Event, publish, enter, answer, told, Machine, opened, seen_by, commands_of, world_of, happens, machine_after}
 use Rattle.mg_engine.specs.Settled.{is_accepted}
 
--- the seats that an event names exist: this many seats are numbered from 0
+-- each seat that an event names is one of this many seats, which are numbered from 0
 abbrev pub IsAt : ℕ → Event → Type 0
 IsAt seats (publish seat c) = seat < seats
 IsAt seats (enter seat) = seat < seats
 IsAt seats (answer seat c) = seat < seats
 IsAt seats (told seat by) = (seat < seats) × (by < seats)
 
--- the seats that the events name exist
+-- each seat that the events name is one of this many seats
 abbrev pub AreAt : ℕ → List Event → Type 0
 AreAt seats [] = Unit {0}
 AreAt seats (e ∷ es) = IsAt seats e × AreAt seats es
@@ -26,7 +26,7 @@ after name seats es = machine_after name (opened seats) es
 abbrev pub IsPrefix : List Commit → List Commit → Type 0
 IsPrefix cs ds = (rest : List Commit) × (ds ≡ cs ++ rest)
 
--- ---- what a command is
+-- ---- what a command decides
 
 -- the command decides what is done: a write is published, also by `answer`; and to publish a read is to catch up and then to read
 pub record TheCommandDecides : Type 0 where
@@ -46,30 +46,30 @@ pub record IsLaterMachine (m n : Machine) : Type 0 where
   pub commits : IsPrefix m.commits n.commits
   pub seen : (seat : ℕ) → IsPrefix (seen_by m seat) (seen_by n seat)
 
--- more events take no commit away, and nothing that a seat has seen
+-- further events remove no commit, and what a seat has seen stays seen
 abbrev pub NothingIsLost : Type 0
 NothingIsLost = (name : List ℕ) (seats : ℕ) (es more : List Event) → AreAt seats (es ++ more) → IsLaterMachine (after name seats es) (after name seats (es ++ more))
 
--- what a seat has learned from another, it has seen from then on
-abbrev pub WhatWasToldIsSeen : Type 0
-WhatWasToldIsSeen =
+-- a seat that learns from another has seen, from then on, all that the other had seen
+abbrev pub WhatIsLearnedIsSeen : Type 0
+WhatIsLearnedIsSeen =
     (name : List ℕ) (seats : ℕ) (es more : List Event) (seat by : ℕ) → AreAt seats (es ++ told seat by ∷ more)
     → IsPrefix (seen_by (after name seats es) by) (seen_by (after name seats (es ++ told seat by ∷ more)) seat)
 
 -- ---- the replies to writes
 
--- the write that an event asks for, with its seat
+-- the write that an event asks for, with its seat; `None` if the event has no command, or its command is a read
 abbrev pub write_of : Event → Option Commit
 write_of (publish seat c) = if is_write c then Some (seat, c) else None
 write_of (enter seat) = None
 write_of (answer seat c) = if is_write c then Some (seat, c) else None
 write_of (told seat by) = None
 
--- a write with its reply, if the reply accepts it
+-- a write with its reply, if the reply says that the write is accepted
 abbrev pub if_accepted : Commit → Answer → Option (Commit × Answer)
 if_accepted c a = if is_accepted a then Some (c, a) else None
 
--- the accepted write of an event, with its reply
+-- the accepted write of an event, with its reply; `None` if the event asks for no write, or the write is refused
 abbrev pub accepted_of : List ℕ → Machine → Event → Option (Commit × Answer)
 accepted_of name m e = option_and_then (λ c. option_and_then (if_accepted c) (happens name m e).1) (write_of e)
 
@@ -90,7 +90,7 @@ CommitsAreAnswered = (name : List ℕ) (seats : ℕ) (es : List Event) → AreAt
 
 -- ---- the replies to reads
 
--- a read has the reply that a single caller gets for it after giving the commands that its seat has seen
+-- a read has the reply that a single caller gets for it after the commands of the commits that its seat has seen
 abbrev pub ReadsAreOfTheSeen : Type 0
 ReadsAreOfTheSeen =
     (name : List ℕ) (seats : ℕ) (es : List Event) (seat : ℕ) (c : Asked) (a : Answer) → AreAt seats es → is_write c ≡ false
@@ -98,7 +98,7 @@ ReadsAreOfTheSeen =
     → replies_of (empty_world name) (commands_of (seen_by (after name seats es) seat) ++ c ∷ [])
     ≡ replies_of (empty_world name) (commands_of (seen_by (after name seats es) seat)) ++ a ∷ []
 
--- an event is at another seat: it does not change what this seat has seen
+-- an event is at another seat, and therefore does not change what this seat has seen
 abbrev pub IsAtOtherSeat : ℕ → Event → Type 0
 IsAtOtherSeat seat (publish other c) = other ≢ seat
 IsAtOtherSeat seat (enter other) = other ≢ seat
@@ -110,7 +110,8 @@ abbrev pub AreAtOtherSeats : ℕ → List Event → Type 0
 AreAtOtherSeats seat [] = Unit {0}
 AreAtOtherSeats seat (e ∷ es) = IsAtOtherSeat seat e × AreAtOtherSeats seat es
 
--- a read is answered by the world of all commits that there were when its seat caught up, whatever others have published since
+-- if a seat has caught up, and only other seats had events since, a read at the seat has the reply of the world after all commits that
+-- there were when the seat caught up
 abbrev pub SnapshotsAreKept : Type 0
 SnapshotsAreKept =
     (name : List ℕ) (seats : ℕ) (es others : List Event) (seat : ℕ) (c : Asked) → AreAt seats (es ++ enter seat ∷ others) → AreAtOtherSeats seat others → is_write c ≡ false

@@ -1,6 +1,6 @@
 -- The machine of events, which is this project's own: one database and several seats, at each of which a session reads and writes while
 -- the others do. There is one commit log, which holds the accepted writes in order, and each seat has seen a prefix of it. A write is
--- answered at the end of the log, a read by what its seat has seen.
+-- answered after all commits, a read after the commits that its seat has seen.
 use Rattle.std.specs.Prelude.{ℕ, ◌==◌, List, [], ◌∷◌, ◌++◌, Bool, Option, Some, None, if◌then◌else◌, length, map, nat_lt, replicate, slice_get, slice_set, unwrap_or}
 use Rattle.mg_engine.specs.declared.refusal.Refusal.TheVariants.{TooLarge}
 use Rattle.mg_engine.specs.World.{World, empty_world}
@@ -11,7 +11,8 @@ use Rattle.mg_engine.specs.Settled.{is_accepted}
 abbrev pub Commit : Type 0
 Commit = ℕ × Asked
 
--- an event at a seat: it writes, it catches up with all commits, it reads, or it learns what another seat has seen
+-- an event at a seat, whose number comes first: it publishes a command, catches up with all commits, answers a command, or learns what
+-- another seat has seen, whose number is the second one of `told`
 pub data Event : Type 0 where
   publish : ℕ → Asked → Event
   enter : ℕ → Event
@@ -27,7 +28,7 @@ pub record Machine : Type 0 where
 abbrev pub opened : ℕ → Machine
 opened seats = record { commits = []; seen = replicate seats [] }
 
--- what a seat has seen
+-- what a seat has seen; nothing if there is no such seat
 abbrev pub seen_by : Machine → ℕ → List Commit
 seen_by m seat = unwrap_or (slice_get m.seen seat) []
 
@@ -39,43 +40,43 @@ with_seen m seat cs = record m { seen = slice_set m.seen seat cs }
 abbrev pub commands_of : List Commit → List Asked
 commands_of cs = map (λ c. c.1) cs
 
--- the world that commits leave, of a database of this name
+-- the world that these commits leave in a database of this name
 abbrev pub world_of : List ℕ → List Commit → World
 world_of name cs = world_after (empty_world name) (commands_of cs)
 
 -- how many shards there are after commits: as many as the last reshard asked for, or as the database was opened with if none did
 abbrev pub shards_of : ℕ → List Commit → ℕ
-shards_of opened cs = shards_after_all opened (commands_of cs)
+shards_of first cs = shards_after_all first (commands_of cs)
 
 -- ---- writing
 
--- whether there are as many commits as there can be
+-- whether there are as many commits as a log can hold
 abbrev pub are_full : List Commit → Bool
 are_full cs = length cs == 18446744073709551615
 
--- the reply to a write after these commits. If there can be no more commits, it is `TooLarge`, before any other refusal
+-- the reply to a write after these commits. If there can be no more commits, the write is refused as `TooLarge`, before any other refusal
 abbrev pub write_reply : List ℕ → List Commit → Asked → Answer
 write_reply name cs c = if are_full cs then refused TooLarge else reply_of (world_of name cs) c
 
--- the commits after a write of a seat: one more if the write is accepted
+-- the commits after a write of a seat: one more if the write is accepted, otherwise no more
 abbrev pub after_write : List ℕ → List Commit → ℕ → Asked → List Commit
 after_write name cs seat c = if is_accepted (write_reply name cs c) then cs ++ (seat, c) ∷ [] else cs
 
--- the machine with these commits, all of which a seat has seen
+-- the machine in which these are all commits, and a seat has seen all of them
 abbrev pub with_commits : Machine → ℕ → List Commit → Machine
 with_commits m seat cs = with_seen (record m { commits = cs }) seat cs
 
--- a seat writes, and has then seen all commits
+-- the machine after a write of a seat, which has then seen all commits, and the reply
 abbrev pub written : List ℕ → Machine → ℕ → Asked → Machine × Option Answer
 written name m seat c = (with_commits m seat (after_write name m.commits seat c), Some (write_reply name m.commits c))
 
 -- ---- catching up, reading and learning
 
--- a seat catches up, and has then seen all commits
+-- the machine after a seat has caught up: the seat has then seen all commits
 abbrev pub entered : Machine → ℕ → Machine
 entered m seat = with_seen m seat m.commits
 
--- a seat reads by what it has seen
+-- the machine after a read of a seat, which is unchanged, and the reply after the commits that the seat has seen
 abbrev pub read : List ℕ → Machine → ℕ → Asked → Machine × Option Answer
 read name m seat c = (m, Some (reply_of (world_of name (seen_by m seat)) c))
 

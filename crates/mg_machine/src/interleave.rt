@@ -14,20 +14,21 @@ use std::thread::Threads;
 
 /// An event at a seat. The seats are numbered from 0.
 ///
-/// The command decides what is done: `Publish` of a read is `Enter` and then `Answer`, and `Answer` of a write is `Publish`.
+/// The command decides what is done: `Publish` of a read does what `Enter` and then `Answer` do, and `Answer` of a write does what
+/// `Publish` does.
 #[derive(Debug, Drop)]
 pub enum Event {
     /// A write, after all commits. If it is accepted, it is one more commit. Accepted or not, its seat has then seen all commits.
     Publish { seat: usize, command: Command },
     /// The seat catches up: it has then seen all commits.
     Enter { seat: usize },
-    /// A read, by the commits that its seat has seen.
+    /// A read, after the commits that its seat has seen.
     Answer { seat: usize, command: Command },
-    /// The seat learns what seat `by` has seen: it has then seen the longer of the two lists of commits.
+    /// The seat learns what seat `by` has seen: the seat has then seen the longer of the two lists of commits.
     Told { seat: usize, by: usize },
 }
 
-/// Whether each event is at one of `seats` seats, as `replay` requires. Takes no memory. Cost: the number of events.
+/// Whether each seat that the events name is one of `seats` seats, as `replay` requires. Takes no memory. Cost: the number of events.
 pub fn are_at(seats: usize, events: &[Event]) -> bool
     ensures { IsTrue result ↔ AreAt seats (events_seen events.now) }
 {
@@ -39,7 +40,7 @@ pub fn are_at(seats: usize, events: &[Event]) -> bool
     true
 }
 
-// Whether an event is at one of `seats` seats.
+// Whether each seat that an event names is one of `seats` seats.
 fn is_at(seats: usize, event: &Event) -> bool
     ensures { IsTrue result ↔ IsAt seats (event_seen event.now) }
 {
@@ -53,11 +54,12 @@ fn is_at(seats: usize, event: &Event) -> bool
 
 /// Replays events at `seats` seats of an empty database, which has one shard until a reshard, with one worker and on this thread alone.
 /// Returns for each event its reply: the complete reply to the command of a `Publish` or `Answer`, and `None` for `Enter` and `Told`. Each
-/// event has to be at one of these seats, which `are_at` tests.
+/// seat that the events name has to be one of these seats, which `are_at` tests.
 ///
-/// Errors: `NoMemory` if an allocation fails anywhere; therefore no reply is `Reply::NoMemory`. A write after
-/// 18,446,744,073,709,551,615 commits is refused with 413 `too_large`. Cost: for each command that of `Engine::step`, for a write
-/// also a copy of it, and the number of seats. The cost of `Enter` and `Told` does not depend on the documents.
+/// Errors: `NoMemory` if an allocation fails anywhere, or if there are too many references to an engine or to a part of one; therefore no
+/// reply is `Reply::NoMemory`. A write after 18,446,744,073,709,551,615 commits is refused with 413 `too_large`. Cost: the number of seats
+/// and of events; for each command that of `Engine::step`, and for a write also a copy of the command. `Enter` and `Told` copy no document,
+/// but free what only the seat's old state held.
 pub fn replay<R: Threads + Sync>(
     rt: &R,
     alloc: Global,

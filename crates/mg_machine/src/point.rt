@@ -16,7 +16,7 @@ use std::alloc::Global;
 use std::sync::Arc;
 use std::thread::Threads;
 
-/// A point of a database's commit log: the engine as it is there, and the number of commits before it.
+/// A point of a database's commit log: the engine as the commits before the point leave it, and the number of these commits.
 #[derive(Drop)]
 pub struct Point<P> {
     pub engine: Arc<Engine<P>>,
@@ -24,7 +24,7 @@ pub struct Point<P> {
 }
 
 impl<P: Placement + Drop> Point<P> {
-    /// The point before the first commit to a database of this name, over `shards` shards on which `placement` places the documents.
+    /// Makes the point before the first commit to a database of this name, with 1 to 64 shards, on which `placement` places the documents.
     ///
     /// Errors: `NoMemory` if an allocation fails. Cost: the number of shards, and the name.
     pub fn first(alloc: Global, db: &str, placement: P, shards: usize) -> Result<Point<P>, NoMemory>
@@ -38,7 +38,9 @@ impl<P: Placement + Drop> Point<P> {
         Ok(Point { engine, commits: 0 })
     }
 
-    /// A copy of this point, which shares the engine. Takes no memory. Errors: `NoMemory` if there are too many references to the engine.
+    /// Makes a copy of this point, which shares the engine. Takes no memory.
+    ///
+    /// Errors: `NoMemory` if there are too many references to the engine.
     pub fn again(&self) -> Result<Point<P>, NoMemory>
         ensures after { IfOk result
             (λ p. (name : List ℕ) (cs : List Commit) → IsAfter P.place name self.now cs
@@ -52,7 +54,8 @@ impl<P: Placement + Drop> Point<P> {
         })
     }
 
-    /// The reply to a read, by these workers, whatever the gate does. `Engine::answer_by` says which queries pass the gate.
+    /// Returns the reply to a read, by these workers. The gate does not change the reply. `Engine::answer_by` says which queries pass the
+    /// gate.
     ///
     /// Errors: `NoMemory` if an allocation fails. Cost: that of the engine's reply.
     pub fn read<R: Threads + Sync, G: Gate + Sync>(
@@ -70,10 +73,11 @@ impl<P: Placement + Drop> Point<P> {
         into_result(self.engine.answer_by(rt, alloc, command, workers, gate))
     }
 
-    /// The reply to a write, and the point after it: one commit later if the write is accepted, otherwise a copy of this point.
-    /// After 18,446,744,073,709,551,615 commits each write is refused as `TooLarge`.
+    /// Executes a write, and returns its reply and the point after it: one commit later if the write is accepted, otherwise a copy of this
+    /// point. This point does not change. After 18,446,744,073,709,551,615 commits each write is refused as `TooLarge`.
     ///
-    /// Errors: `NoMemory` if an allocation fails. Cost: that of the engine's commit, and a copy of the command.
+    /// Errors: `NoMemory` if an allocation fails, or if there are too many references to the engine or to a part of it. Cost: that of the
+    /// engine's commit, and a copy of the command.
     pub fn write<R: Threads + Sync>(
         &self,
         rt: &R,
@@ -120,7 +124,7 @@ impl<P: Placement + Drop> Point<P> {
         self.commit(rt, alloc, prepared, workers)
     }
 
-    // Does what `write_prepared` does, where one more commit can be counted.
+    // Does what `write_prepared` does, if one more commit can be counted.
     fn commit<R: Threads + Sync>(
         &self,
         rt: &R,
@@ -155,7 +159,7 @@ impl<P: Placement + Drop> Point<P> {
     }
 }
 
-// The reply if it is complete; `Reply::NoMemory` becomes the error.
+// Returns the reply if it is complete. `Reply::NoMemory` becomes the error.
 fn into_result(reply: Reply) -> Result<Reply, NoMemory>
     ensures { IfOk result (λ r. (r ≡ reply) × (is_some (said r) ≡ true)) }
 {

@@ -1,4 +1,5 @@
-//! The seats of a database, all driven by one caller.
+//! The seats of a database, all driven by one caller. After an error of a method the seats must not be used again: the latest point may
+//! have a write that the seat of the write has not seen.
 ghost use Rattle.std.specs.Prelude.{◌≡◌, ◌<◌, ℕ, List, All, IfOk, OnOk, false, true, vec_len};
 ghost use Rattle.mg_engine.specs.Commands.{is_write};
 ghost use Rattle.mg_engine.specs.View.{asked, said};
@@ -14,7 +15,7 @@ use mg_value::NoMemory;
 use std::alloc::Global;
 use std::thread::Threads;
 
-/// The latest point of a database, and for each seat the point that it has seen.
+/// The latest point of a database, and for each seat the point after the commits that the seat has seen.
 #[derive(Drop)]
 pub(crate) struct Seats {
     pub(crate) latest: Point<Md5Placement>,
@@ -22,7 +23,10 @@ pub(crate) struct Seats {
 }
 
 impl Seats {
-    /// Opens a database of this name that has no commit, with this number of seats. Cost: their number, and the name.
+    /// Opens an empty database of this name, with one shard and this number of seats.
+    ///
+    /// Errors: `NoMemory` if an allocation fails, or if there are too many references to the engine. Cost: the number of seats, and the
+    /// name.
     pub(crate) fn open(alloc: Global, db: &str, seats: usize) -> Result<Seats, NoMemory>
         ensures follow { IfOk result (λ s. SeatsStandFor db.now s (opened seats)) }
         ensures number { IfOk result (λ s. vec_len s.each ≡ seats) }
@@ -33,7 +37,8 @@ impl Seats {
     }
 
     /// Publishes a command at a seat and returns its reply. For a read, the seat first catches up with all commits.
-    /// Cost: that of the engine's reply, and a copy of a write.
+    ///
+    /// Errors: those of `Point::write`, `Point::read` and `Point::again`. Cost: that of the engine's reply, and a copy of a write.
     pub(crate) fn publish<R: Threads + Sync>(
         &mut self,
         rt: &R,
@@ -55,8 +60,9 @@ impl Seats {
         }
     }
 
-    /// Answers a command at a seat: a read by the commits that the seat has seen, a write after all commits.
-    /// Cost: that of the engine's reply, and a copy of a write.
+    /// Answers a command at a seat: a read after the commits that the seat has seen, a write after all commits.
+    ///
+    /// Errors and cost: those of `publish`.
     pub(crate) fn answer<R: Threads + Sync>(
         &mut self,
         rt: &R,
@@ -77,7 +83,8 @@ impl Seats {
         }
     }
 
-    /// Lets a seat catch up with all commits.
+    /// Lets a seat catch up with all commits. Errors: those of `Point::again`; the seat is then as it was. Cost: constant, and the freeing
+    /// of what only the seat's old point held.
     pub(crate) fn enter(&mut self, seat: usize) -> Result<(), NoMemory>
         requires { seat < vec_len self.old.each }
         ensures follow { OnOk result ((name : List ℕ) (m : Machine) → SeatsStandFor name self.old m
@@ -88,7 +95,7 @@ impl Seats {
         Ok(())
     }
 
-    /// Lets a seat learn what seat `by` has seen.
+    /// Lets a seat learn what seat `by` has seen; nothing changes unless `by` has seen more. Errors and cost: those of `enter`.
     pub(crate) fn learn(&mut self, seat: usize, by: usize) -> Result<(), NoMemory>
         requires seat { seat < vec_len self.old.each }
         requires by { by < vec_len self.old.each }
@@ -102,7 +109,7 @@ impl Seats {
         Ok(())
     }
 
-    // The reply to a read, by what its seat has seen.
+    // Returns the reply to a read, after the commits that its seat has seen.
     fn read<R: Threads + Sync>(
         &self,
         rt: &R,
@@ -120,7 +127,7 @@ impl Seats {
         Ok(reply)
     }
 
-    // The reply to a write, after all commits. Its seat has then seen all commits.
+    // Executes a write after all commits, and returns its reply. The seat has then seen all commits.
     fn write<R: Threads + Sync>(
         &mut self,
         rt: &R,
@@ -142,7 +149,7 @@ impl Seats {
     }
 }
 
-// Copies a point `number` times. Cost: this number.
+// Copies a point `number` times.
 fn copies(
     alloc: Global,
     point: &Point<Md5Placement>,

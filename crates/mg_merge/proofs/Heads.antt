@@ -9,7 +9,7 @@ use Rattle.std.proofs.lemmas.List.{append-nil, get_or-map, length-map, map-set}
 use Rattle.mg_collate.specs.Sorted.{sorted_with, sorted}
 use Rattle.mg_collate.proofs.Sorting.{NoneBelow, Rises, times, all_of_each, all_weaker, all_append, rises, in_order, sorted_least}
 use Rattle.mg_merge.specs.Merged.{contents_of, joined}
-use Rattle.mg_merge.specs.Rests.{lent_of, rests_of, first_order, BeginsFirst}
+use Rattle.mg_merge.specs.Remaining.{lent_of, remaining_of, first_order, BeginsFirst}
 
 -- ---- which list begins first
 
@@ -82,7 +82,7 @@ order_kept order o lists place x rest ordered k e =
 
 -- ---- what comes first of all
 
--- no element of a list that rises is below x, where the list does not begin below x
+-- if a list that rises does not begin below x, no element of it is below x
 none_in : {X : Type 0} (order : X → X → Ordering) → IsTotalOrder order → (x : X) (rest ys : List X) → NoneBegins order (x ∷ rest) ys → Rises order ys → NoneBelow order x ys
 none_in order o x rest [] h k = tt
 none_in order o x rest (y ∷ ys) h k = (h, all_weaker (λ z. is_gt (order y z) ≡ false) (λ z. is_gt (order x z) ≡ false) (λ z l. upto o x y z h l) ys k.0)
@@ -93,7 +93,7 @@ none_in_all order o x rest [] h k = tt
 none_in_all order o x rest (ys ∷ lists) h k =
     all_append (λ y. is_gt (order x y) ≡ false) ys (joined lists) (none_in order o x rest ys (h 0 (omega arith)) k.0) (none_in_all order o x rest lists (λ i l. h (suc i) (omega arith)) k.1)
 
--- all elements of a list that rises are above x, where the list begins above x
+-- if a list that rises begins above x, all its elements are above x
 all_above : {X : Type 0} (order : X → X → Ordering) → IsTotalOrder order → (x : X) (rest ys : List X) → first_order order (x ∷ rest) ys ≡ Less → Rises order ys → AllByRecursion (λ y. is_gt (order y x) ≡ true) ys
 all_above order o x rest [] h k = tt
 all_above order o x rest (y ∷ ys) h k = (
@@ -125,58 +125,58 @@ pub first_taken : {X : Type 0} (order : X → X → Ordering) → IsTotalOrder o
 first_taken order o lists place x rest ordered k e first =
     taken_first order o lists place x rest (all_rise order o lists ordered) k e (λ i l. subst (λ ys. NoneBegins order ys (get_or lists i [])) e (first.least i l)) (λ i l. subst (λ ys. first_order order ys (get_or lists i []) ≡ Less) e (first.before i l))
 
--- lists of which none begins before an empty one are empty
+-- if no list begins before an empty list, all lists are empty
 pub none_left : {X : Type 0} (order : X → X → Ordering) (lists : List (List X)) → ((k : ℕ) → k < length lists → NoneBegins order [] (get_or lists k [])) → joined lists ≡ []
 none_left order [] h = refl
 none_left order ([] ∷ lists) h = none_left order lists (λ i k. h (suc i) (omega arith))
 none_left order ((x ∷ xs) ∷ lists) h = absurd (let wrong : true ≡ false = h 0 (omega arith) in cc)
 
--- ---- taking the first element off the code's rests
+-- ---- taking the first element off the code's lists
 
-pub rest_at : {X : Type 0} (rests : List (Bor (List X))) (i : ℕ) (rest : Bor (List X)) → i < length rests → rest ≡ get_or rests i rest → rest.now ≡ get_or (rests_of rests) i []
-rest_at {X} rests i rest h e = ap (λ (r : Bor (List X)). r.now) e ∙ sym (get_or-map (λ (r : Bor (List X)). r.now) rests i rest [] h)
+pub rest_at : {X : Type 0} (remaining : List (Bor (List X))) (i : ℕ) (rest : Bor (List X)) → i < length remaining → rest ≡ get_or remaining i rest → rest.now ≡ get_or (remaining_of remaining) i []
+rest_at {X} remaining i rest h e = ap (λ (r : Bor (List X)). r.now) e ∙ sym (get_or-map (λ (r : Bor (List X)). r.now) remaining i rest [] h)
 
-pub rests_size : {X : Type 0} (rests : List (Bor (List X))) → length (rests_of rests) ≡ length rests
-rests_size {X} rests = length-map rests (λ (r : Bor (List X)). r.now)
+pub remaining_size : {X : Type 0} (remaining : List (Bor (List X))) → length (remaining_of remaining) ≡ length remaining
+remaining_size {X} remaining = length-map remaining (λ (r : Bor (List X)). r.now)
 
-pub rests_of-set : {X : Type 0} (rests : List (Bor (List X))) (place : ℕ) (left : Bor (List X)) → rests_of (set rests place left) ≡ set (rests_of rests) place left.now
-rests_of-set {X} rests place left = map-set (λ (r : Bor (List X)). r.now) rests place left
+pub remaining_of-set : {X : Type 0} (remaining : List (Bor (List X))) (place : ℕ) (left : Bor (List X)) → remaining_of (set remaining place left) ≡ set (remaining_of remaining) place left.now
+remaining_of-set {X} remaining place left = map-set (λ (r : Bor (List X)). r.now) remaining place left
 
-within : {X : Type 0} (rests : List (Bor (List X))) (place : ℕ) → place < length (rests_of rests) → place < length rests
-within rests place k = let e = rests_size rests in omega (arith, e)
+within : {X : Type 0} (remaining : List (Bor (List X))) (place : ℕ) → place < length (remaining_of remaining) → place < length remaining
+within remaining place k = let e = remaining_size remaining in omega (arith, e)
 
 no_items : {X : Type 0} (xs : List X) → length xs ≡ 0 → xs ≡ []
 no_items [] h = refl
 no_items (x ∷ xs) h = absurd (omega (arith, h))
 
-pub ended : {X : Type 0} (order : X → X → Ordering) (rests : List (Bor (List X))) (place : ℕ) (rest : Bor (List X)) → place < length (rests_of rests) → rest ≡ get_or rests place rest → length rest.now ≡ 0
-    → BeginsFirst order (rests_of rests) (length (rests_of rests)) place → joined (rests_of rests) ≡ []
-ended order rests place rest k e h first =
-    let empty : get_or (rests_of rests) place [] ≡ [] = sym (rest_at rests place rest (within rests place k) e) ∙ no_items rest.now h in
-    none_left order (rests_of rests) (λ i l. subst (λ ys. NoneBegins order ys (get_or (rests_of rests) i [])) empty (first.least i l))
+pub ended : {X : Type 0} (order : X → X → Ordering) (remaining : List (Bor (List X))) (place : ℕ) (rest : Bor (List X)) → place < length (remaining_of remaining) → rest ≡ get_or remaining place rest → length rest.now ≡ 0
+    → BeginsFirst order (remaining_of remaining) (length (remaining_of remaining)) place → joined (remaining_of remaining) ≡ []
+ended order remaining place rest k e h first =
+    let empty : get_or (remaining_of remaining) place [] ≡ [] = sym (rest_at remaining place rest (within remaining place k) e) ∙ no_items rest.now h in
+    none_left order (remaining_of remaining) (λ i l. subst (λ ys. NoneBegins order ys (get_or (remaining_of remaining) i [])) empty (first.least i l))
 
-pub rest_taken : {X : Type 0} (order : X → X → Ordering) → IsTotalOrder order → (rests : List (Bor (List X))) (place : ℕ) (rest : Bor (List X)) (x : X) (left : Bor (List X)) → All (IsSorted order) (rests_of rests)
-    → place < length (rests_of rests) → rest ≡ get_or rests place rest → rest.now ≡ x ∷ left.now → BeginsFirst order (rests_of rests) (length (rests_of rests)) place
-    → sorted order (joined (rests_of rests)) ≡ x ∷ sorted order (joined (rests_of (set rests place left)))
-rest_taken order o rests place rest x left ordered k e h first =
-    first_taken order o (rests_of rests) place x left.now ordered k (sym (rest_at rests place rest (within rests place k) e) ∙ h) first
-    ∙ ap (λ lists. x ∷ sorted order (joined lists)) (sym (rests_of-set rests place left))
+pub rest_taken : {X : Type 0} (order : X → X → Ordering) → IsTotalOrder order → (remaining : List (Bor (List X))) (place : ℕ) (rest : Bor (List X)) (x : X) (left : Bor (List X)) → All (IsSorted order) (remaining_of remaining)
+    → place < length (remaining_of remaining) → rest ≡ get_or remaining place rest → rest.now ≡ x ∷ left.now → BeginsFirst order (remaining_of remaining) (length (remaining_of remaining)) place
+    → sorted order (joined (remaining_of remaining)) ≡ x ∷ sorted order (joined (remaining_of (set remaining place left)))
+rest_taken order o remaining place rest x left ordered k e h first =
+    first_taken order o (remaining_of remaining) place x left.now ordered k (sym (rest_at remaining place rest (within remaining place k) e) ∙ h) first
+    ∙ ap (λ lists. x ∷ sorted order (joined lists)) (sym (remaining_of-set remaining place left))
 
-pub rest_order : {X : Type 0} (order : X → X → Ordering) → IsTotalOrder order → (rests : List (Bor (List X))) (place : ℕ) (rest : Bor (List X)) (x : X) (left : Bor (List X)) → All (IsSorted order) (rests_of rests)
-    → place < length (rests_of rests) → rest ≡ get_or rests place rest → rest.now ≡ x ∷ left.now → All (IsSorted order) (rests_of (set rests place left))
-rest_order order o rests place rest x left ordered k e h =
-    subst (All (IsSorted order)) (sym (rests_of-set rests place left)) (order_kept order o (rests_of rests) place x left.now ordered k (sym (rest_at rests place rest (within rests place k) e) ∙ h))
+pub rest_order : {X : Type 0} (order : X → X → Ordering) → IsTotalOrder order → (remaining : List (Bor (List X))) (place : ℕ) (rest : Bor (List X)) (x : X) (left : Bor (List X)) → All (IsSorted order) (remaining_of remaining)
+    → place < length (remaining_of remaining) → rest ≡ get_or remaining place rest → rest.now ≡ x ∷ left.now → All (IsSorted order) (remaining_of (set remaining place left))
+rest_order order o remaining place rest x left ordered k e h =
+    subst (All (IsSorted order)) (sym (remaining_of-set remaining place left)) (order_kept order o (remaining_of remaining) place x left.now ordered k (sym (rest_at remaining place rest (within remaining place k) e) ∙ h))
 
 lent_more : {X : Type 0} (lent : List (Bor X)) (item : Bor X) (ys : List X) → lent_of lent ++ item.now ∷ ys ≡ lent_of (lent ++ item ∷ []) ++ ys
 lent_more [] item ys = refl
 lent_more (x ∷ lent) item ys = ap (λ zs. x.now ∷ zs) (lent_more lent item ys)
 
--- what was taken, and then what is left, stays the whole result when one more is taken
-pub one_more_lent : {X : Type 0} (order : X → X → Ordering) (all : List X) (lent more : List (Bor X)) (item : Bor X) (rests seen left : List (Bor (List X))) → all ≡ lent_of lent ++ sorted order (joined (rests_of rests)) → seen ≡ rests
-    → sorted order (joined (rests_of seen)) ≡ item.now ∷ sorted order (joined (rests_of left)) → more ≡ lent ++ item ∷ [] → all ≡ lent_of more ++ sorted order (joined (rests_of left))
-one_more_lent order all lent more item rests seen left e same first m =
-    e ∙ ap (λ rs. lent_of lent ++ sorted order (joined (rests_of rs))) (sym same) ∙ ap (λ ys. lent_of lent ++ ys) first ∙ lent_more lent item (sorted order (joined (rests_of left)))
-    ∙ ap (λ l. lent_of l ++ sorted order (joined (rests_of left))) (sym m)
+-- what was taken, followed by what is left in order, is the whole result, also after one more is taken
+pub one_more_lent : {X : Type 0} (order : X → X → Ordering) (all : List X) (lent more : List (Bor X)) (item : Bor X) (remaining seen left : List (Bor (List X))) → all ≡ lent_of lent ++ sorted order (joined (remaining_of remaining)) → seen ≡ remaining
+    → sorted order (joined (remaining_of seen)) ≡ item.now ∷ sorted order (joined (remaining_of left)) → more ≡ lent ++ item ∷ [] → all ≡ lent_of more ++ sorted order (joined (remaining_of left))
+one_more_lent order all lent more item remaining seen left e same first m =
+    e ∙ ap (λ rs. lent_of lent ++ sorted order (joined (remaining_of rs))) (sym same) ∙ ap (λ ys. lent_of lent ++ ys) first ∙ lent_more lent item (sorted order (joined (remaining_of left)))
+    ∙ ap (λ l. lent_of l ++ sorted order (joined (remaining_of left))) (sym m)
 
 -- ---- one list alone
 
@@ -191,7 +191,7 @@ one_list {X} order o (xs ∷ []) list count one e h =
     ap (λ (l : Vec X Global). take count l.items) e ∙ sym (ap (take count) (ap (sorted order) (append-nil xs.items) ∙ sorted_risen order xs.items (rises order o xs.items (h 0 [] (omega arith)))))
 one_list order o (xs ∷ ys ∷ lists) list count one e h = absurd (omega (arith, one))
 
--- ---- a search that has found nothing
+-- ---- what is required of no result
 
 pub if_none : {X : Type 0} (o : Option X) (P : Type 0) → P → IfNone o P
 if_none None P p = p

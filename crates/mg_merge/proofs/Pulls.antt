@@ -8,7 +8,7 @@ use Rattle.mg_collate.specs.Sorted.{IsInOrder, sorted, sorted_with}
 use Rattle.mg_collate.proofs.Directed.{directed_total}
 use Rattle.mg_merge.specs.Merged.{joined, order_by}
 use Rattle.mg_merge.specs.Pulled.{AreFrom, IsUnderWay, IsGivenBy, remaining, all_remaining, firsts_of}
-use Rattle.mg_merge.specs.Rests.{BeginsFirst, first_order}
+use Rattle.mg_merge.specs.Remaining.{BeginsFirst, first_order}
 use Rattle.mg_merge.specs.Tournament.{IsWinnerTree, IsWinnerTreeBut}
 use Rattle.mg_merge.proofs.Heads.{first_taken, none_left, order_kept}
 use Rattle.mg_merge.proofs.Rows.{by_total}
@@ -51,7 +51,7 @@ head_row_at row [] k = refl
 head_row_at row (head ∷ heads) zero = refl
 head_row_at row (head ∷ heads) (suc k) = head_row_at row heads k
 
--- what was left before is what was pulled, and then what is left now
+-- what was left before is the pulled item, if there is one, and then what is left now
 pub was_remaining : {X : Type 0} (row : X → RowValue) (pulled : Option X) (old new : List RowValue) → IfSome pulled (λ x. old ≡ row x ∷ new) → IfNone pulled (old ≡ []) → old ≡ remaining (option_map row pulled) new
 was_remaining row None old new h k = k
 was_remaining row (Some x) old new h k = h
@@ -144,7 +144,7 @@ pub pulled_changed : {X : Type 0} (row : X → RowValue) (direction : Direction)
 pulled_changed row direction heads tournament p pulled tree =
     subst (λ lists. IsWinnerTreeBut (order_by row direction) lists p tournament) (sym (map-set (λ head. remaining head []) heads p pulled)) (one_changed (order_by row direction) (firsts_of heads) tournament p (remaining pulled []) tree)
 
--- the source that a winner tree has as its first
+-- the source at place 1 of a winner tree begins first
 pub first_source : {X : Type 0} (row : X → RowValue) (direction : Direction) (heads : List (Option X)) (tournament : List ℕ) (p : ℕ) → IsWinnerTree (order_by row direction) (firsts_of heads) tournament → 1 < length tournament → p ≡ get_or tournament 1 0
     → (p < length heads) × BeginsFirst (order_by row direction) (firsts_of heads) (length (firsts_of heads)) p
 first_source row direction heads tournament p tree l e =
@@ -183,7 +183,7 @@ source_ahead row rest direction heads sources tournament p x pulled s new h orde
       tree = tree;
     })
 
--- ---- of what kind the items are
+-- ---- which items the sources may give
 
 at_set : {X : Type 0} (P : X → Type 0) (xs : List X) (p : ℕ) (y d : X) → P y → ((k : ℕ) → k < length xs → P (get_or xs k d)) → (k : ℕ) → k < length (set xs p y) → P (get_or (set xs p y) k d)
 at_set P [] p y d py h k l = absurd (omega arith)

@@ -1,4 +1,4 @@
--- Things that have rows, and their rows.
+-- Items that have rows, and those rows.
 use Rattle.std.proofs.Common.{◌≡◌, ℕ, ◌+◌, List, [], ◌∷◌, ◌++◌, get_or, map, take, All, Bool, true, false, if◌then◌else◌, is_gt, is_lt, Vec, Global, refl, sym, ap, ap₂, ◌∙◌, subst, arith}
 use Rattle.std.specs.Cmp.{IsTotalOrder}
 use Rattle.std.proofs.lemmas.Cmp.{on_total}
@@ -40,7 +40,7 @@ pub rows_of_merged : {X : Type 0} (row : X → RowValue) (direction : Direction)
 rows_of_merged row direction count lists =
     sym (take-map row count (sorted (order_by row direction) (joined lists))) ∙ ap (take count) (map_sorted row direction (joined lists) ∙ ap (sorted_rows direction) (map_joined row lists))
 
--- ---- lists of items are in order where those of their rows are
+-- ---- lists of items are in order if the lists of their rows are
 
 pub by_rows : {X : Type 0} (row : X → RowValue) (direction : Direction) (xs : List X) → IsInOrder direction (map row xs) → IsInOrderBy row direction xs
 by_rows row direction xs h = λ k d lo hi.

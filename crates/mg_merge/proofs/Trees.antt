@@ -6,9 +6,9 @@ use Rattle.std.proofs.lemmas.Bool.{cases_eq}
 use Rattle.std.proofs.lemmas.Cmp.{upto, tied_itself}
 use Rattle.std.proofs.lemmas.List.{get_or-set_other, get_or-set_same, length-set}
 use Rattle.std.proofs.lemmas.Nat.{shr_le, shr-shr}
-use Rattle.mg_merge.specs.Rests.{BeginsFirst, first_order, rests_of, turn_order}
+use Rattle.mg_merge.specs.Remaining.{BeginsFirst, first_order, remaining_of, turn_order}
 use Rattle.mg_merge.specs.Tournament.{AreWinners, IsAbove, IsFromBelow, IsWinnerTree, IsWinnerTreeBut, IsWon, first_of_two}
-use Rattle.mg_merge.proofs.Heads.{rests_of-set}
+use Rattle.mg_merge.proofs.Heads.{remaining_of-set}
 use Rattle.mg_merge.proofs.Turns.{turn_total, turns_first}
 
 -- ---- which places stand above a place
@@ -56,7 +56,7 @@ if_first turns o x y false e = (ap is_gt (tied_itself o x), e)
 wins_first : (turns : ℕ → ℕ → Ordering) → IsTotalOrder turns → (x y : ℕ) → (is_gt (turns (first_of_two turns x y) x) ≡ false) × (is_gt (turns (first_of_two turns x y) y) ≡ false)
 wins_first turns o x y = if_first turns o x y (is_gt (turns x y)) refl
 
--- the winner at a place, as it was found in another list that is the same
+-- a winner that was found in an equal list is the winner here
 pub winner_read : (turns : ℕ → ℕ → Ordering) (i w : ℕ) (ws same : List ℕ) → same ≡ ws → w ≡ first_of_two turns (get_or same (2 * i) 0) (get_or same (2 * i + 1) 0) → w ≡ first_of_two turns (get_or ws (2 * i) 0) (get_or ws (2 * i + 1) 0)
 winner_read turns i w ws same e h = h ∙ ap (λ xs. first_of_two turns (get_or xs (2 * i) 0) (get_or xs (2 * i + 1) 0)) e
 
@@ -226,7 +226,7 @@ same_turn : {X : Type 0} (order : X → X → Ordering) (lists : List (List X)) 
 same_turn order lists p j k rest m n =
     ap₂ (λ xs ys. ordering_then (first_order order xs ys) (nat_cmp j k)) (get_or-set_other lists p j rest [] m) (get_or-set_other lists p k rest [] n)
 
--- a change of one list leaves the tournament right that are not above it
+-- after a change of one list, only the winners above that list may be wrong
 pub one_changed : {X : Type 0} (order : X → X → Ordering) (lists : List (List X)) (ws : List ℕ) (p : ℕ) (rest : List X) → IsWinnerTree order lists ws → IsWinnerTreeBut order (set lists p rest) p ws
 one_changed order lists ws p rest tree =
     let n = length lists in
@@ -243,5 +243,5 @@ one_changed order lists ws p rest tree =
           );
     })
 
-pub rest_changed : {X : Type 0} (order : X → X → Ordering) (rests : List (Bor (List X))) (ws : List ℕ) (p : ℕ) (left : Bor (List X)) → IsWinnerTree order (rests_of rests) ws → IsWinnerTreeBut order (rests_of (set rests p left)) p ws
-rest_changed order rests ws p left tree = subst (λ lists. IsWinnerTreeBut order lists p ws) (sym (rests_of-set rests p left)) (one_changed order (rests_of rests) ws p left.now tree)
+pub rest_changed : {X : Type 0} (order : X → X → Ordering) (remaining : List (Bor (List X))) (ws : List ℕ) (p : ℕ) (left : Bor (List X)) → IsWinnerTree order (remaining_of remaining) ws → IsWinnerTreeBut order (remaining_of (set remaining p left)) p ws
+rest_changed order remaining ws p left tree = subst (λ lists. IsWinnerTreeBut order lists p ws) (sym (remaining_of-set remaining p left)) (one_changed order (remaining_of remaining) ws p left.now tree)

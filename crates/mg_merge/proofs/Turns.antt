@@ -4,7 +4,7 @@ use Rattle.std.specs.Cmp.{IsTotalOrder, then_total}
 use Rattle.std.specs.Ordering.{nat_cmp, ordering_then}
 use Rattle.std.proofs.lemmas.Bool.Decides.{nat_tests}
 use Rattle.std.proofs.lemmas.Cmp.{on_total, nat_cmp_total}
-use Rattle.mg_merge.specs.Rests.{BeginsFirst, first_order, turn_order}
+use Rattle.mg_merge.specs.Remaining.{BeginsFirst, first_order, turn_order}
 use Rattle.mg_merge.proofs.Heads.{begin_total}
 
 nat_greater : (m n : ℕ) → n < m → nat_cmp m n ≡ Greater

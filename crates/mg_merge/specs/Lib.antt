@@ -1,6 +1,6 @@
 pub mod Merged
 pub mod Pulled
-pub mod Rests
+pub mod Remaining
 pub mod Sharding
 pub mod Tournament
 pub mod Work

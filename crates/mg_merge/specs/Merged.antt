@@ -1,4 +1,4 @@
--- The merge of lists of rows, as a coordinator merges what its shards list in CouchDB.
+-- The merge of lists of rows, as CouchDB's coordinator merges what its shards list.
 use Rattle.std.specs.Prelude.{ℕ, List, Vec, map, take}
 use Rattle.std.specs.List.{flat_map}
 use Rattle.std.specs.List.Sorted.{IsSorted}

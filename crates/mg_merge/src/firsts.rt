@@ -2,7 +2,7 @@
 ghost use Rattle.std.specs.Prelude.{◌≡◌, ◌<◌, List, [], get_or, length};
 ghost use Rattle.mg_merge.specs.Merged.{order_by};
 ghost use Rattle.mg_merge.specs.Pulled.{firsts_of, lent_first};
-ghost use Rattle.mg_merge.specs.Rests.{first_order, rests_of};
+ghost use Rattle.mg_merge.specs.Remaining.{first_order, remaining_of};
 
 use crate::ranked::Ranked;
 use mg_collate::Direction;
@@ -10,14 +10,15 @@ use std::cmp::Ordering;
 
 // Lists of ranked items, of which only the first item of each list is seen.
 pub(crate) trait Firsts<T: Ranked> {
-    // the lists, of which only the first item of each matters
+    // the lists, each whole or cut to its first item
     ghost lists: { Self → List (List T) };
 
-    // How many lists there are.
+    // Returns the number of lists.
     fn count(&self) -> usize
         ensures { result ≡ length (lists self.now) };
 
-    // Compares the first items of two lists by their rows, in the direction's order; an empty list is after all others.
+    // Compares the first items of two lists by their rows, in the direction's order. An empty list is after all others, and
+    // two empty lists tie.
     fn compare(&self, list: usize, other: usize, direction: Direction) -> Ordering
         requires list { list < length (lists self.now) }
         requires other { other < length (lists self.now) }
@@ -26,7 +27,7 @@ pub(crate) trait Firsts<T: Ranked> {
 }
 
 impl<'a, T: Ranked> Firsts<T> for Vec<&'a [T]> {
-    ghost lists = { λ rests. rests_of rests.items };
+    ghost lists = { λ remaining. remaining_of remaining.items };
 
     fn count(&self) -> usize {
         self.len()
@@ -37,7 +38,7 @@ impl<'a, T: Ranked> Firsts<T> for Vec<&'a [T]> {
     }
 }
 
-// Heads that were pulled from sources, where a source at its end has none.
+// The heads of sources; a source at its end has no head.
 impl<T: Ranked> Firsts<T> for Vec<Option<T>> {
     ghost lists = { λ heads. firsts_of heads.items };
 
@@ -50,7 +51,8 @@ impl<T: Ranked> Firsts<T> for Vec<Option<T>> {
     }
 }
 
-// Compares two first items by their rows, in the direction's order; `None`, for an empty list, is after all others.
+// Compares two first items by their rows, in the direction's order. `None`, for an empty list, is after every item, and
+// two `None` tie.
 fn compare_firsts<T: Ranked>(item: Option<&T>, other: Option<&T>, direction: Direction) -> Ordering
     ensures { result ≡ first_order (order_by T.row_of direction)
         (lent_first item.entry) (lent_first other.entry) }

@@ -10,9 +10,9 @@ ghost use Rattle.mg_merge.specs.Sharding.{Document, rows_of, lists_of};
 use crate::ranked::Ranked;
 use mg_collate::Direction;
 
-/// It does not matter which shard has a document, nor how many rows the document has: the lists of all
-/// shards, joined and sorted, are the sorted rows of all documents, with no row lost or repeated. So a
-/// merge of the lists gives the first rows of all documents.
+/// Any shard may have a document, and a document may have any number of rows: the lists of all shards, joined
+/// and sorted, are the sorted rows of all documents, with no row lost or repeated. Therefore a merge of the
+/// lists gives the first rows of all documents.
 pub fn any_sharding()
     ensures joined_and_sorted { (direction : Direction) (rows : Document → List RowValue)
         (documents : List Document) (shards : List (List Document))
@@ -27,8 +27,8 @@ pub fn any_sharding()
 {}
 
 /// Lists that are in order may be cut to their first `count` rows before they are merged: they stay in
-/// order, and the merge gives the same rows. So a shard need not hand over more rows than the page skips
-/// and shows.
+/// order, and the merge gives the same rows. Therefore a shard need not hand over more rows than the page
+/// skips and shows.
 pub fn cut_lists()
     ensures in_order { (direction : Direction) (count : ℕ) (lists : List (List RowValue))
         → All (IsInOrder direction) lists

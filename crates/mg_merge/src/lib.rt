@@ -8,7 +8,7 @@ mod merging;
 mod order;
 mod pulled;
 mod ranked;
-mod rests;
+mod remaining;
 mod source;
 mod tournament;
 mod work;

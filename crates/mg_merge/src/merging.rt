@@ -2,24 +2,25 @@ ghost use Rattle.std.specs.Prelude.{◌≡◌, All, IfOk, length, map, take};
 ghost use Rattle.mg_collate.specs.Row.{rows_view};
 ghost use Rattle.mg_collate.specs.Sorted.{IsInOrder};
 ghost use Rattle.mg_merge.specs.Merged.{IsInOrderBy, contents_of, lists_view, merged, merged_by};
-ghost use Rattle.mg_merge.specs.Rests.{lent_of};
+ghost use Rattle.mg_merge.specs.Remaining.{lent_of};
 
 use crate::ranked::Ranked;
-use crate::rests::{take_first, whole_lists};
+use crate::remaining::{take_first, whole_lists};
 use crate::tournament::Tournament;
 use crate::work::Work;
 use mg_collate::{Direction, Row};
 use mg_value::NoMemory;
 use std::alloc::Global;
 
-/// Merges the lists, and returns their first `take` rows in the direction's order (fewer only if
-/// the lists have fewer, and none lost or repeated), and the lengths of the lists and of the result.
-/// Each list must be in that order, which `are_in_order` tests; it may be empty.
+/// Merges the lists. Returns their first `take` rows in the direction's order (fewer only if the lists have
+/// fewer; none lost or repeated), and the lengths of the lists and of the result. Each list must be in that
+/// order, which `are_in_order` tests; lists may be empty.
 ///
 /// Errors: `NoMemory` if an allocation fails.
-/// Cost: a copy of each row of the result; one comparison less than there are lists, and for each of these
-/// rows at most the logarithm of the number of lists to base 2, rounded up. Of the other rows only the first
-/// one left of each list is read, and none is copied.
+/// Cost: a copy of each row of the result; one comparison fewer than there are lists, and for each row of the
+/// result at most as many comparisons as the logarithm of the number of lists to base 2, rounded up. Of the
+/// rows that are not in the result, at most the first one of each list is read. Memory: for each row of the
+/// result its copy and a reference, however large `take` is; for each list a slice and three numbers.
 pub fn merge(
     alloc: Global,
     lists: &[Vec<Row>],
@@ -38,15 +39,15 @@ pub fn merge(
     Ok((rows, work))
 }
 
-/// Merges the lists, and returns their first `take` items in the direction's order of their rows
-/// (fewer only if the lists have fewer, and none lost or repeated), and the lengths of the
-/// lists and of the result. Of items with equal rows, those of an earlier list come first. Each list
-/// must be in that order, which `items_are_in_order` tests; it may be empty.
+/// Merges the lists. Returns their first `take` items in the direction's order of their rows (fewer only if
+/// the lists have fewer; none lost or repeated), and the lengths of the lists and of the result. Of items with
+/// equal rows, those of an earlier list come first. Each list must be in the direction's order, which
+/// `items_are_in_order` tests; lists may be empty.
 ///
 /// Errors: `NoMemory` if an allocation fails.
-/// Cost: one comparison less than there are lists, and for each item of the result at most the logarithm of
-/// the number of lists to base 2, rounded up. No row is copied. Memory: an item and a reference for each item
-/// of the result, even if `take` is larger, and a slice and three numbers for each list.
+/// Cost: one comparison fewer than there are lists, and for each item of the result at most as many comparisons
+/// as the logarithm of the number of lists to base 2, rounded up. No row is copied. Memory: for each item of
+/// the result an item and a reference, however large `take` is; for each list a slice and three numbers.
 pub fn merge_items<T: Ranked + Copy>(
     alloc: Global,
     lists: &[Vec<T>],
@@ -65,7 +66,7 @@ pub fn merge_items<T: Ranked + Copy>(
     Ok((items, work))
 }
 
-// The first `take` items, borrowed from the lists.
+// Borrows the first `take` items of the lists, in the direction's order.
 fn first_lent<'a, T: Ranked>(
     alloc: Global,
     lists: &'a [Vec<T>],
@@ -79,11 +80,11 @@ fn first_lent<'a, T: Ranked>(
     if lists.len() == 1 {
         return first_of_one(alloc, lists[0].as_slice(), take);
     }
-    let mut rests = whole_lists(alloc, lists)?;
-    let mut tournament = Tournament::new(alloc, &rests, direction)?;
+    let mut remaining = whole_lists(alloc, lists)?;
+    let mut tournament = Tournament::new(alloc, &remaining, direction)?;
     let mut lent = Vec::new(alloc);
     while lent.len() < take {
-        match take_first(&mut rests, &mut tournament, direction) {
+        match take_first(&mut remaining, &mut tournament, direction) {
             Some(item) => lent.push(item)?,
             None => return Ok(lent),
         }
@@ -91,7 +92,7 @@ fn first_lent<'a, T: Ranked>(
     Ok(lent)
 }
 
-// The first items of a single list: there is nothing to compare.
+// Borrows the first `count` items of a single list, without a comparison.
 fn first_of_one<'a, T>(alloc: Global, list: &'a [T], count: usize) -> Result<Vec<&'a T>, NoMemory>
     ensures { IfOk result (λ lent. lent_of lent.items ≡ take count list.now) }
 {

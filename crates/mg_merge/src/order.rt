@@ -8,7 +8,7 @@ use std::cmp::Ordering;
 
 /// Whether each list is in the direction's order, as `merge` requires.
 ///
-/// Cost: a comparison for each row. Takes no memory.
+/// Cost: at most a comparison for each row. Takes no memory.
 pub fn are_in_order(lists: &[Vec<Row>], direction: Direction) -> bool
     ensures { IsTrue result ↔ All (IsInOrder direction) (lists_view lists.now) }
 {
@@ -17,7 +17,7 @@ pub fn are_in_order(lists: &[Vec<Row>], direction: Direction) -> bool
 
 /// Whether each list is in the direction's order, as `merge_items` requires.
 ///
-/// Cost: a comparison for each item. Takes no memory.
+/// Cost: at most a comparison for each item. Takes no memory.
 pub fn items_are_in_order<T: Ranked>(lists: &[Vec<T>], direction: Direction) -> bool
     ensures { IsTrue result ↔ All (IsInOrderBy T.row_of direction) (contents_of lists.now) }
 {

@@ -1,4 +1,4 @@
-//! A merge that pulls from its sources only what it needs: one item from each, then one for each item taken.
+//! A merge that pulls from its sources only what it needs: first one item from each, then one for each item taken.
 ghost use Rattle.std.specs.Prelude.{◌≡◌, ◌≤◌, ◌+◌, ◌∷◌, ◌++◌, [], List, Option, All, IfOk, IfSome, IfNone, OnOk, length, map, option_map, take};
 ghost use Rattle.mg_collate.specs.Row.{directed_order};
 ghost use Rattle.mg_collate.specs.Sorted.{IsInOrder, sorted};
@@ -12,16 +12,18 @@ use mg_collate::Direction;
 use mg_value::NoMemory;
 use std::alloc::Global;
 
-// The first capacity of the result.
+// The most items that the result has room for at first.
 const FIRST_ROOM: usize = 64;
 
 /// Merges the sources. Returns their first `take` items in the direction's order of their rows (fewer only if
 /// the sources have fewer; none lost or repeated), and how many items were pulled: at most `take` plus the
-/// number of sources. Each source must be in that order; it may be empty.
+/// number of sources. Items that were pulled and are not in the result are dropped. Each source must be in the
+/// direction's order; sources may be empty.
 ///
-/// Errors: `NoMemory` if an allocation fails.
-/// Cost: what the sources need for the items that are pulled; one comparison less than there are sources, and
-/// for each item of the result at most the logarithm of the number of sources to base 2, rounded up.
+/// Errors: `NoMemory` if an allocation fails; then items may have been pulled from the sources, and are lost.
+/// Cost: what the sources need for the items that are pulled; one comparison fewer than there are sources, and
+/// for each item of the result at most as many comparisons as the logarithm of the number of sources to base
+/// 2, rounded up. Memory: the items of the result, and for each source an item and two numbers.
 pub fn merge_pulled<T: Ranked + Copy, S: RowSource<T>>(
     alloc: Global,
     sources: &mut [S],
@@ -61,7 +63,7 @@ fn first_heads<T: Ranked + Copy, S: RowSource<T>>(
     Ok(heads)
 }
 
-// Takes the first `take` items. `heads` has the first item of each source already.
+// Takes the first `take` items. The head of each source must have been pulled.
 fn merge_heads<T: Ranked + Copy, S: RowSource<T>>(
     alloc: Global,
     heads: &mut Vec<Option<T>>,
@@ -129,7 +131,7 @@ fn pull_first<T: Ranked + Copy, S: RowSource<T>>(
     Some(item)
 }
 
-// How many heads there are: items that were pulled but not taken.
+// Counts the heads: items that were pulled and not taken.
 fn count_heads<T: Ranked + Copy>(heads: &[Option<T>]) -> usize
     ensures count { result ≡ length (joined (firsts_of heads.now)) }
     ensures within { result ≤ length heads.now }

@@ -1,12 +1,12 @@
 //! A winner tree of lists: Knuth, The Art of Computer Programming, volume 3, section 5.4.1.
 //!
-//! Of n lists, place n + k has the number k, and each place j from 1 to n - 1 has the winner of the places 2 j
-//! and 2 j + 1: the number of the list that begins first. Place 1 has the winner of all. After one list has
-//! changed, only the places above it are decided again. A sorted queue would need more comparisons at the
-//! beginning, and would move its entries.
+//! In the tree of n lists, place n + k has the number k, and each place j from 1 to n - 1 has the winner of the
+//! places 2 j and 2 j + 1: the number of the list that begins first. Place 1 has the winner of all. After one
+//! list has changed, only the places above that list are decided again. A sorted queue would need more
+//! comparisons at the beginning, and would move its entries.
 ghost use Rattle.std.specs.Prelude.{◌≡◌, ◌+◌, ◌*◌, ◌<◌, ◌≤◌, ℕ, get_or, length, IfOk, IfSome, IfNone};
 ghost use Rattle.mg_merge.specs.Merged.{order_by};
-ghost use Rattle.mg_merge.specs.Rests.{turn_order};
+ghost use Rattle.mg_merge.specs.Remaining.{turn_order};
 ghost use Rattle.mg_merge.specs.Tournament.{IsWinnerTree, IsWinnerTreeBut, first_of_two};
 
 use crate::firsts::Firsts;
@@ -23,7 +23,7 @@ pub(crate) struct Tournament {
 }
 
 impl Tournament {
-    // The winner tree of the lists. Cost: one comparison less than there are lists.
+    // Makes the winner tree of the lists. Cost: one comparison fewer than there are lists.
     pub(crate) fn new<T: Ranked, B: Firsts<T>>(
         alloc: Global,
         lists: &B,
@@ -41,7 +41,8 @@ impl Tournament {
         Ok(Tournament { places })
     }
 
-    // The number of the list that begins first; if several tie, the least of their numbers. `None` if there are no lists.
+    // Returns the number of the list that begins first; if several tie, the least of their numbers. `None` if there are no
+    // lists.
     pub(crate) fn first(&self) -> Option<usize>
         ensures some { IfSome result (λ first. (1 < length self.now.places.items)
             × (first ≡ get_or self.now.places.items 1 0)) }
@@ -50,8 +51,8 @@ impl Tournament {
         self.places.get(1).copied()
     }
 
-    // Decides the places above a list again, after the list has changed.
-    // Cost: a comparison for each, at most the logarithm of the number of lists to base 2, rounded up.
+    // Decides the places above a list again, after the list has changed. Cost: a comparison for each such place. There
+    // are at most as many as the logarithm of the number of lists to base 2, rounded up.
     pub(crate) fn update<T: Ranked, B: Firsts<T>>(
         &mut self,
         lists: &B,
@@ -73,7 +74,7 @@ impl Tournament {
     }
 }
 
-// The places of a tree of `count` lists, before any winner is known.
+// Makes the places of a tree of `count` lists, before any winner is known.
 fn bottom(alloc: Global, count: usize) -> Result<Vec<usize>, NoMemory>
     ensures size { IfOk result (λ places. length places.items ≡ 2 * count) }
     ensures bottom { IfOk result
@@ -87,7 +88,7 @@ fn bottom(alloc: Global, count: usize) -> Result<Vec<usize>, NoMemory>
     Ok(places)
 }
 
-// The winner at `place`: which of the numbers at the two places right below comes first.
+// Finds the winner at `place`: of the numbers at the two places right below, the one that comes first.
 fn winner<T: Ranked, B: Firsts<T>>(
     places: &[usize],
     lists: &B,

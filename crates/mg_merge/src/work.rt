@@ -4,7 +4,8 @@ use mg_value::NoMemory;
 use std::alloc::Global;
 use std::marker::Model;
 
-/// The lengths of the lists that a merge was given, and of its result. Only a merge makes one.
+/// The lengths of the lists that were given to `merge` or `merge_items`, and the length of the result. Only these two
+/// functions make a `Work`.
 #[derive(Debug, Drop)]
 pub struct Work {
     handed: Vec<u64>,
@@ -22,21 +23,21 @@ impl Model for Work {
 }
 
 impl Work {
-    /// The lengths of the lists, in their order. Takes no memory.
+    /// Lends the lengths of the lists, in the order of the lists. Takes no memory.
     pub fn handed(&self) -> &[u64]
         ensures { result.now ≡ self.now.handed }
     {
         &self.handed
     }
 
-    /// The length of the result. Takes no memory.
+    /// Returns the length of the result. Takes no memory.
     pub fn taken(&self) -> u64
         ensures { result ≡ self.now.taken }
     {
         self.taken
     }
 
-    // The work of a merge of these lists whose result has the length `taken`.
+    // Makes the `Work` of a merge of `lists`, given the length of its result.
     pub(crate) fn of<T>(alloc: Global, lists: &[Vec<T>], taken: usize) -> Result<Work, NoMemory>
         ensures handed { IfOk result (λ w. w.handed ≡ map (λ l. length l.items) lists.now) }
         ensures taken { IfOk result (λ w. w.taken ≡ taken) }

@@ -13,7 +13,7 @@ use Rattle.mg_normal.specs.View.{condition_of, conditions_view}
 use Rattle.mg_normal.specs.declared.condition.Condition.{Condition}
 use Rattle.mg_normal.proofs.Necessary.{part_of-append}
 
--- the conditions, before the rest
+-- what the list of `Condition` stands for, and then the conditions in `rest`
 abbrev pub conditions_before : List Condition → Conditions → Conditions
 conditions_before [] rest = rest
 conditions_before (f ∷ fs) rest = condition (condition_of f) (conditions_before fs rest)
@@ -26,7 +26,7 @@ pub conditions_before-push : (fs : List Condition) (f : Condition) (rest : Condi
 conditions_before-push [] f rest = refl
 conditions_before-push (g ∷ fs) f rest = ap (condition (condition_of g)) (conditions_before-push fs f rest)
 
--- one more condition of which something is left
+-- one more condition that has a rest
 pub one_left : (rest : List Condition) (left : Condition) (f : ConditionValue) (rs : Conditions) → Some (condition_of left) ≡ rest_of f → conditions_before rest (with_left (rest_of f) rs) ≡ conditions_before (rest ++ left ∷ []) rs
 one_left rest left f rs e = ap (λ r. conditions_before rest (with_left r rs)) (sym e) ∙ conditions_before-push rest left rs
 
@@ -34,7 +34,7 @@ pub all_left-some : (fs : List Condition) → (length fs ≡ 0 → ⊥) → all_
 all_left-some [] some = absurd (some refl)
 all_left-some (f ∷ fs) some = refl
 
--- the first steps are those that were there
+-- cut to the old length, the steps are the old ones
 pub truncated : (steps olds : List (String Global)) (more : List (List ℕ)) → map string_bytes steps ≡ map string_bytes olds ++ more → map string_bytes (take (length olds) steps) ≡ map string_bytes olds
 truncated steps [] more e = refl
 truncated [] (o ∷ olds) more e = absurd cc
@@ -47,7 +47,7 @@ and_true : (b : Bool) → b ≡ ((b && true) && true)
 and_true true = refl
 and_true false = refl
 
--- a conjunction of pairs, the firsts and then the seconds
+-- a conjunction of two pairs is that of their first parts and their second parts
 pairs : (a r b s : Bool) → ((a && r) && (b && s)) ≡ ((a && b) && (r && s))
 pairs true true b s = refl
 pairs true false true s = refl

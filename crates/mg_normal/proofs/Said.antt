@@ -22,21 +22,21 @@ one_more [] (g ∷ fs) sense s f all one = absurd all
 one_more (t ∷ ss) [] sense s f all one = absurd all
 one_more (t ∷ ss) (g ∷ fs) sense s f all one = (all.0, one_more ss fs sense s f all.1 one)
 
--- there are conditions where there are arms
+-- there are no conditions exactly if there are no arms
 no_conditions_said : (ss : Arms) (sense : Sense) (fs : Conditions) → AllSay ss sense fs → is_no_conditions fs ≡ is_no_arms ss
 no_conditions_said no_arms sense no_conditions h = refl
 no_conditions_said no_arms sense (condition f fs) h = absurd h
 no_conditions_said (arm s ss) sense no_conditions h = absurd h
 no_conditions_said (arm s ss) sense (condition f fs) h = refl
 
--- each condition holds where each arm does
+-- all conditions hold exactly if all arms do
 every_said : (ss : Arms) (sense : Sense) (fs : Conditions) → AllSay ss sense fs → (x : Option Value) → every_condition fs x ≡ every_arm ss sense x
 every_said no_arms sense no_conditions h x = refl
 every_said no_arms sense (condition f fs) h x = absurd h
 every_said (arm s ss) sense no_conditions h x = absurd h
 every_said (arm s ss) sense (condition f fs) h x = ap₂ ◌&&◌ (h.0.0 x) (every_said ss sense fs h.1 x)
 
--- some condition holds where some arm does
+-- some condition holds exactly if some arm does
 some_said : (ss : Arms) (sense : Sense) (fs : Conditions) → AllSay ss sense fs → (x : Option Value) → some_condition fs x ≡ some_arm ss sense x
 some_said no_arms sense no_conditions h x = refl
 some_said no_arms sense (condition f fs) h x = absurd h
@@ -50,20 +50,20 @@ atoms_said no_arms sense (condition f fs) h steps = absurd h
 atoms_said (arm s ss) sense no_conditions h steps = absurd h
 atoms_said (arm s ss) sense (condition f fs) h steps = ap₂ ◌++◌ (h.0.1 steps) (atoms_said ss sense fs h.1 steps)
 
--- one level of the view
+-- what a `Condition` of a list of conditions stands for
 pub condition_of-All : (conditions : Vec Condition Global) → condition_of (made.All conditions) ≡ all_of (conditions_view conditions.items)
 condition_of-All conditions = search (rules, the_lemmas)
 
 condition_of-Any : (conditions : Vec Condition Global) → condition_of (made.Any conditions) ≡ any_of (conditions_view conditions.items)
 condition_of-Any conditions = search (rules, the_lemmas)
 
--- all of the conditions say that every arm holds
+-- the condition that requires all of these says that every arm holds
 pub all_said : (ss : Arms) (sense : Sense) (conditions : Vec Condition Global) → AllSay ss sense (conditions_view conditions.items) → Says (every_arm ss sense) (arms_atoms ss sense) (condition_of (made.All conditions))
 all_said ss sense conditions h =
     let fs = conditions_view conditions.items in
     subst (Says (every_arm ss sense) (arms_atoms ss sense)) (sym (condition_of-All conditions)) (every_said ss sense fs h, atoms_said ss sense fs h)
 
--- some of the conditions say that some arm holds, if there is an arm
+-- the condition that requires one of these says that some arm holds, or that there is no arm
 pub any_said : (ss : Arms) (sense : Sense) (conditions : Vec Condition Global) → AllSay ss sense (conditions_view conditions.items) → Says (λ x. is_no_arms ss || some_arm ss sense x) no_atoms (condition_of (made.Any conditions))
 any_said ss sense conditions h =
     let fs = conditions_view conditions.items in

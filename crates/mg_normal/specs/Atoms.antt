@@ -1,7 +1,8 @@
 -- The atoms of a selector: operators that have to hold for it to hold, each on the part at a path from the top of the document. Key
 -- ranges come from atoms alone.
--- An object of several members has no atoms in the negated sense, and `$or` of one arm has none in the plain sense; this is the
--- project's own choice. Operators inside `$elemMatch` and `$allMatch` are asked of elements, so `$elemMatch` and `$allMatch` are atoms.
+-- If one of several arms is enough, no arm has to hold. If there is only one arm, that arm has to hold; but, by the project's own choice,
+-- its atoms are taken only in a negated object: a plain `$or`, a negated `$and` and a negated `$nor` have no atoms. `$elemMatch` and
+-- `$allMatch` are atoms as a whole, since the operators inside them are evaluated on elements.
 use Rattle.std.specs.Prelude.{ℕ, Bool, List, [], ◌∷◌, ◌++◌, Option, option_and_then}
 use Rattle.mg_value.specs.Value.{Value}
 use Rattle.mg_path.specs.Part.{part_of}
@@ -21,9 +22,10 @@ abbrev pub atom_holds : Option Value → Atom → Bool
 atom_holds x a = operator_holds a.operator a.sense (option_and_then (part_of a.steps) x)
 
 abbrev mutual
-  -- the atoms of a selector that is asked, in the sense, of the part at the steps
+  -- the atoms of a selector, in a sense, on the part at the steps
   pub atoms_in : Selector → Sense → List (List ℕ) → List Atom
-  -- an object: the atoms of its members in the plain sense, those of its only member in the negated sense
+  -- an object: the atoms of its members in the plain sense; in the negated sense those of its only member, and none unless it has one
+  -- member
   atoms_in (members ss) Plain steps = arms_atoms ss Plain steps
   atoms_in (members ss) Negated steps = only_atoms ss Negated steps
   -- arms: the atoms of all arms if all have to hold, and none if one arm is enough
@@ -39,12 +41,12 @@ abbrev mutual
   -- the operator itself
   atoms_in (asks o) sense steps = record { steps = steps; operator = o; sense = sense } ∷ []
 
-  -- the atoms of each arm
+  -- the atoms of all arms, in order
   pub arms_atoms : Arms → Sense → List (List ℕ) → List Atom
   arms_atoms no_arms sense steps = []
   arms_atoms (arm s ss) sense steps = atoms_in s sense steps ++ arms_atoms ss sense steps
 
-  -- the atoms of the only arm
+  -- the atoms of the only arm; none unless there is exactly one
   pub only_atoms : Arms → Sense → List (List ℕ) → List Atom
   only_atoms (arm s no_arms) sense steps = atoms_in s sense steps
   only_atoms ss sense steps = []

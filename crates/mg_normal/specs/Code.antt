@@ -16,7 +16,9 @@ atom_code =
     code_by (List (List ℕ) × (Operator × Sense)) (coded× (coded_list (coded_list coded_ℕ)) (coded× operator_code sense_row.the_row.coded))
     (λ a. (a.steps, (a.operator, a.sense))) (λ p. record { steps = p.0; operator = p.1.0; sense = p.1.1 }) (λ _. refl)
 
--- an instruction: push an operator in a sense, wrap in a path, or, by number, close, begin or extend a list
+-- an instruction: push an operator in a sense; wrap the condition on top in a path; or, by number: pop a list and push a condition that
+-- requires all conditions of the list (0) or any of them (1); begin a list (2); move the condition on top to the front of the list on top
+-- (any other number; 3 is the one in use)
 abbrev pub Instruction : Type 0
 Instruction = (Operator × Sense) ⊎ (List (List ℕ) ⊎ ℕ)
 
@@ -24,17 +26,17 @@ Instruction = (Operator × Sense) ⊎ (List (List ℕ) ⊎ ℕ)
 abbrev pub Stacks : Type 0
 Stacks = List Condition × List Conditions
 
--- wraps the condition on top in the path
+-- wraps the condition on top in the path; changes nothing without a condition
 abbrev below_path : List (List ℕ) → List Condition → List Condition
 below_path path [] = []
 below_path path (f ∷ a) = within path f ∷ a
 
--- pops a list of conditions, and pushes one condition made of it
+-- pops a list of conditions, and pushes one condition made of it; changes nothing without a list
 abbrev close : (Conditions → Condition) → List Condition → List Conditions → Stacks
 close make a [] = (a, [])
 close make a (fs ∷ b) = (make fs ∷ a, b)
 
--- pops a condition, and puts it at the front of the list of conditions on top
+-- pops a condition, and puts it at the front of the list of conditions on top; changes nothing without a condition or a list
 abbrev join : List Condition → List Conditions → Stacks
 join [] b = ([], b)
 join (f ∷ a) [] = (f ∷ a, [])
@@ -59,11 +61,12 @@ abbrev mutual
   condition_instructions (within path f) = condition_instructions f ++ inr (inl path) ∷ []
   condition_instructions (asked o sense) = inl (o, sense) ∷ []
 
+  -- the instructions that push a list of conditions
   conditions_instructions : Conditions → List Instruction
   conditions_instructions no_conditions = inr (inr 2) ∷ []
   conditions_instructions (condition f fs) = condition_instructions f ++ (conditions_instructions fs ++ inr (inr 3) ∷ [])
 
--- the condition on top
+-- the condition on top; of an empty stack, one that always holds
 abbrev top : List Condition → Condition
 top [] = all_of no_conditions
 top (f ∷ a) = f
@@ -72,7 +75,7 @@ top (f ∷ a) = f
 abbrev condition_from : List Instruction → Condition
 condition_from xs = top (run_all xs ([], [])).0
 
--- running a condition's instructions pushes that condition, and those of a list of conditions push that list
+-- the instructions of a condition push that condition, and the instructions of a list of conditions push that list
 mutual
   run_condition : (f : Condition) (xs : List Instruction) (s : Stacks) → run_all (condition_instructions f ++ xs) s ≡ run_all xs (f ∷ s.0, s.1)
   run_condition (all_of fs) xs s = ap (λ ys. run_all ys s) (append_assoc (conditions_instructions fs) (inr (inr 0) ∷ []) xs) ∙ run_conditions fs (inr (inr 0) ∷ xs) s

@@ -1,5 +1,5 @@
 -- Selectors in which only operators are negated, after the selector syntax of the CouchDB 3.x API reference and De Morgan's laws.
--- An empty list of conditions holds, even where one condition would be enough; this is the project's own choice, as for selectors.
+-- An empty list of conditions holds, both as `all_of` and as `any_of`; this is the project's own choice, as for selectors.
 use Rattle.std.specs.Prelude.{ℕ, Bool, true, false, ◌&&◌, ◌||◌, List, Option, option_and_then}
 use Rattle.mg_value.specs.Value.{Value}
 use Rattle.mg_path.specs.Part.{part_of}
@@ -12,7 +12,7 @@ mutual
   pub data Condition : Type 0 where
     -- all of the conditions
     all_of : Conditions → Condition
-    -- at least one of the conditions; an empty list holds
+    -- at least one of the conditions; true also for an empty list
     any_of : Conditions → Condition
     -- the condition on the part at the steps
     within : List (List ℕ) → Condition → Condition

@@ -1,4 +1,4 @@
--- What atoms are for: a document has to meet each of them for the selector to hold, so a search may begin with them.
+-- Why a search may begin with atoms: a selector holds only of documents of which all its atoms hold.
 use Rattle.std.specs.Prelude.{◌≡◌, true, Option}
 use Rattle.std.specs.List.{All}
 use Rattle.mg_value.specs.Value.{Value}

@@ -10,7 +10,7 @@ use Rattle.mg_normal.specs.Atoms.{Atom, atoms_of, atom_holds}
 use Rattle.mg_normal.specs.Code.{atom_code, condition_code}
 use Rattle.mg_normal.specs.Condition.{Condition, condition_holds}
 
--- a normal form: its atoms, and what it asks besides, if anything
+-- a normal form: its atoms, and what it requires besides them, if anything
 pub record NormalForm : Type 0 where
   pub atoms : List Atom
   pub rest : Option Condition

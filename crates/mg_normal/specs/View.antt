@@ -9,12 +9,12 @@ use Rattle.mg_normal.specs.declared.atom.Atom.{Atom}
 use Rattle.mg_normal.specs.declared.condition.Condition.{Condition, fold-Condition}
 use Rattle.mg_normal.specs.declared.condition.Condition.TheOpen.{Condition-F}
 
--- the conditions in a list
+-- a list of conditions as `Conditions`
 abbrev pub conditions_of : List ConditionValue → Conditions
 conditions_of [] = no_conditions
 conditions_of (f ∷ fs) = condition f (conditions_of fs)
 
--- one level of a condition, with what is inside already seen
+-- what one level of a condition stands for, from what the conditions inside it stand for
 abbrev pub condition_step : Condition-F ConditionValue → ConditionValue
 condition_step (Condition-F.All fs) = all_of (conditions_of fs.items)
 condition_step (Condition-F.Any fs) = any_of (conditions_of fs.items)
@@ -38,6 +38,6 @@ sense_of true = Negated
 abbrev pub atom_view : Atom → AtomValue
 atom_view a = record { steps = map string_bytes a.steps.items; operator = operator_of a.op; sense = sense_of a.negated }
 
--- the atoms that these stand for
+-- the atoms that a list of `Atom` stands for
 abbrev pub atoms_view : List Atom → List AtomValue
 atoms_view atoms = map atom_view atoms

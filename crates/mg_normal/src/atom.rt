@@ -7,7 +7,7 @@ use mg_path::part_of;
 use mg_selector::{Op, Sense};
 use mg_value::LentValue;
 
-/// An operator that a selector requires in every case, with its sense and the path of its part from the top of
+/// An operator that a selector requires in every case, with its sense, and the path to its part from the top of
 /// the document.
 #[derive(Debug, Drop)]
 pub struct Atom {
@@ -15,11 +15,11 @@ pub struct Atom {
     pub steps: Vec<String>,
     /// The operator, with its argument.
     pub op: Op,
-    /// Whether the negated sense is asked.
+    /// Whether the sense is negated: the operator's negation has to hold.
     pub negated: bool,
 }
 
-// Whether each of the atoms holds of the document.
+// Whether each of the atoms holds of the document; true also without atoms.
 pub(crate) fn all_hold<L: LentValue>(atoms: &[Atom], document: L) -> bool
     ensures { result ≡ all_hold (Some (L.value document)) (atoms_view atoms.now) }
 {
@@ -48,7 +48,6 @@ fn sense_of(negated: bool) -> Sense
     }
 }
 
-// Whether the sense is the negated one.
 pub(crate) fn is_negated(sense: Sense) -> bool
     ensures { sense_of result ≡ sense }
 {

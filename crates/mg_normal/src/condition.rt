@@ -6,10 +6,10 @@ use mg_selector::{Op, Sense};
 pub(crate) enum Condition {
     /// All of these.
     All(Vec<Condition>),
-    /// At least one of these; an empty list holds.
+    /// At least one of these; true also for an empty list.
     Any(Vec<Condition>),
-    /// The condition on the part at the path.
+    /// The condition, on the part at the path.
     At(Path, Box<Condition>),
-    /// An operator on the current part, in a sense.
+    /// The operator, in the sense, on the current part.
     Ask(Op, Sense),
 }

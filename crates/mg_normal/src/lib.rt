@@ -1,4 +1,4 @@
-//! The normal form of selectors, in which only operators are negated, and the atoms of selectors.
+//! The normal form of a selector: only operators are negated, and atoms (operators that have to hold) are kept apart from the rest.
 #![tactic(auto)]
 
 mod atom;

@@ -30,6 +30,7 @@ fn holds<L: LentValue>(condition: &Condition, part: Option<L>) -> bool
     }
 }
 
+// Whether each condition holds of the part; true also for an empty list.
 #[cycle(holds)]
 fn every_condition<L: LentValue>(conditions: &[Condition], part: Option<L>) -> bool
     ensures { result ≡ every_condition (conditions_view conditions.now) (option_map L.value part) }
@@ -42,7 +43,7 @@ fn every_condition<L: LentValue>(conditions: &[Condition], part: Option<L>) -> b
     true
 }
 
-// True also for an empty list.
+// Whether some condition holds of the part; true also for an empty list.
 #[cycle(holds)]
 fn some_condition<L: LentValue>(conditions: &[Condition], part: Option<L>) -> bool
     ensures { result ≡ (is_no_conditions (conditions_view conditions.now)

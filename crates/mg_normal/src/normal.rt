@@ -15,10 +15,10 @@ use std::alloc::Global;
 use std::marker::Model;
 
 /// A selector in its normal form: its negations are pushed inwards until each negates an operator. The
-/// atoms, which are the operators that have to hold for the selector to hold, are kept apart from the rest.
+/// atoms (operators that have to hold for the selector to hold, see `atoms`) are kept apart from the rest.
 ///
-/// A negated operator is not the complement: on a missing part neither holds, except for `$exists`.
-/// An empty list of arms holds in both senses.
+/// The negation of an operator is not its complement: on a missing part, neither the operator nor its negation
+/// holds. `$exists` is the exception: either it or its negation holds. An empty list of arms holds in both senses.
 #[derive(Debug, Drop)]
 pub struct Normal {
     atoms: Vec<Atom>,
@@ -39,10 +39,10 @@ impl Model for Normal {
 }
 
 impl Normal {
-    /// The normal form of the selector, with its atoms.
+    /// Makes the normal form of the selector.
     ///
-    /// Errors: `NoMemory` if an allocation fails. Cost: the size of the selector, with one copy of each
-    /// operator, and for each atom the steps of its whole path.
+    /// Errors: `NoMemory` if an allocation fails. Cost: the size of the selector: each operator is copied once, and
+    /// for each atom the steps of its whole path.
     /// Source: `$not`, `$and`, `$or` and `$nor` of CouchDB's `_find`.
     pub fn of(alloc: Global, selector: &Sel) -> Result<Normal, NoMemory>
         ensures { IfOk result (λ normal. IsNormalOf (selector_of selector.now) normal) }
@@ -56,8 +56,8 @@ impl Normal {
 
     /// Whether the selector holds of the document. Takes no memory.
     ///
-    /// Cost: each operator once, with the way to its part, which for an atom begins at the top of the
-    /// document; inside `$elemMatch` and `$allMatch` once for each element that they look at.
+    /// Cost: at most, for each operator, the steps to its part (for an atom, from the top of the document) and one
+    /// evaluation. An operator inside `$elemMatch` or `$allMatch` is evaluated for each element that these look at.
     #[inline]
     pub fn holds(&self, value: &Json) -> bool
         ensures { result ≡ normal_holds self.now (Some (view value.now)) }
@@ -65,7 +65,7 @@ impl Normal {
         self.holds_of(value)
     }
 
-    /// Whether the selector holds of the lent document, as for `holds`. Takes no memory. Cost: as for `holds`.
+    /// Does what `holds` does, for any lent document. Takes no memory. Cost: that of `holds`.
     #[inline]
     pub fn holds_of<L: LentValue>(&self, value: L) -> bool
         ensures { result ≡ normal_holds self.now (Some (L.value value)) }
@@ -73,11 +73,12 @@ impl Normal {
         all_hold(&self.atoms, value.lend()) && rest_holds(self.rest.as_ref(), value)
     }
 
-    /// The operators that have to hold for the selector to hold, in reading order: those that are reached
-    /// through paths, `$not`, and lists of which all arms have to hold. Those lists are an object, `$and`
-    /// and `$nor` in the plain sense, and `$or` in the negated sense. An object of one member counts as
-    /// that member in both senses. Operators inside `$elemMatch` and `$allMatch` are left out, since
-    /// `$elemMatch` and `$allMatch` are atoms themselves.
+    /// Returns the atoms: operators that have to hold for the selector to hold, in reading order.
+    ///
+    /// An operator is an atom if nothing is around it but paths, `$not`, and lists that need every arm: an object,
+    /// `$and` and `$nor` in the plain sense, and `$or` in the negated sense. An object of one member counts as that
+    /// member in both senses. Operators inside any other list are not atoms, even if it has only one arm. Operators
+    /// inside `$elemMatch` and `$allMatch` are left out: `$elemMatch` and `$allMatch` are atoms themselves.
     ///
     /// Takes no memory. Cost: constant.
     pub fn atoms(&self) -> &[Atom]
@@ -86,7 +87,7 @@ impl Normal {
         &self.atoms
     }
 
-    /// Whether the selector asks anything besides its atoms. Takes no memory. Cost: constant.
+    /// Whether the selector requires anything besides its atoms. Takes no memory. Cost: constant.
     pub fn has_rest(&self) -> bool
         ensures { result ≡ is_some self.now.rest }
     {

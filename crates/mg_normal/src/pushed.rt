@@ -11,7 +11,9 @@ use mg_selector::{Sel, Sense};
 use mg_value::NoMemory;
 use std::alloc::Global;
 
-/// The condition of the selector in the sense, with its negations pushed inwards to the operators.
+/// Makes the condition that says what the selector says in the sense. Negations are pushed inwards to the operators.
+///
+/// Errors: `NoMemory` if an allocation fails. Cost: the size of the selector.
 #[cycle(push_inwards)]
 pub(crate) fn push_inwards(alloc: Global, sel: &Sel, sense: Sense) -> Result<Condition, NoMemory>
     ensures { IfOk result (λ condition. Says (holds_in (selector_of sel.now) sense)
@@ -31,7 +33,7 @@ pub(crate) fn push_inwards(alloc: Global, sel: &Sel, sense: Sense) -> Result<Con
     }
 }
 
-// An object of one member is that member.
+// Makes the condition of an object. An object of one member counts as that member, in both senses.
 #[cycle(push_inwards)]
 fn object(alloc: Global, arms: &[Sel], sense: Sense) -> Result<Condition, NoMemory>
     ensures { IfOk result (λ condition. Says (holds_in (members (arms_view arms.now)) sense)
@@ -65,7 +67,7 @@ fn disjunction(alloc: Global, arms: &[Sel], sense: Sense) -> Result<Condition, N
     }
 }
 
-// The condition that each arm holds in the sense.
+// Makes the condition that holds if each arm holds in the sense.
 #[cycle(push_inwards)]
 fn all_of(alloc: Global, arms: &[Sel], sense: Sense) -> Result<Condition, NoMemory>
     ensures { IfOk result (λ condition. Says (every_arm (arms_view arms.now) sense)
@@ -74,7 +76,7 @@ fn all_of(alloc: Global, arms: &[Sel], sense: Sense) -> Result<Condition, NoMemo
     Ok(Condition::All(push_arms(alloc, arms, sense)?))
 }
 
-// The condition that some arm holds in the sense; it also holds if there are no arms.
+// Makes the condition that holds if some arm holds in the sense, or if there are no arms.
 #[cycle(push_inwards)]
 fn any_of(alloc: Global, arms: &[Sel], sense: Sense) -> Result<Condition, NoMemory>
     ensures { IfOk result (λ condition. Says
@@ -84,6 +86,7 @@ fn any_of(alloc: Global, arms: &[Sel], sense: Sense) -> Result<Condition, NoMemo
     Ok(Condition::Any(push_arms(alloc, arms, sense)?))
 }
 
+// Makes one condition for each arm, in the sense.
 #[cycle(push_inwards)]
 fn push_arms(alloc: Global, arms: &[Sel], sense: Sense) -> Result<Vec<Condition>, NoMemory>
     ensures { IfOk result

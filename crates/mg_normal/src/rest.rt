@@ -9,9 +9,9 @@ use mg_path::Path;
 use mg_value::{NoMemory, copy_texts};
 use std::alloc::Global;
 
-// Makes an atom of each operator that a condition requires in every case, and returns what else the condition requires,
-// if anything. The condition is about the part of the document at `steps`. On success `steps` is as it was; after
-// an error, `atoms` and `steps` may have more items than before.
+// Makes an atom of each operator that a condition requires in every case, and adds it to `atoms`. Returns what else the
+// condition requires, if anything. The condition is on the part of the document at `steps`. On success `steps` is
+// as it was. Errors: `NoMemory` if an allocation fails; then `atoms` and `steps` may have more items than before.
 #[cycle(take_atoms)]
 pub(crate) fn take_atoms(
     alloc: Global,
@@ -46,7 +46,7 @@ pub(crate) fn take_atoms(
     }
 }
 
-// Does what `take_atoms` does, for several conditions. A condition of which nothing is left is dropped.
+// Does what `take_atoms` does, for several conditions. A condition that requires nothing else is left out of the result.
 #[cycle(take_atoms)]
 fn take_all(
     alloc: Global,
@@ -70,8 +70,8 @@ fn take_all(
     Ok(rest)
 }
 
-// Does what `take_atoms` does, for a condition on the part at the path. An operator right below the path takes the
-// path's steps for its own.
+// Does what `take_atoms` does, for a condition on the part at the path, which begins at the part at `steps`. If the
+// condition is an operator, the path's steps are moved into its atom.
 #[cycle(take_atoms)]
 fn take_at(
     alloc: Global,
@@ -100,7 +100,7 @@ fn take_at(
     }
 }
 
-// Does what `take_atoms` does, for a condition on the part at the path.
+// Does what `take_at` does, with copies of the path's steps.
 #[cycle(take_atoms)]
 fn take_below(
     alloc: Global,
@@ -126,8 +126,8 @@ fn take_below(
     Ok(Some(Condition::At(path, Box::new(alloc, rest)?)))
 }
 
-// The steps above and then those of the path. The path's own steps are moved, so that at the top of a selector no
-// step is copied.
+// Joins the steps above and those of the path. The steps above are copied, and those of the path are moved. If there are
+// no steps above, no step is copied.
 fn whole_steps(alloc: Global, above: &[String], path: Path) -> Result<Vec<String>, NoMemory>
     ensures { IfOk result (λ steps. map string_bytes steps.items ≡ map string_bytes above.now ++ path) }
 {
@@ -139,7 +139,7 @@ fn whole_steps(alloc: Global, above: &[String], path: Path) -> Result<Vec<String
     Ok(steps)
 }
 
-// Appends copies of more steps. On an error, some of them may have been appended.
+// Appends copies of more steps. After an error, some of them may have been appended.
 fn extend(steps: &mut Vec<String>, more: &[String]) -> Result<(), NoMemory>
     ensures { OnOk result (map string_bytes steps.new.items
         ≡ map string_bytes steps.old.items ++ map string_bytes more.now) }

@@ -1,4 +1,4 @@
--- The bytes of a value with its text behind them are still those of the value.
+-- The bytes of a value with its compact text behind them still begin with those of the value.
 use Rattle.std.proofs.Common.{◌≡◌, ◌∙◌, ℕ, List, ◌++◌, drop, length, length-append, ap, sym, arith}
 use Rattle.std.proofs.Math.Seq.{drop-append_seam}
 use Rattle.mg_value.specs.Value.{Value}
@@ -7,7 +7,7 @@ use Rattle.mg_packed.specs.Read.{Holds, IsBlock, value_in}
 use Rattle.mg_packed.specs.Written.{IsWritten}
 use Rattle.mg_packed.proofs.Laws.{value_is}
 
--- the block b of w, and behind it the text of w
+-- the block b of w, and behind it the compact text of w
 module _ (b text all : List ℕ) (w : Value) (block : IsBlock b) (is : value_in b ≡ w) (of : text ≡ compact w) (together : all ≡ b ++ text) where
   held : Holds all block.0
   held = record { stored = block.1.0.stored; short = block.1.0.short; rest = text; begins = together ∙ ap (λ x. x ++ text) block.1.1 }

@@ -5,13 +5,13 @@ use Rattle.std.specs.List.{concat}
 use Rattle.mg_value.specs.Value.{Value, null, flag, whole, text, list, object, put, with_member}
 use Rattle.mg_packed.specs.Gap.{offset_in, with_entry, entries_in, IsObjectBlock, names_before, names_up_to}
 use Rattle.mg_value.specs.Stored.{IsStored}
-use Rattle.mg_packed.specs.Packed.{word, offsets, packed, table, named, member_entries}
+use Rattle.mg_packed.specs.Packed.{word, offsets, packed, container, named, member_entries}
 use Rattle.mg_packed.specs.Read.{Holds, IsBlockOf, tag_of, word_of, start_of, members_in}
 use Rattle.mg_packed.proofs.Gaps.{first_offsets, first_entries, last_entries, begin_behind, length-with_entry, concat-with_entry, assembled}
 use Rattle.mg_packed.proofs.Laws.{members_is}
-use Rattle.mg_packed.proofs.Parts.{object_table}
+use Rattle.mg_packed.proofs.Parts.{object_container}
 use Rattle.mg_packed.proofs.Put.{put_entry, put_stored}
-use Rattle.mg_packed.proofs.Entries.{count, offset_is, length-word, length-offsets, length-table}
+use Rattle.mg_packed.proofs.Entries.{count, offset_is, length-word, length-offsets, length-container}
 use Rattle.mg_packed.proofs.Words.{tail}
 
 block : (b : List ℕ) (v : Value) → IsStored v → length (packed v) < 2 ^ 32 → b ≡ packed v → Holds b v
@@ -39,7 +39,7 @@ no_object b (object ms) k w h e = absurd (e (ap tag_of h.begins))
 -- ---- the parts of an object's bytes
 
 pub block_len : (b : List ℕ) → IsObjectBlock b → length b ≡ 5 + 4 * length (entries_in b) + length (concat (entries_in b))
-block_len b h = omega (arith, ap length h.1, length-table (entries_in b))
+block_len b h = omega (arith, ap length h.1, length-container (entries_in b))
 
 pub block_short : (b : List ℕ) → IsObjectBlock b → length b < 2 ^ 32
 block_short b h = omega (arith, ap length h.1, h.0.short)
@@ -47,11 +47,11 @@ block_short b h = omega (arith, ap length h.1, h.0.short)
 pub entry_begins : (b : List ℕ) (i : ℕ) → IsObjectBlock b → i < length (entries_in b) → word_of (drop (5 + 4 * i) b) ≡ offset_in (entries_in b) i
 unfolding start_of
 entry_begins b i h less =
-    let t = object_table b (members_in b) h.0 in
+    let t = object_container b (members_in b) h.0 in
     omega (arith, offset_is b (entries_in b) i t less, count b (entries_in b) t)
 
 behind_count : (b : List ℕ) → IsObjectBlock b → drop 5 b ≡ offsets 0 (entries_in b) ++ concat (entries_in b)
-unfolding table
+unfolding container
 behind_count b h = ap (drop 5) h.1 ∙ drop_at (6 ∷ word (length (entries_in b))) (offsets 0 (entries_in b) ++ concat (entries_in b)) 5 (ap suc (length-word (length (entries_in b))))
 
 behind_table : (b : List ℕ) (n : ℕ) → IsObjectBlock b → n ≡ length (entries_in b) → drop (5 + 4 * n) b ≡ concat (entries_in b)
@@ -93,8 +93,8 @@ pub record IsMade (b new k : List ℕ) (v : Value) (i j n len : ℕ) : Type 0 wh
   pub made : new ≡ ((6 ∷ word n) ++ (offsets 0 (take i (entries_in b)) ++ (word (offset_in (entries_in b) i) ++ offsets (offset_in (entries_in b) i + length (named k (packed v))) (drop j (entries_in b)))))
       ++ (concat (take i (entries_in b)) ++ (named k (packed v) ++ concat (drop j (entries_in b))))
 
-made_table : (b new k : List ℕ) (v : Value) (i j n len : ℕ) → IsMade b new k v i j n len → member_entries (put k v (members_in b)) ≡ with_entry i j (named k (packed v)) (entries_in b)
-made_table b new k v i j n len h =
+made_entries : (b new k : List ℕ) (v : Value) (i j n len : ℕ) → IsMade b new k v i j n len → member_entries (put k v (members_in b)) ≡ with_entry i j (named k (packed v)) (entries_in b)
+made_entries b new k v i j n len h =
     put_entry k v (members_in b)
     ∙ ap (λ x. with_entry x (names_up_to k (members_in b)) (named k (packed v)) (entries_in b)) (sym h.before)
     ∙ ap (λ x. with_entry i x (named k (packed v)) (entries_in b)) (sym h.up_to)
@@ -103,19 +103,19 @@ made_is : (b new k : List ℕ) (v : Value) (i j n len : ℕ) → IsMade b new k 
 made_is b new k v i j n len h =
     let entry = named k (packed v) in
     let counted : n ≡ length (with_entry i j entry (entries_in b)) = omega (arith, h.counted, length-with_entry (entries_in b) entry i j h.ordered h.within) in
-    assembled new (entries_in b) entry i j n counted h.made ∙ ap (λ entries. 6 ∷ table entries) (sym (made_table b new k v i j n len h))
+    assembled new (entries_in b) entry i j n counted h.made ∙ ap (λ entries. 6 ∷ container entries) (sym (made_entries b new k v i j n len h))
 
 pub made_block : (b new k : List ℕ) (v : Value) (i j n len : ℕ) → IsObjectBlock b → IsUtf8 k → IsStored v → IsMade b new k v i j n len → IsBlockOf new (object (put k v (members_in b)))
 made_block b new k v i j n len o utf8 stored h =
     let entry = named k (packed v) in
     let ms = put k v (members_in b) in
-    let size : length (packed (object ms)) ≡ suc (length (table (with_entry i j entry (entries_in b)))) = ap (λ entries. length (6 ∷ table entries)) (made_table b new k v i j n len h) in
+    let size : length (packed (object ms)) ≡ suc (length (container (with_entry i j entry (entries_in b)))) = ap (λ entries. length (6 ∷ container entries)) (made_entries b new k v i j n len h) in
     let short : length (packed (object ms)) < 2 ^ 32 = omega (
       arith,
       size,
       h.small,
       h.long,
-      length-table (with_entry i j entry (entries_in b)),
+      length-container (with_entry i j entry (entries_in b)),
       concat-with_entry (entries_in b) entry i j,
       length-with_entry (entries_in b) entry i j h.ordered h.within,
       begin_behind (entries_in b) j,

@@ -4,9 +4,9 @@ use Rattle.std.proofs.lemmas.List.{append_cancel_left, drop-drop, drop_at, take_
 use Rattle.std.proofs.Math.Seq.{drop-length}
 use Rattle.std.specs.List.{concat}
 use Rattle.mg_value.specs.Value.{Value, null, flag, whole, text, list, object, Items, Members, item_list, member_list}
-use Rattle.mg_packed.specs.Packed.{packed, word, long, offsets, table, named, item_entries, member_entries}
+use Rattle.mg_packed.specs.Packed.{packed, word, long, offsets, container, named, item_entries, member_entries}
 use Rattle.mg_packed.specs.Read.{Holds, HoldsObject, IsBlockOf, word_of, size_of, size_width, tag_of, entry_of, after_text, count_of, start_of, nth_item, nth_name, nth_value, value_in}
-use Rattle.mg_packed.proofs.Entries.{IsTable, count, offset, offset_is, entry_within, length-word, length-offsets, length-long, length-table, length-named, after_text-named}
+use Rattle.mg_packed.proofs.Entries.{IsContainer, count, offset, offset_is, entry_within, length-word, length-offsets, length-long, length-container, length-named, after_text-named}
 use Rattle.mg_packed.proofs.Gaps.{entries_next, joined_again}
 use Rattle.mg_packed.proofs.Laws.{value_is, members_of}
 use Rattle.mg_packed.proofs.Parts.{length-item_entries, length-member_entries, item_entry, member_entry}
@@ -17,22 +17,22 @@ last_left entries i e =
     let less : i < length entries = omega (arith, e) in
     ap concat (entries_next entries i less) ∙ ap (λ n. get_or entries i [] ++ concat (drop n entries)) e ∙ ap (λ xs. get_or entries i [] ++ concat xs) (drop-length entries) ∙ append-nil (get_or entries i [])
 
--- behind the table's offsets
-behind : (b : List ℕ) (entries : List (List ℕ)) (t : IsTable b entries) → drop (5 + 4 * length entries) b ≡ concat entries ++ t.rest
-unfolding table
+-- behind the container's offsets
+behind : (b : List ℕ) (entries : List (List ℕ)) (t : IsContainer b entries) → drop (5 + 4 * length entries) b ≡ concat entries ++ t.rest
+unfolding container
 behind b entries t =
     let front = t.tag ∷ (word (length entries) ++ offsets 0 entries) in
     let long : length front ≡ 5 + 4 * length entries = omega (arith, length-append (word (length entries)) (offsets 0 entries), length-word (length entries), length-offsets 0 entries) in
-    let body : t.tag ∷ (table entries ++ t.rest) ≡ front ++ (concat entries ++ t.rest) =
+    let body : t.tag ∷ (container entries ++ t.rest) ≡ front ++ (concat entries ++ t.rest) =
     ap (λ x. t.tag ∷ x) (ap (λ x. x ++ t.rest) (sym (append_assoc (word (length entries)) (offsets 0 entries) (concat entries))) ∙ append_assoc (word (length entries) ++ offsets 0 entries) (concat entries) t.rest) in
     ap (drop (5 + 4 * length entries)) (t.begins ∙ body) ∙ drop_at front (concat entries ++ t.rest) (5 + 4 * length entries) long
 
-empty_table : (b : List ℕ) (entries : List (List ℕ)) (t : IsTable b entries) → length entries ≡ 0 → drop 5 b ≡ t.rest
-empty_table b [] t e = behind b [] t
-empty_table b (x ∷ entries) t e = absurd (omega (arith, e))
+empty_container : (b : List ℕ) (entries : List (List ℕ)) (t : IsContainer b entries) → length entries ≡ 0 → drop 5 b ≡ t.rest
+empty_container b [] t e = behind b [] t
+empty_container b (x ∷ entries) t e = absurd (omega (arith, e))
 
--- the last entry, with what follows the table
-last_entry : (b : List ℕ) (entries : List (List ℕ)) (i : ℕ) (t : IsTable b entries) → suc i ≡ length entries → entry_of b i ≡ get_or entries i [] ++ t.rest
+-- the last entry, with what follows the container
+last_entry : (b : List ℕ) (entries : List (List ℕ)) (i : ℕ) (t : IsContainer b entries) → suc i ≡ length entries → entry_of b i ≡ get_or entries i [] ++ t.rest
 unfolding entry_of
 last_entry b entries i t e =
     let less : i < length entries = omega (arith, e) in
@@ -46,32 +46,32 @@ last_entry b entries i t e =
 
 -- ---- arrays and objects
 
-abbrev array_table : (b : List ℕ) (vs : Items) → Holds b (list vs) → IsTable b (item_entries vs)
-array_table b vs h = record { tag = 5; rest = h.rest; begins = h.begins; short = omega (arith, h.short) }
+abbrev array_container : (b : List ℕ) (vs : Items) → Holds b (list vs) → IsContainer b (item_entries vs)
+array_container b vs h = record { tag = 5; rest = h.rest; begins = h.begins; short = omega (arith, h.short) }
 
-abbrev object_table : (b : List ℕ) (ms : Members) → Holds b (object ms) → IsTable b (member_entries ms)
-object_table b ms h = record { tag = 6; rest = h.rest; begins = h.begins; short = omega (arith, h.short) }
+abbrev object_container : (b : List ℕ) (ms : Members) → Holds b (object ms) → IsContainer b (member_entries ms)
+object_container b ms h = record { tag = 6; rest = h.rest; begins = h.begins; short = omega (arith, h.short) }
 
 pub no_item_left : (b : List ℕ) (vs : Items) (h : Holds b (list vs)) → count_of b ≡ 0 → drop 5 b ≡ h.rest
-no_item_left b vs h e = let t = array_table b vs h in let none : length (item_entries vs) ≡ 0 = omega (arith, e, count b (item_entries vs) t) in empty_table b (item_entries vs) t none
+no_item_left b vs h e = let t = array_container b vs h in let none : length (item_entries vs) ≡ 0 = omega (arith, e, count b (item_entries vs) t) in empty_container b (item_entries vs) t none
 
 pub no_member_left : (b : List ℕ) (ms : Members) (h : Holds b (object ms)) → count_of b ≡ 0 → drop 5 b ≡ h.rest
-no_member_left b ms h e = let t = object_table b ms h in let none : length (member_entries ms) ≡ 0 = omega (arith, e, count b (member_entries ms) t) in empty_table b (member_entries ms) t none
+no_member_left b ms h e = let t = object_container b ms h in let none : length (member_entries ms) ≡ 0 = omega (arith, e, count b (member_entries ms) t) in empty_container b (member_entries ms) t none
 
 pub last_item : (b : List ℕ) (vs : Items) (i : ℕ) (h : Holds b (list vs)) → suc i ≡ length (item_list vs) → entry_of b i ≡ packed (nth_item vs i) ++ h.rest
 last_item b vs i h e =
     let less : i < length (item_list vs) = omega (arith, e) in
-    last_entry b (item_entries vs) i (array_table b vs h) (omega (arith, e, length-item_entries vs)) ∙ ap (λ x. x ++ h.rest) (item_entry vs i less)
+    last_entry b (item_entries vs) i (array_container b vs h) (omega (arith, e, length-item_entries vs)) ∙ ap (λ x. x ++ h.rest) (item_entry vs i less)
 
 pub last_value : (b : List ℕ) (ms : Members) (i : ℕ) (h : Holds b (object ms)) → suc i ≡ length (member_list ms) → after_text (entry_of b i) ≡ packed (nth_value ms i) ++ h.rest
 last_value b ms i h e =
     let less : i < length (member_list ms) = omega (arith, e) in
     let k = nth_name ms i in
     let p = packed (nth_value ms i) in
-    let is : entry_of b i ≡ named k p ++ h.rest = last_entry b (member_entries ms) i (object_table b ms h) (omega (arith, e, length-member_entries ms)) ∙ ap (λ x. x ++ h.rest) (member_entry ms i less) in
+    let is : entry_of b i ≡ named k p ++ h.rest = last_entry b (member_entries ms) i (object_container b ms h) (omega (arith, e, length-member_entries ms)) ∙ ap (λ x. x ++ h.rest) (member_entry ms i less) in
     let size : length (get_or (member_entries ms) i []) ≡ length (named k p) = ap length (member_entry ms i less) in
     let within : i < length (member_entries ms) = omega (arith, less, length-member_entries ms) in
-    let small : length k < 2 ^ 32 = omega (arith, h.short, size, length-named k p, length-table (member_entries ms), entry_within (member_entries ms) i within) in
+    let small : length k < 2 ^ 32 = omega (arith, h.short, size, length-named k p, length-container (member_entries ms), entry_within (member_entries ms) i within) in
     ap after_text is ∙ after_text-named k p h.rest small
 
 -- ---- the end

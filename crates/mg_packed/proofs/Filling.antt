@@ -1,4 +1,4 @@
--- Filling in the offsets of a table, one entry after another, gives the table.
+-- Filling in the offsets of a container, one entry after another, gives its table of offsets and its entries.
 use Rattle.std.proofs.Common.{◌≡◌, ℕ, ◌+◌, ◌*◌, ◌-◌, ◌≤◌, ◌<◌, List, [], ◌∷◌, ◌++◌, length, take, drop, refl, sym, ap, ap₂, ◌∙◌, append_assoc, append-nil, arith, length-append, length-drop, length-take-le, take-append-drop}
 use Rattle.std.proofs.lemmas.List.{take_at, drop-append-le}
 use Rattle.std.proofs.Math.Seq.{drop-append-add}
@@ -39,7 +39,7 @@ filled_room head room tail at (entry ∷ entries) e =
     ∙ filled_room (head ++ word at) (drop 4 room) (tail ++ entry) (at + length entry) entries left
     ∙ simp append_assoc
 
--- filling in the offsets before any entry is there gives the table
+-- filling in the offsets from the first entry on gives the table of offsets and the entries
 pub filled_table : (table : ℕ) (entries : List (List ℕ)) (b : List ℕ) → table + 4 * length entries ≡ length b
     → filled table 0 entries b ≡ take table b ++ (offsets 0 entries ++ concat entries)
 filled_table table entries b e =

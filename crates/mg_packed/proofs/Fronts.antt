@@ -1,5 +1,5 @@
 -- The members whose names begin with a byte stand together: where they begin and end, and the object without them.
-use Rattle.std.proofs.Common.{◌≡◌, ℕ, zero, suc, ◌+◌, ◌-◌, ◌≤◌, ◌<◌, ◌^◌, List, [], ◌∷◌, ◌++◌, length, take, drop, Bool, true, false, if◌then◌else◌, slice_index, Ordering, Less, Equal, Greater, nat_cmp, inl, inr, length-append, length-take-le, length-drop, subst, IsUtf8, append-nil, refl, sym, ap, ap₂, ◌∙◌, append_assoc, arith}
+use Rattle.std.proofs.Common.{◌≡◌, ℕ, zero, suc, ◌+◌, ◌-◌, ◌≤◌, ◌<◌, ◌^◌, List, [], ◌∷◌, ◌++◌, length, take, drop, Bool, true, false, if◌then◌else◌, Ordering, Less, Equal, Greater, nat_cmp, inl, inr, length-append, length-take-le, length-drop, subst, IsUtf8, append-nil, refl, sym, ap, ap₂, ◌∙◌, append_assoc, arith}
 use Rattle.std.specs.Cmp.Lexicographic.{slice_cmp}
 use Rattle.std.proofs.lemmas.Bool.{cases_lt, lt-ltb, le-ltb, eq-eqb, ne_eqb}
 use Rattle.std.proofs.lemmas.Cmp.{ranked}
@@ -9,23 +9,15 @@ use Rattle.mg_value.specs.Held.{AllAfter}
 use Rattle.mg_value.specs.Value.{Value, object, Members, no_members, member, member_list}
 use Rattle.mg_value.specs.Stored.{IsStored, MembersAreStored}
 use Rattle.mg_packed.specs.Front.{begins_with, without_names_beginning}
-use Rattle.mg_packed.specs.Packed.{packed, word, offsets, named, member_entries, table}
+use Rattle.mg_packed.specs.Packed.{packed, word, offsets, named, member_entries, container}
 use Rattle.mg_packed.specs.Gap.{offset_in, entries_in, IsObjectBlock}
 use Rattle.mg_packed.specs.Ranks.{rank_of, ranked_below, without_entries}
 use Rattle.mg_packed.specs.Read.{Holds, IsBlockOf, members_in, nth_name, value_in}
-use Rattle.mg_packed.proofs.Entries.{length-table}
+use Rattle.mg_packed.proofs.Entries.{length-container}
 use Rattle.mg_packed.proofs.Gaps.{begin_behind, begins_ascend, offsets_joined, concat_joined}
 use Rattle.mg_packed.proofs.Laws.{members_is, value_is}
 use Rattle.mg_packed.proofs.Parts.{length-member_entries}
 use Rattle.mg_packed.proofs.Search.{after}
-
-pub rank_empty : (k : List ℕ) → length k ≡ 0 → rank_of k ≡ 0
-rank_empty [] e = refl
-rank_empty (c ∷ k) e = absurd (omega (arith, e))
-
-pub rank_some : (k : List ℕ) → 0 < length k → rank_of k ≡ slice_index k 0 + 1
-rank_some [] h = absurd (omega arith)
-rank_some (c ∷ k) h = omega arith
 
 first_le : (c d : ℕ) (o p : Ordering) → MatchOrdering o (c < d) (c ≡ d) (d < c) → ordering_then o p ≡ Less → c ≤ d
 first_le c d Less p h e = omega arith
@@ -133,12 +125,12 @@ stored_without b (member k v ms) stored = stored_by (begins_with b k) k v (witho
 
 -- ---- the new block
 
-without_short : (entries : List (List ℕ)) (i j : ℕ) → i ≤ j → j ≤ length entries → length (table (without_entries i j entries)) ≤ length (table entries)
+without_short : (entries : List (List ℕ)) (i j : ℕ) → i ≤ j → j ≤ length entries → length (container (without_entries i j entries)) ≤ length (container entries)
 without_short entries i j le within =
     omega (
       arith,
-      length-table entries,
-      length-table (without_entries i j entries),
+      length-container entries,
+      length-container (without_entries i j entries),
       length-append (take i entries) (drop j entries),
       length-take-le i entries (omega (arith, le, within)),
       length-drop j entries,
@@ -149,7 +141,7 @@ without_short entries i j le within =
     )
 
 pub front_block : (b new : List ℕ) (front : ℕ) (ms : Members) (i j : ℕ) → IsObjectBlock b → ms ≡ members_in b → i ≡ ranked_below (front + 1) ms → j ≡ ranked_below (front + 2) ms
-    → i ≤ j → j ≤ length (entries_in b) → new ≡ 6 ∷ table (without_entries i j (entries_in b)) → IsBlockOf new (object (without_names_beginning front ms))
+    → i ≤ j → j ≤ length (entries_in b) → new ≡ 6 ∷ container (without_entries i j (entries_in b)) → IsBlockOf new (object (without_names_beginning front ms))
 front_block b new front ms i j o same first next le within is =
     let one : front + 1 ≡ suc front = omega arith in
     let two : front + 2 ≡ suc (suc front) = omega arith in
@@ -158,15 +150,15 @@ front_block b new front ms i j o same first next le within is =
     let stored : MembersAreStored ms = subst MembersAreStored (sym same) o.0.stored in
     let entries : member_entries (without_names_beginning front ms) ≡ without_entries i j (entries_in b) =
     front_entries front ms stored ∙ ap₂ (λ m n. without_entries m n (member_entries ms)) (sym from) (sym up_to) ∙ ap (λ x. without_entries i j (member_entries x)) same in
-    let made : new ≡ packed (object (without_names_beginning front ms)) = is ∙ ap (λ x. 6 ∷ table x) (sym entries) in
-    let size : length (packed (object (without_names_beginning front ms))) ≡ suc (length (table (without_entries i j (entries_in b)))) = ap (λ x. length (6 ∷ table x)) entries in
+    let made : new ≡ packed (object (without_names_beginning front ms)) = is ∙ ap (λ x. 6 ∷ container x) (sym entries) in
+    let size : length (packed (object (without_names_beginning front ms))) ≡ suc (length (container (without_entries i j (entries_in b)))) = ap (λ x. length (6 ∷ container x)) entries in
     let short : length (packed (object (without_names_beginning front ms))) < 2 ^ 32 = omega (arith, size, without_short (entries_in b) i j le within, o.0.short) in
     (record { stored = stored_without front ms stored; short = short; rest = []; begins = made ∙ sym (append-nil (packed (object (without_names_beginning front ms)))) }, made)
 
 pub without_made : (none tag counted placed new : List ℕ) (entries : List (List ℕ)) (i j n : ℕ) → none ≡ [] → tag ≡ none ++ 6 ∷ [] → counted ≡ tag ++ word n → n ≡ length (without_entries i j entries)
     → placed ≡ counted ++ (offsets 0 (take i entries) ++ offsets (offset_in entries i) (drop j entries)) → new ≡ placed ++ (concat (take i entries) ++ concat (drop j entries))
-    → new ≡ 6 ∷ table (without_entries i j entries)
-unfolding table
+    → new ≡ 6 ∷ container (without_entries i j entries)
+unfolding container
 without_made none tag counted placed new entries i j n e1 e2 e3 e4 e5 e6 =
     let kept = without_entries i j entries in
     let begun : counted ≡ 6 ∷ word (length kept) = e3 ∙ ap (λ x. x ++ word n) (e2 ∙ ap (λ x. x ++ 6 ∷ []) e1) ∙ ap (λ m. 6 ∷ word m) e4 in

@@ -1,9 +1,9 @@
--- A gap among the entries of a table: where it lies, and the table with an entry in it.
+-- A gap among the entries of a container: where it lies, and the container with an entry in it.
 use Rattle.std.proofs.Common.{◌≡◌, ℕ, zero, suc, ◌+◌, ◌*◌, ◌-◌, ◌≤◌, ◌<◌, List, [], ◌∷◌, ◌++◌, length, take, drop, get_or, refl, sym, ap, ap₂, ◌∙◌, append_assoc, arith, length-append, length-take-le, take-append-drop}
 use Rattle.std.proofs.lemmas.List.{take_at, drop_at}
-use Rattle.std.proofs.Math.Seq.{take-length, drop-length}
+use Rattle.std.proofs.Math.Seq.{take-length}
 use Rattle.std.specs.List.{concat}
-use Rattle.mg_packed.specs.Packed.{word, offsets, table}
+use Rattle.mg_packed.specs.Packed.{word, offsets, container}
 use Rattle.mg_packed.specs.Gap.{offset_in, with_entry}
 use Rattle.mg_packed.proofs.Entries.{length-offsets}
 
@@ -64,7 +64,7 @@ first_entries entries i = ap (take (offset_in entries i)) (joined_again entries 
 pub last_entries : (entries : List (List ℕ)) (i : ℕ) → drop (offset_in entries i) (concat entries) ≡ concat (drop i entries)
 last_entries entries i = ap (drop (offset_in entries i)) (joined_again entries i) ∙ drop_at (concat (take i entries)) (concat (drop i entries)) (offset_in entries i) refl
 
--- ---- the table with the entry in the gap
+-- ---- the container with the entry in the gap
 
 -- one more offset is moved
 pub offset_moved : (o all : List ℕ) (entries : List (List ℕ)) (i g n : ℕ) → i < length entries → g ≤ offset_in entries i
@@ -76,9 +76,6 @@ offset_moved o all entries i g n h above same =
     ∙ ap (λ k. o ++ (word m ++ offsets k (drop (suc i) entries))) e
     ∙ ap (λ l. o ++ offsets m l) (sym (entries_next entries i h))
     ∙ same
-
-pub all_moved : (n : ℕ) (entries : List (List ℕ)) (i : ℕ) → i ≡ length entries → offsets n (drop i entries) ≡ []
-all_moved n entries i e = ap (λ k. offsets n (drop k entries)) e ∙ ap (offsets n) (drop-length entries)
 
 pub length-with_entry : (entries : List (List ℕ)) (entry : List ℕ) (i j : ℕ) → i ≤ j → j ≤ length entries
     → length (with_entry i j entry entries) + j ≡ length entries + i + 1
@@ -97,8 +94,8 @@ concat-with_entry entries entry i j =
 
 pub assembled : (b : List ℕ) (entries : List (List ℕ)) (entry : List ℕ) (i j n : ℕ) → n ≡ length (with_entry i j entry entries)
     → b ≡ ((6 ∷ word n) ++ (offsets 0 (take i entries) ++ (word (offset_in entries i) ++ offsets (offset_in entries i + length entry) (drop j entries)))) ++ (concat (take i entries) ++ (entry ++ concat (drop j entries)))
-    → b ≡ 6 ∷ table (with_entry i j entry entries)
-unfolding table
+    → b ≡ 6 ∷ container (with_entry i j entry entries)
+unfolding container
 assembled b entries entry i j n counted is =
     let from_none : offset_in entries i ≡ 0 + offset_in entries i = omega arith in
     let placed : offsets 0 (take i entries) ++ (word (offset_in entries i) ++ offsets (offset_in entries i + length entry) (drop j entries)) ≡ offsets 0 (with_entry i j entry entries) =

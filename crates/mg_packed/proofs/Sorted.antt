@@ -17,7 +17,7 @@ use Rattle.mg_value.specs.Stored.{IsStored, AreStored, MembersAreStored}
 use Rattle.mg_value.specs.Text.{whole_members}
 use Rattle.mg_value.specs.Value.{Value, Items, no_items, item, Members, no_members, member}
 use Rattle.mg_packed.specs.Packed.{packed, named, item_entries, member_entries}
-use Rattle.mg_packed.specs.Sorted.{Named, by_name, Ascend, sorted_data, ItemsMatch, MembersMatch}
+use Rattle.mg_packed.specs.Sorted.{TreeMember, by_name, Ascend, sorted_data, ItemsMatch, MembersMatch}
 
 split : (k : List ℕ) (o : Option Data) (r : Option parsed.Members) (ds : parsed.Members) → option_and_then (λ d. option_map (parsed.member k d) r) o ≡ Some ds
     → (d : Data) × (rest : parsed.Members) × (o ≡ Some d) × (r ≡ Some rest) × (parsed.member k d rest ≡ ds)
@@ -26,10 +26,10 @@ split k (Some d) None ds e = absurd cc
 split k (Some d) (Some rest) ds e = (d, rest, refl, refl, cc)
 
 -- a new name among the sorted ones is a member put in
-Put : List Named → Bor (List ℕ) → Bor (Tree Global) → parsed.Members → Type 0
+Put : List TreeMember → Bor (List ℕ) → Bor (Tree Global) → parsed.Members → Type 0
 Put es k t all = (ds : parsed.Members) × (d : Data) × (sorted_data es ≡ Some ds) × (of_json (value_view t.now) ≡ Some d) × (parsed.put k.now d ds ≡ all)
 
-put_by : (o : Ordering) (es : List Named) (e : Named) (k : Bor (List ℕ)) (t : Bor (Tree Global)) (all : parsed.Members) → slice_cmp nat_cmp k.now e.0.now ≡ o
+put_by : (o : Ordering) (es : List TreeMember) (e : TreeMember) (k : Bor (List ℕ)) (t : Bor (Tree Global)) (all : parsed.Members) → slice_cmp nat_cmp k.now e.0.now ≡ o
     → cond (is_eq o) (Some e.1) (lookup (is_at (by_name k)) es) ≡ None
     → ((more : parsed.Members) → lookup (is_at (by_name k)) es ≡ None → sorted_data (insert_entry by_name es k t) ≡ Some more → Put es k t more)
     → sorted_data (match_ordering o ((k, t) ∷ e ∷ es) ((e.0, t) ∷ es) (e ∷ insert_entry by_name es k t)) ≡ Some all → Put (e ∷ es) k t all
@@ -49,7 +49,7 @@ put_by Greater es e k t all o none rest is =
       ap (λ x. match_ordering x (parsed.member k.now p.1 (parsed.member e.0.now s.0 p.0)) (parsed.member e.0.now p.1 p.0) (parsed.member e.0.now s.0 (parsed.put k.now p.1 p.0))) o ∙ ap (parsed.member e.0.now s.0) p.4 ∙ s.4,
     )
 
-pub sorted_put : (es : List Named) (k : Bor (List ℕ)) (t : Bor (Tree Global)) (all : parsed.Members) → lookup (is_at (by_name k)) es ≡ None → sorted_data (insert_entry by_name es k t) ≡ Some all
+pub sorted_put : (es : List TreeMember) (k : Bor (List ℕ)) (t : Bor (Tree Global)) (all : parsed.Members) → lookup (is_at (by_name k)) es ≡ None → sorted_data (insert_entry by_name es k t) ≡ Some all
     → (ds : parsed.Members) × (d : Data) × (sorted_data es ≡ Some ds) × (of_json (value_view t.now) ≡ Some d) × (parsed.put k.now d ds ≡ all)
 unfolding Put
 sorted_put [] k t all none is =
@@ -81,7 +81,7 @@ items_match-push [] t (item w vs) v h whole stored = absurd h
 items_match-push (u ∷ ts) t no_items v h whole stored = absurd h
 items_match-push (u ∷ ts) t (item w vs) v h whole stored = (h.0, h.1, items_match-push ts t vs v h.2 whole stored)
 
-pub members_match-push : (es : List Named) (e : Named) (ms : Members) (v : Value) → MembersMatch es ms → IsUtf8 e.0.now → IsTreeOf (value_view e.1.now) v → IsStored v → MembersMatch (es ++ e ∷ []) (members_with ms e.0.now v)
+pub members_match-push : (es : List TreeMember) (e : TreeMember) (ms : Members) (v : Value) → MembersMatch es ms → IsUtf8 e.0.now → IsTreeOf (value_view e.1.now) v → IsStored v → MembersMatch (es ++ e ∷ []) (members_with ms e.0.now v)
 members_match-push [] e no_members v h utf8 whole stored = (refl, utf8, whole, stored, tt)
 members_match-push [] e (member l w ms) v h utf8 whole stored = absurd h
 members_match-push (u ∷ es) e no_members v h utf8 whole stored = absurd h
@@ -93,7 +93,7 @@ length-items_match [] (item w vs) h = absurd h
 length-items_match (t ∷ ts) no_items h = absurd h
 length-items_match (t ∷ ts) (item w vs) h = ap suc (length-items_match ts vs h.2)
 
-pub length-members_match : (es : List Named) (ms : Members) → MembersMatch es ms → length (member_entries ms) ≡ length es
+pub length-members_match : (es : List TreeMember) (ms : Members) → MembersMatch es ms → length (member_entries ms) ≡ length es
 length-members_match [] no_members h = refl
 length-members_match [] (member l w ms) h = absurd h
 length-members_match (e ∷ es) no_members h = absurd h
@@ -113,7 +113,7 @@ items_stored [] (item w vs) h = absurd h
 items_stored (t ∷ ts) no_items h = absurd h
 items_stored (t ∷ ts) (item w vs) h = (h.1, items_stored ts vs h.2)
 
-pub members_whole : (es : List Named) (ms : Members) → MembersMatch es ms → (ds : parsed.Members) × (sorted_data es ≡ Some ds) × (whole_members ds ≡ Some ms)
+pub members_whole : (es : List TreeMember) (ms : Members) → MembersMatch es ms → (ds : parsed.Members) × (sorted_data es ≡ Some ds) × (whole_members ds ≡ Some ms)
 members_whole [] no_members h = (parsed.no_members, refl, refl)
 members_whole [] (member l w ms) h = absurd h
 members_whole (e ∷ es) no_members h = absurd h
@@ -121,13 +121,13 @@ members_whole (e ∷ es) (member l w ms) h =
     let r = members_whole es ms h.4 in
     (parsed.member e.0.now h.2.0 r.0, rw (h.2.1, r.1) refl, rw (h.2.2, r.2) (ap (λ k. Some (member k w ms)) h.0))
 
-all_after : (k : Bor (List ℕ)) (es : List Named) (ms : Members) → AllByRecursion (λ y. by_name k y ≡ Less) (keys_of es) → MembersMatch es ms → AllAfter k.now ms
+all_after : (k : Bor (List ℕ)) (es : List TreeMember) (ms : Members) → AllByRecursion (λ y. by_name k y ≡ Less) (keys_of es) → MembersMatch es ms → AllAfter k.now ms
 all_after k [] no_members a h = tt
 all_after k [] (member l w ms) a h = absurd h
 all_after k (e ∷ es) no_members a h = absurd h
 all_after k (e ∷ es) (member l w ms) a h = (ap (slice_cmp nat_cmp k.now) (sym h.0) ∙ a.0, all_after k es ms a.1 h.4)
 
-pub members_stored : (es : List Named) (ms : Members) → Ascend es → MembersMatch es ms → MembersAreStored ms
+pub members_stored : (es : List TreeMember) (ms : Members) → Ascend es → MembersMatch es ms → MembersAreStored ms
 unfolding IsStrictlySortedBy
 members_stored [] no_members a h = tt
 members_stored [] (member l w ms) a h = absurd h

@@ -1,4 +1,4 @@
--- For private clauses: how the offsets of a table are filled in, one entry after another.
+-- For private clauses: how the offsets of a container are filled in, one entry after another.
 use Rattle.std.specs.Prelude.{ℕ, ◌+◌, List, [], ◌∷◌, ◌++◌, length, take, drop}
 use Rattle.mg_packed.specs.Packed.{word}
 

@@ -18,53 +18,53 @@ use Rattle.mg_value.specs.Borrowed.{IsTreeOf}
 use Rattle.mg_value.specs.Stored.{IsStored}
 use Rattle.mg_value.specs.Value.{Value, Items, no_items, item, Members, no_members, member}
 
--- a member of a parse tree
-abbrev pub Named : Type 0
-Named = Bor (List ℕ) × Bor (Tree Global)
+-- a member of a parse tree: its name and its tree
+abbrev pub TreeMember : Type 0
+TreeMember = Bor (List ℕ) × Bor (Tree Global)
 
 -- the order of two names
 abbrev pub by_name : Bor (List ℕ) → Bor (List ℕ) → Ordering
 by_name k l = slice_cmp nat_cmp k.now l.now
 
 -- the names ascend
-abbrev pub Ascend : List Named → Type 0
+abbrev pub Ascend : List TreeMember → Type 0
 Ascend es = IsStrictlySortedBy by_name (keys_of es)
 
--- the data of the members in this order
-abbrev pub sorted_data : List Named → Option parsed.Members
+-- the data of the members in this order; `None` if a member's value has no data
+abbrev pub sorted_data : List TreeMember → Option parsed.Members
 sorted_data [] = Some parsed.no_members
 sorted_data (e ∷ es) = option_and_then (λ d. option_map (parsed.member e.0.now d) (sorted_data es)) (of_json (value_view e.1.now))
 
 -- if the sorted members have data, reading the members in the order of the text gives the same data
-abbrev pub IsSorting : List Named → json.Members → Type 0
+abbrev pub IsSorting : List TreeMember → json.Members → Type 0
 IsSorting es js = (ds : parsed.Members) → sorted_data es ≡ Some ds → of_members js parsed.no_members ≡ Some ds
 
--- each tree stands for the item
+-- each tree stands for the item at the same index, which a `Json` can hold, and there are as many trees as items
 abbrev pub ItemsMatch : List (Tree Global) → Items → Type 0
 ItemsMatch [] no_items = ⊤
 ItemsMatch [] (item v vs) = ⊥
 ItemsMatch (t ∷ ts) no_items = ⊥
 ItemsMatch (t ∷ ts) (item v vs) = IsTreeOf (value_view t) v × IsStored v × ItemsMatch ts vs
 
--- each name and tree stand for the member
-abbrev pub MembersMatch : List Named → Members → Type 0
+-- each pair of a name and a tree stands for the member at the same index, which a `Json` can hold, and there are as many pairs as members
+abbrev pub MembersMatch : List TreeMember → Members → Type 0
 MembersMatch [] no_members = ⊤
 MembersMatch [] (member k v ms) = ⊥
 MembersMatch (e ∷ es) no_members = ⊥
 MembersMatch (e ∷ es) (member k v ms) = (e.0.now ≡ k) × IsUtf8 k × IsTreeOf (value_view e.1.now) v × IsStored v × MembersMatch es ms
 
--- the bytes are the old ones and those of a value that the tree stands for
+-- the new bytes are the old ones, and then those of a value that the tree stands for and a `Json` can hold
 abbrev pub IsPushed : json.Json → List ℕ → List ℕ → Type 0
 IsPushed j old new = (v : Value) × IsTreeOf j v × IsStored v × (new ≡ old ++ packed v)
 
--- the bytes are the old ones, and those of a member with this name, and with a value that the tree stands for
+-- the new bytes are the old ones, and then the entry of a member with this name; the tree stands for its value, which a `Json` can hold
 abbrev pub IsMemberPushed : List ℕ → json.Json → List ℕ → List ℕ → Type 0
 IsMemberPushed k j old new = IsUtf8 k × ((v : Value) × IsTreeOf j v × IsStored v × (new ≡ old ++ named k (packed v)))
 
--- the bytes are the old ones, and the offsets and entries of the items
+-- the new bytes are the old ones, and then the offsets and entries of the items that the trees stand for
 abbrev pub AreItemsPushed : List (Tree Global) → List ℕ → List ℕ → Type 0
 AreItemsPushed ts old new = (vs : Items) × ItemsMatch ts vs × (new ≡ old ++ (offsets 0 (item_entries vs) ++ concat (item_entries vs)))
 
 -- the members, sorted by name, are those that the members of the tree stand for
 abbrev pub AreSortedMembers : json.Members → Members → Type 0
-AreSortedMembers js ms = (es : List Named) × IsSorting es js × Ascend es × MembersMatch es ms
+AreSortedMembers js ms = (es : List TreeMember) × IsSorting es js × Ascend es × MembersMatch es ms

@@ -5,8 +5,8 @@ ghost use Rattle.mg_packed.specs.Read.{value_in, HoldsArray, HoldsObject, IsPart
 
 use crate::read;
 
-// The bytes of the value at the front, without those that follow. Cost: one step for each level: to its last item or member, to the last
-// one in that, and so on.
+// Lends the bytes of the value at the front, without those that follow. Cost: one step for each level of nesting, from the last item or
+// member of one level to the last of the next.
 pub(crate) fn block(bytes: &[u8]) -> &[u8]
     requires { IsPart bytes.now }
     ensures { IsBlockOf result.now (value_in bytes.now) }
@@ -15,7 +15,7 @@ pub(crate) fn block(bytes: &[u8]) -> &[u8]
     &bytes[..bytes.len() - after.len()]
 }
 
-// The bytes after the value at the front.
+// Lends the bytes after the value at the front.
 #[cycle(after_value)]
 fn after_value(bytes: &[u8]) -> &[u8]
     requires { IsPart bytes.now }
@@ -30,7 +30,7 @@ fn after_value(bytes: &[u8]) -> &[u8]
     }
 }
 
-// The bytes after the array at the front: those after its last item.
+// Lends the bytes after the array at the front: those after its last item, or, if it is empty, after its count.
 #[cycle(after_value)]
 fn after_items(bytes: &[u8]) -> &[u8]
     requires { HoldsArray bytes.now }
@@ -44,7 +44,7 @@ fn after_items(bytes: &[u8]) -> &[u8]
     }
 }
 
-// The bytes after the object at the front: those after the value of its last member.
+// Lends the bytes after the object at the front: those after the value of its last member, or, if it is empty, after its count.
 #[cycle(after_value)]
 fn after_members(bytes: &[u8]) -> &[u8]
     requires { HoldsObject bytes.now }

@@ -1,4 +1,4 @@
-// Parts are lent values, so that code which is generic over lent values works on them.
+// Implements `LentValue` for parts, so that code which is generic over lent values works on parts.
 use crate::array::Array;
 use crate::kind::Kind;
 use crate::object::Object;
@@ -34,7 +34,7 @@ impl<'a> LentValue for Part<'a> {
     }
 
     fn to_json(&self, alloc: Global) -> Result<Json, NoMemory> {
-        self.copy(alloc)
+        self.to_json(alloc)
     }
 
     #[inline(always)]

@@ -1,4 +1,5 @@
-// Counts the bytes of a packed value. The contracts also state what holds of every value that can be packed.
+// Counts the bytes of a packed value. Errors: `NoMemory` if the count needs more than four bytes. The clauses `stored` also say what holds
+// of every `Json`, such as that names ascend.
 ghost use Rattle.std.specs.Prelude.{◌≡◌, ◌+◌, length, FitsSigned, IfOk, OnOk};
 ghost use Rattle.std.specs.Int.{w64};
 ghost use Rattle.mg_value.specs.Value.{whole, text as string, list, object};
@@ -14,7 +15,7 @@ use std::collections::BTreeMap;
 // The greatest length that a word holds.
 const LONGEST: usize = 4_294_967_295;
 
-// The length as a word; `NoMemory` where it needs more than four bytes.
+// Converts the length to a word; `NoMemory` if it needs more than four bytes.
 pub(crate) fn as_word(len: usize) -> Result<u32, NoMemory>
     ensures { IfOk result (λ n. n ≡ len) }
 {
@@ -25,6 +26,7 @@ pub(crate) fn as_word(len: usize) -> Result<u32, NoMemory>
     }
 }
 
+// Adds two sizes; `NoMemory` if the sum needs more than four bytes.
 fn add(a: u32, b: u32) -> Result<u32, NoMemory>
     ensures { IfOk result (λ n. n ≡ a + b) }
 {
@@ -52,7 +54,7 @@ pub(crate) fn text_len(text: &str) -> Result<u32, NoMemory>
     Ok(len)
 }
 
-// The size of a number with its tag. The number is a parameter so that proofs know its range.
+// How many bytes a number and its tag take. The number is a parameter so that proofs know its range.
 fn long_len(_number: i64) -> u32
     ensures len { result ≡ 9 }
     ensures fits { FitsSigned w64 _number }
@@ -102,7 +104,7 @@ fn measure_object(members: &BTreeMap<String, Json>) -> Result<u32, NoMemory>
     Ok(len)
 }
 
-// The size of the tag and the count, and for each item its offset and its bytes.
+// How many bytes the tag, the count, and the offsets and entries of the items take.
 #[cycle(measure)]
 fn measure_items(items: &[Json]) -> Result<u32, NoMemory>
     ensures len { IfOk result (λ n. n ≡ 5 + items_size (items_view items.now)) }
@@ -115,7 +117,7 @@ fn measure_items(items: &[Json]) -> Result<u32, NoMemory>
     Ok(len)
 }
 
-// The size of the tag and the count, and for each member its offset, its name and its value's bytes.
+// How many bytes the tag, the count, and the offsets and entries of the members take.
 #[cycle(measure)]
 fn measure_members(members: &BTreeMap<String, Json>) -> Result<u32, NoMemory>
     ensures len { IfOk result (λ n. n ≡ 5 + members_size (members_view members.now.entries)) }

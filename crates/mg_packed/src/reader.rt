@@ -15,7 +15,7 @@ use json::{Scratch, Value as Tree};
 use mg_value::{Json, LONGEST_KEPT, MAX_DEPTH, ReadBuffer, ReadError, read_tree};
 use std::alloc::Global;
 
-// The value of a JSON text, in a new block. Errors: those of `mg_value::read`, and `NoMemory` if the block would be too long.
+// Reads the value of a JSON text into a new block. Errors: those of `mg_value::read`, and `NoMemory` if the block would be too long.
 pub(crate) fn read_packed(
     alloc: Global,
     bytes: &[u8],
@@ -34,8 +34,8 @@ pub(crate) fn read_packed(
     }
 }
 
-// The fast path, without a `Json`. It gives up (`None`) where `push_tree` does, if the bytes are not JSON, or if the block would be too
-// long.
+// The fast path, without a `Json`. It gives up (`None`) if `push_tree` does, if the bytes are not JSON, if the block would be too long, or
+// if memory runs out.
 fn read_fast(alloc: Global, bytes: &[u8], buffer: &mut ReadBuffer) -> Option<Packed>
     ensures { IfSome result (λ packed. Reads bytes.now packed) }
 {
@@ -45,6 +45,7 @@ fn read_fast(alloc: Global, bytes: &[u8], buffer: &mut ReadBuffer) -> Option<Pac
     }
 }
 
+// A text of more than `LONGEST_KEPT` bytes is parsed with a buffer of its own, so that the kept one stays small.
 fn read_text(alloc: Global, text: &str, buffer: &mut ReadBuffer) -> Option<Packed>
     ensures { IfSome result (λ packed. Reads text.now packed) }
 {
@@ -65,8 +66,8 @@ fn read_with(alloc: Global, text: &str, scratch: &mut Scratch) -> Option<Packed>
     }
 }
 
-// The bytes of the value that the tree stands for. The block begins with room for twice the length of the text, so spare room may be
-// left.
+// Writes the bytes of the value that the tree stands for into a new block. The block is allocated with twice the length of the text, and
+// grows if it has to, so spare room may be left. Errors: `GaveUp` if `push_tree` gives up, the block would be too long, or memory runs out.
 fn tree_block(alloc: Global, text_len: usize, tree: &Tree<'_>) -> Result<Vec<u8>, GaveUp>
     ensures { IfOk result (λ b. (v : Value) × IsTreeOf (value_view tree.now) v × IsBlockOf b.items v) }
 {
@@ -76,8 +77,8 @@ fn tree_block(alloc: Global, text_len: usize, tree: &Tree<'_>) -> Result<Vec<u8>
     Ok(out)
 }
 
-// The slow path, over a `Json`. It finds why a text is refused, and reads the rare other texts with which the fast path gave up: an
-// object has a name twice, or memory ran out.
+// The slow path, over a `Json`. It finds why a text is refused. It also reads the few other texts on which the fast path gave up: those
+// in which an object has a name twice, or for which memory ran out.
 fn read_again(alloc: Global, bytes: &[u8]) -> Result<Packed, ReadError>
     ensures ok { IfOk result (λ packed. Reads bytes.now packed) }
     ensures not_json { result ≡ Err ReadError.NotJson → (d : Data) → ¬ IsText bytes.now d }

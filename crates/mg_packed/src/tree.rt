@@ -1,5 +1,5 @@
-// Writes the bytes of the value that a parse tree stands for, in one walk. Where it gives up (`GaveUp`), the text has to be read by
-// `mg_value::read`.
+// Writes the bytes of the value that a parse tree stands for, in one walk. If it gives up (`GaveUp`), the text has to be read by
+// `mg_value::read`, and `out` may have more bytes than before.
 ghost use Rattle.std.specs.Prelude.{◌≡◌, ◌+◌, ◌*◌, ◌++◌, ℤ, length, take, FitsSigned, IsUtf8, IfOk, OnOk, Some};
 ghost use Rattle.std.specs.Int.{w64};
 ghost use Rattle.std.specs.List.{concat};
@@ -16,7 +16,8 @@ use mg_value::{NoMemory, whole_number};
 use std::alloc::{AllocError, AllocFailed, Global};
 use std::collections::BTreeMap;
 
-// A number is not an `i64`, an object has a name twice, the tree nests too deep, a length needs more than four bytes, or memory ran out.
+// The walk gave up: a number is not an `i64`, an object has a name twice, the tree nests too deep, a length, count or offset needs more
+// than four bytes, or memory ran out.
 #[derive(Drop)]
 pub(crate) struct GaveUp;
 
@@ -38,10 +39,10 @@ impl<T: Drop> From<AllocFailed<T>> for GaveUp {
     }
 }
 
-// Adds the bytes of the value that the tree stands for. It gives up if the tree nests deeper than `depth`, which only serves the proof
-// that the walk ends: no tree of `read_tree` nests deeper than `MAX_DEPTH`. A level of nesting takes one frame of the stack, that of
-// `push_items` or `push_sorted`, since the functions between them are inlined. The frame is no larger than the one that reading took
-// for the level, so this walk needs no deeper stack than reading did.
+// Adds the bytes of the value that the tree stands for. It gives up if the tree nests deeper than `depth`. This limit only serves the
+// proof that the walk ends: no tree of `read_tree` nests deeper than `MAX_DEPTH`. A level of nesting takes one frame of the stack,
+// that of `push_items` or `push_sorted`, since the functions between them are inlined. The frame is no larger than the one that
+// reading took for the level, so this walk needs no deeper stack than reading did.
 #[cycle(push_tree)]
 #[inline(always)]
 pub(crate) fn push_tree<'t, 'a>(
@@ -131,7 +132,7 @@ fn push_array<'t, 'a>(
     push_items(alloc, out, table, items, depth - 1)
 }
 
-// Adds the items, and fills in their offsets. These begin at `table` and end where the items begin.
+// Adds the items, and fills in their offsets. The table of offsets begins at `table`, and the items follow it.
 #[cycle(push_tree)]
 #[inline(never)]
 fn push_items<'t, 'a>(
@@ -173,8 +174,8 @@ fn push_object<'t, 'a>(
     push_sorted(alloc, out, table, &sorted, depth - 1)
 }
 
-// The members in the order of their names. It gives up at a name that comes twice, since the value that is replaced would not be
-// checked.
+// Sorts the members by name. It gives up if a name comes twice: the value that the later member replaces would never be checked. It also
+// gives up if memory runs out.
 #[inline(never)]
 fn sort<'t, 'a>(
     alloc: Global,
@@ -192,7 +193,7 @@ fn sort<'t, 'a>(
     Ok(sorted)
 }
 
-// Adds the members, and fills in their offsets. These begin at `table` and end where the members begin.
+// Adds the members, and fills in their offsets. The table of offsets begins at `table`, and the members follow it.
 #[cycle(push_tree)]
 #[inline(never)]
 fn push_sorted<'t, 'a>(
@@ -233,7 +234,7 @@ fn push_member<'t, 'a>(
     push_tree(alloc, out, tree, depth)
 }
 
-// Adds the name of a member. It is a parameter so that proofs know that it is UTF-8.
+// Adds the length of a member's name, and the name. The name is a parameter so that proofs know that it is UTF-8.
 fn push_key(out: &mut Vec<u8>, name: &str) -> Result<(), GaveUp>
     ensures utf8 { IsUtf8 name.now }
     ensures pushed { OnOk result

@@ -1,5 +1,6 @@
-// Copies an object's block with a text at a name. Entries are copied as bytes, since the bytes of a value do not
-// depend on where they are; only the table of offsets is made anew.
+// Copies an object's block with a text as one of its members. Entries are copied as bytes, since the bytes of a value
+// do not depend on where they are; only the count and the table of offsets are made anew.
+// Errors: `NoMemory` if the allocation fails, or the new block would be longer than 4,294,967,295 bytes.
 ghost use Rattle.std.specs.Prelude.{◌≡◌, ◌+◌, ◌*◌, ◌≤◌, ◌<◌, ◌^◌, ◌++◌, length, take, drop, IfOk, OnOk};
 ghost use Rattle.std.specs.List.{concat};
 ghost use Rattle.mg_value.specs.Value.{text as string, object, put};
@@ -18,7 +19,7 @@ use std::alloc::Global;
 // The tag of an object.
 pub(crate) const OBJECT: u8 = 6;
 
-// The bytes of the object with the text as its member of this name.
+// Copies the bytes of the object, with the text as its member of this name.
 pub(crate) fn object_with_text(
     alloc: Global,
     bytes: &[u8],
@@ -42,7 +43,7 @@ pub(crate) fn object_with_text(
     Ok(out)
 }
 
-// A copy of the bytes in a new block, which has no spare room.
+// Copies the bytes into a new block, which has no spare room.
 pub(crate) fn copy_bytes(alloc: Global, bytes: &[u8]) -> Result<Vec<u8>, NoMemory>
     ensures { IfOk result (λ b. b.items ≡ bytes.now) }
 {
@@ -51,7 +52,7 @@ pub(crate) fn copy_bytes(alloc: Global, bytes: &[u8]) -> Result<Vec<u8>, NoMemor
     Ok(copy)
 }
 
-// Where the entry at `index` begins, counted from the end of the table; if `index` is the count of entries, where the entries end.
+// Finds where the entry at `index` begins, counted from the end of the table; if `index` is the count of entries, where the entries end.
 pub(crate) fn entry_offset(bytes: &[u8], count: usize, index: usize) -> usize
     requires block { IsObjectBlock bytes.now }
     requires counted { count ≡ length (entries_in bytes.now) }
@@ -65,7 +66,7 @@ pub(crate) fn entry_offset(bytes: &[u8], count: usize, index: usize) -> usize
     }
 }
 
-// How long the bytes are once an entry of this length is in the gap.
+// How many bytes the object takes once an entry of this length stands in the gap, instead of the gap's own entries.
 fn len_with(bytes: &[u8], count: usize, gap: Gap, entry_len: u32) -> Result<u32, NoMemory>
     requires block { IsObjectBlock bytes.now }
     requires counted { count ≡ length (entries_in bytes.now) }
@@ -81,7 +82,7 @@ fn len_with(bytes: &[u8], count: usize, gap: Gap, entry_len: u32) -> Result<u32,
     Ok(len)
 }
 
-// Adds the offsets of all entries, once an entry of this length is in the gap.
+// Adds the offsets that the entries have once an entry of this length stands in the gap, instead of the gap's own entries.
 fn push_offsets(
     out: &mut Vec<u8>,
     bytes: &[u8],
@@ -112,7 +113,7 @@ fn push_offsets(
     Ok(())
 }
 
-// Adds the offsets of the entries from `after` on, moved so that the first of them begins at `begin`.
+// Adds the offsets of the entries from `after` on, moved such that the first of these begins at `begin`.
 pub(crate) fn push_moved(
     out: &mut Vec<u8>,
     bytes: &[u8],

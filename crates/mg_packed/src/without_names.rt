@@ -1,7 +1,8 @@
-// Copies an object's block without some of its entries. Entries are copied as bytes; only the table of offsets is made anew.
+// Copies an object's block without some of its entries. Entries are copied as bytes; only the count and the table of offsets are made
+// anew. Errors: `NoMemory` if the allocation fails.
 ghost use Rattle.std.specs.Prelude.{◌≡◌, ◌+◌, ◌*◌, ◌≤◌, ◌++◌, ◌∷◌, length, take, drop, IfOk, OnOk};
 ghost use Rattle.std.specs.List.{concat};
-ghost use Rattle.mg_packed.specs.Packed.{offsets, table};
+ghost use Rattle.mg_packed.specs.Packed.{offsets, container};
 ghost use Rattle.mg_packed.specs.Gap.{offset_in, entries_in, IsObjectBlock};
 ghost use Rattle.mg_packed.specs.Ranks.{without_entries};
 
@@ -12,7 +13,7 @@ use crate::with_text::{OBJECT, entry_offset, push_moved};
 use mg_value::NoMemory;
 use std::alloc::Global;
 
-// The bytes of the object without the entries in the gap.
+// Copies the bytes of the object, without the entries in the gap.
 pub(crate) fn object_without(
     alloc: Global,
     bytes: &[u8],
@@ -24,7 +25,7 @@ pub(crate) fn object_without(
     requires ordered { gap.before ≤ gap.after }
     requires within { gap.after ≤ length (entries_in bytes.now) }
     ensures { IfOk result
-        (λ b. b.items ≡ 6 ∷ table (without_entries gap.before gap.after (entries_in bytes.now))) }
+        (λ b. b.items ≡ 6 ∷ container (without_entries gap.before gap.after (entries_in bytes.now))) }
 {
     let mut out = Vec::with_capacity(alloc, len_without(bytes, count, gap))?;
     push_tag(&mut out, OBJECT)?;
@@ -34,7 +35,7 @@ pub(crate) fn object_without(
     Ok(out)
 }
 
-// How long the bytes are without the entries in the gap.
+// How many bytes the object takes without the entries in the gap.
 fn len_without(bytes: &[u8], count: usize, gap: Gap) -> usize
     requires block { IsObjectBlock bytes.now }
     requires counted { count ≡ length (entries_in bytes.now) }

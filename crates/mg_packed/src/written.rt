@@ -6,7 +6,7 @@ use std::marker::Model;
 
 /// A JSON value in one block of memory, followed by its compact text. Contracts see the value.
 ///
-/// The block is exactly as long as the bytes of a `Packed` and the text.
+/// The block has no spare room.
 #[derive(Drop)]
 pub struct Written {
     bytes: Vec<u8>,
@@ -32,14 +32,14 @@ impl Written {
     ghost use Rattle.std.specs.Prelude.{◌≡◌, IfOk};
     ghost use Rattle.mg_value.specs.Text.{compact};
 
-    /// Copies the value into a new block, and writes its text after it.
+    /// Copies the value into a new block, with its compact text after it.
     ///
-    /// Errors: `NoMemory` if an allocation fails. Cost: one walk over the value that writes its text, and a copy of the bytes and of the
-    /// text.
+    /// Errors: `NoMemory` if an allocation fails. Cost: one walk over the value, which writes the text into a buffer; then a copy of the
+    /// bytes and of the text.
     pub fn of(alloc: Global, packed: &Packed) -> Result<Written, NoMemory>
         ensures { IfOk result (λ written. written ≡ packed.now) }
     {
-        let text = packed.part().text(alloc)?;
+        let text = packed.part().compact_text(alloc)?;
         let block = packed.as_bytes();
         let mut bytes = Vec::with_capacity(alloc, block.len().saturating_add(text.len()))?;
         bytes.extend_from_slice(block)?;
@@ -50,15 +50,15 @@ impl Written {
         })
     }
 
-    /// The whole value as a part. Cost: constant; no memory is taken.
+    /// Lends the whole value as a part. Cost: constant; no memory is taken.
     pub fn part(&self) -> Part<'_>
         ensures { result ≡ self.now }
     {
         Part::at(&self.bytes)
     }
 
-    /// The compact text of the value. Cost: constant; no memory is taken.
-    pub fn text(&self) -> &[u8]
+    /// Lends the compact text of the value. Cost: constant; no memory is taken.
+    pub fn compact_text(&self) -> &[u8]
         ensures { result.now ≡ compact self.now }
     {
         &self.bytes[self.text_start..]

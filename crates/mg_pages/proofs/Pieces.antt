@@ -4,7 +4,7 @@ use Rattle.std.proofs.lemmas.List.{length-drop, length-take}
 use Rattle.std.specs.List.{flat_map}
 use Rattle.mg_pages.specs.Order.{Ascends, IsProbe, above, below}
 use Rattle.mg_pages.specs.Runs.{IsEndRun, IsPiece, IsRun}
-use Rattle.mg_pages.specs.Search.{AllAbove, AllBelow, IsAmong, IsInnerGap}
+use Rattle.mg_pages.specs.Search.{AllAbove, AllBelow, IsAmong, BelongsWithin}
 use Rattle.mg_pages.proofs.Parts.{seen_split}
 use Rattle.mg_pages.proofs.Sorted.{above_cut, above_first, above_gap, all_right, ascends_left, ascends_right, before_one, below_cut, below_gap, split_at}
 
@@ -49,16 +49,16 @@ module _ {T : Type 0} (against : T → Ordering) where
   first_of_rest (z ∷ zs) zero less h = ([], z, zs, refl, h.0)
   first_of_rest (x ∷ xs) (suc i) less h = let r = first_of_rest xs i (omega arith) h in (x ∷ r.0, r.1, r.2, ap (λ us. x ∷ us) r.3, r.4)
 
-  module _ (order : T → T → Ordering) (p : IsProbe order against) (xs page : List T) (it : IsPiece page xs) (s : Ascends order xs) (i : ℕ) (inner : IsInnerGap against page i) where
+  module _ (order : T → T → Ordering) (p : IsProbe order against) (xs page : List T) (it : IsPiece page xs) (s : Ascends order xs) (i : ℕ) (inner : BelongsWithin against page i) where
     -- the elements before the page are below the key, and those after it above
     front_below : AllBelow against it.front
     front_below =
-        let f = first_of_front page i inner.some inner.less inner.gap.before in
+        let f = first_of_front page i inner.some inner.less inner.belongs.before in
         before_one order against p it.front f.0 (f.1 ++ it.rest) (subst (Ascends order) (it.is ∙ ap (λ us. it.front ++ (us ++ it.rest)) f.2) s) (ap is_lt f.3)
 
     rest_above : AllAbove against it.rest
     rest_above =
-        let r = first_of_rest page i inner.less inner.gap.after in
+        let r = first_of_rest page i inner.less inner.belongs.after in
         let us = r.0 in
         let z = r.1 in
         let zs = r.2 in
@@ -69,13 +69,13 @@ module _ {T : Type 0} (against : T → Ordering) where
     pub run_above : IsRun (drop i page) (above against xs)
     run_above = record {
       rest = it.rest;
-      is = ap (above against) it.is ∙ above_cut against it.front page it.rest front_below rest_above ∙ ap (λ us. us ++ it.rest) (above_gap against page i inner.gap);
+      is = ap (above against) it.is ∙ above_cut against it.front page it.rest front_below rest_above ∙ ap (λ us. us ++ it.rest) (above_gap against page i inner.belongs);
       some = λ e. absurd (omega (arith, e, length-drop i page, inner.less));
     }
 
     pub run_below : IsEndRun (take i page) (below against xs)
     run_below = record {
       rest = it.front;
-      is = ap (below against) it.is ∙ below_cut against it.front page it.rest front_below rest_above ∙ ap (λ us. it.front ++ us) (below_gap against page i inner.gap);
+      is = ap (below against) it.is ∙ below_cut against it.front page it.rest front_below rest_above ∙ ap (λ us. it.front ++ us) (below_gap against page i inner.belongs);
       some = λ e. absurd (omega (arith, e, length-take i page, inner.some, inner.less));
     }

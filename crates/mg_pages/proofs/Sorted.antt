@@ -7,7 +7,7 @@ use Rattle.std.specs.Cmp.{IsTotalOrder}
 use Rattle.std.specs.List.{AllByRecursion, filter}
 use Rattle.std.specs.Ordering.{ordering_reverse}
 use Rattle.mg_pages.specs.Order.{below, above, inserted, removed, found, first_of_list, probe_from_total, IsProbe, Ascends}
-use Rattle.mg_pages.specs.Search.{IsTie, IsGap, AllBelow, AllAbove}
+use Rattle.mg_pages.specs.Search.{IsTie, BelongsAt, AllBelow, AllAbove}
 use Rattle.mg_pages.specs.Runs.{continued, continued_after, ended}
 
 pub set_is : {X : Type 0} (xs : List X) (i : ℕ) (q : X) → i < length xs → set xs i q ≡ take i xs ++ q ∷ drop (i + 1) xs
@@ -122,7 +122,7 @@ inserted_cut order x front mid rest low high =
     ap₂ (λ us vs. us ++ x ∷ vs) (below_cut (order x) front mid rest low high) (above_cut (order x) front mid rest low high)
     ∙ append_assoc front (below (order x) mid) (x ∷ (above (order x) mid ++ rest)) ∙ ap (λ xs. front ++ xs) (sym (append_assoc (below (order x) mid) (x ∷ above (order x) mid) rest))
 
-pub inserted_gap : {T : Type 0} (order : T → T → Ordering) (x : T) (xs : List T) (i : ℕ) → IsGap (order x) xs i → inserted order x xs ≡ take i xs ++ x ∷ drop i xs
+pub inserted_gap : {T : Type 0} (order : T → T → Ordering) (x : T) (xs : List T) (i : ℕ) → BelongsAt (order x) xs i → inserted order x xs ≡ take i xs ++ x ∷ drop i xs
 inserted_gap order x xs i gap = ap (inserted order x) (sym (take-append-drop i xs)) ∙ inserted_cut order x (take i xs) [] (drop i xs) gap.before gap.after
 
 pub inserted_tie : {T : Type 0} (order : T → T → Ordering) (x : T) (xs : List T) (i : ℕ) → IsTie (order x) xs i → inserted order x xs ≡ take i xs ++ x ∷ drop (i + 1) xs
@@ -130,7 +130,7 @@ inserted_tie order x xs i tie =
     let one : inserted order x (tie.element ∷ []) ≡ x ∷ [] = ap₂ (λ us vs. us ++ x ∷ vs) (below_one_tied (order x) tie.element tie.ties) (above_one_tied (order x) tie.element tie.ties) in
     ap (inserted order x) tie.is ∙ inserted_cut order x (take i xs) (tie.element ∷ []) (drop (i + 1) xs) tie.before tie.after ∙ ap (λ ys. take i xs ++ (ys ++ drop (i + 1) xs)) one
 
-pub found_gap : {T : Type 0} (against : T → Ordering) (xs : List T) (i : ℕ) → IsGap against xs i → found against xs ≡ None
+pub found_gap : {T : Type 0} (against : T → Ordering) (xs : List T) (i : ℕ) → BelongsAt against xs i → found against xs ≡ None
 found_gap against xs i gap = ap (found against) (sym (take-append-drop i xs)) ∙ found_cut against (take i xs) [] (drop i xs) gap.before gap.after
 
 pub found_tie : {T : Type 0} (against : T → Ordering) (xs : List T) (i : ℕ) (tie : IsTie against xs i) → found against xs ≡ Some tie.element
@@ -258,7 +258,7 @@ module _ {T : Type 0} (order : T → T → Ordering) (o : IsTotalOrder order) wh
   continued_is xs pre [] rest e s h = sym (h refl)
   continued_is xs pre (x ∷ run) rest e s h = ap (λ us. x ∷ us) (continued_run xs pre x run rest e s)
 
-pub above_gap : {T : Type 0} (against : T → Ordering) (xs : List T) (i : ℕ) → IsGap against xs i → above against xs ≡ drop i xs
+pub above_gap : {T : Type 0} (against : T → Ordering) (xs : List T) (i : ℕ) → BelongsAt against xs i → above against xs ≡ drop i xs
 above_gap against xs i gap = ap (above against) (sym (take-append-drop i xs)) ∙ above_cut against (take i xs) [] (drop i xs) gap.before gap.after
 
 pub above_tie : {T : Type 0} (against : T → Ordering) (xs : List T) (i : ℕ) → IsTie against xs i → above against xs ≡ drop (i + 1) xs
@@ -271,7 +271,7 @@ removed_cut against front mid rest low high =
     ap₂ (λ us vs. us ++ vs) (below_cut against front mid rest low high) (above_cut against front mid rest low high)
     ∙ append_assoc front (below against mid) (above against mid ++ rest) ∙ ap (λ xs. front ++ xs) (sym (append_assoc (below against mid) (above against mid) rest))
 
-pub removed_gap : {T : Type 0} (against : T → Ordering) (xs : List T) (i : ℕ) → IsGap against xs i → removed against xs ≡ xs
+pub removed_gap : {T : Type 0} (against : T → Ordering) (xs : List T) (i : ℕ) → BelongsAt against xs i → removed against xs ≡ xs
 removed_gap against xs i gap = ap (removed against) (sym (take-append-drop i xs)) ∙ removed_cut against (take i xs) [] (drop i xs) gap.before gap.after ∙ take-append-drop i xs
 
 pub removed_tie : {T : Type 0} (against : T → Ordering) (xs : List T) (i : ℕ) → IsTie against xs i → removed against xs ≡ take i xs ++ drop (i + 1) xs
@@ -304,7 +304,7 @@ removed_ascends order against p xs s =
 
 -- ---- runs from the end
 
-pub below_gap : {T : Type 0} (against : T → Ordering) (xs : List T) (i : ℕ) → IsGap against xs i → below against xs ≡ take i xs
+pub below_gap : {T : Type 0} (against : T → Ordering) (xs : List T) (i : ℕ) → BelongsAt against xs i → below against xs ≡ take i xs
 below_gap against xs i gap = ap (below against) (sym (take-append-drop i xs)) ∙ below_cut against (take i xs) [] (drop i xs) gap.before gap.after ∙ append-nil (take i xs)
 
 pub below_tie : {T : Type 0} (against : T → Ordering) (xs : List T) (i : ℕ) → IsTie against xs i → below against xs ≡ take i xs

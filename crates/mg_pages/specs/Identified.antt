@@ -15,7 +15,7 @@ id_order id = on id (slice_cmp nat_cmp)
 abbrev pub id_against : {T : Type 0} → (T → List ℕ) → List ℕ → T → Ordering
 id_against id key x = slice_cmp nat_cmp key (id x)
 
--- the order is total
+-- the order by id is total
 pub id_order_total : {T : Type 0} (id : T → List ℕ) → IsTotalOrder (id_order id)
 id_order_total id = on_total id nat_list_cmp_total
 

@@ -1,5 +1,5 @@
 -- A collection stands for a sorted list without ties, in which keys are looked up, as in a sorted map.
--- A key is compared to an element by `against`: `Less` where the key is below the element.
+-- A key is compared to an element by `against`: `Less` if the key is below the element.
 use Rattle.std.specs.Prelude.{◌≡◌, false, List, [], ◌∷◌, ◌++◌, Option, Some, None, refl}
 use Rattle.std.specs.Cmp.{IsTotalOrder}
 use Rattle.std.specs.List.{filter, AllByRecursion}
@@ -38,21 +38,21 @@ found against xs = first_of_list (filter (λ x. is_eq (against x)) xs)
 abbrev pub inserted : {T : Type 0} → (T → T → Ordering) → T → List T → List T
 inserted order x xs = below (order x) xs ++ x ∷ above (order x) xs
 
--- the list without the element that ties with a key
+-- the list without the element that ties with a key, if there is one
 abbrev pub removed : {T : Type 0} → (T → Ordering) → List T → List T
 removed against xs = below against xs ++ above against xs
 
--- a key has one place in the order: where it is not above x, it is below all that is above x
+-- a key has one place in the order: if it is not above an element, it is below all elements above that one
 abbrev pub IsProbe : {T : Type 0} → (T → T → Ordering) → (T → Ordering) → Type 0
 IsProbe {T} order against = (x y : T) → order x y ≡ Less → is_gt (against x) ≡ false → against y ≡ Less
 
--- a key with its ties below it
+-- the result of a comparison once the key is moved just past the element that it ties with: a tie becomes `Greater`
 abbrev pub over : Ordering → Ordering
 over Less = Less
 over Equal = Greater
 over Greater = Greater
 
--- ---- what is a key
+-- ---- which values are keys
 
 probe_cases : {T : Type 0} {order : T → T → Ordering} → IsTotalOrder order → (a x y : T) (r : Ordering) → order a x ≡ r → order x y ≡ Less → is_gt r ≡ false → order a y ≡ Less
 probe_cases o a x y Less e l n = o.trans a x y e l
@@ -72,6 +72,6 @@ not_above_over Less n = n
 not_above_over Equal n = cc
 not_above_over Greater n = n
 
--- a key with its ties below it is a key
+-- a key that is moved just past the element that it ties with is a key
 pub probe_over : {T : Type 0} (order : T → T → Ordering) (against : T → Ordering) → IsProbe order against → IsProbe order (λ x. over (against x))
 probe_over order against p = λ x y l n. ap over (p x y l (not_above_over (against x) n))

@@ -1,4 +1,4 @@
--- What pages and levels stand for.
+-- What pages and levels stand for. `seen` gives the elements of a part, `is_whole` says that a part is whole.
 use Rattle.mg_pages.specs.Order.{Ascends}
 use Rattle.mg_pages.specs.declared.child.Child.{Child}
 use Rattle.mg_pages.specs.declared.child.Node.{Node}
@@ -22,7 +22,7 @@ AreWhole is_whole ps = AllByRecursion is_whole ps
 abbrev pub node_value : {T P : Type 0} → Node T P → T × P
 node_value n = (n.last, n.part)
 
--- what a child stands for: that of the node that it shares
+-- what a child stands for: what its node stands for
 abbrev pub child_value : {T P : Type 0} → Child T P → T × P
 child_value c = node_value (arc_value c.node)
 
@@ -39,12 +39,12 @@ abbrev pub child_whole : {T P : Type 0} → (P → Type 0) → (P → List T) �
 child_whole is_whole seen c = is_whole c.1 × IsLast c.0 (seen c.1)
 
 module _ {P T : Type 0} (is_whole : P → Type 0) (seen : P → List T) where
-  -- q has the elements of p
+  -- q is whole, and has the elements of p
   pub record IsCopy (p q : P) : Type 0 where
     pub whole : is_whole q
     pub same : seen q ≡ seen p
 
-  -- the halves have the elements of p
+  -- the halves are whole, and have the elements of p
   pub record AreHalves (p : P) (halves : P × P) : Type 0 where
     pub front : is_whole halves.0
     pub back : is_whole halves.1
@@ -54,7 +54,7 @@ module _ {P T : Type 0} (is_whole : P → Type 0) (seen : P → List T) where
 abbrev pub level_seen : {P T : Type 0} → (P → List T) → Level T P → List T
 level_seen seen l = flat_map (child_seen seen) (children l.parts.items)
 
--- a level has parts, all of them whole, and its count is the number of its elements
+-- the level has at least one part, each part is whole and ends with the element beside it, and the count is the number of elements
 abbrev pub level_whole : {P T : Type 0} → (P → Type 0) → (P → List T) → Level T P → Type 0
 level_whole is_whole seen l = (0 < length l.parts.items) × (AreWhole (child_whole is_whole seen) (children l.parts.items) × (l.count ≡ length (level_seen seen l)))
 
@@ -62,7 +62,7 @@ level_whole is_whole seen l = (0 < length l.parts.items) × (AreWhole (child_who
 abbrev pub page_seen : {T : Type 0} → Page T → List T
 page_seen p = p.elements.items
 
--- a page is not empty
+-- the page is not empty
 abbrev pub page_whole : {T : Type 0} → Page T → Type 0
 page_whole p = 0 < length p.elements.items
 
@@ -78,7 +78,7 @@ Root T = Level T (High T)
 abbrev pub high_seen : {T : Type 0} → High T → List T
 high_seen = level_seen (level_seen page_seen)
 
--- a part of the root is whole
+-- the part of the root is whole
 abbrev pub high_whole : {T : Type 0} → High T → Type 0
 high_whole = level_whole (level_whole page_whole page_seen) (level_seen page_seen)
 
@@ -86,7 +86,8 @@ high_whole = level_whole (level_whole page_whole page_seen) (level_seen page_see
 abbrev pub root_seen : {T : Type 0} → Root T → List T
 root_seen r = level_seen high_seen r
 
--- only the root itself may be empty, the elements ascend, and the root's count is their number
+-- each part of the root is whole and ends with the element beside it, the elements ascend, and the root's count is their number; the root
+-- may have no parts
 pub record IsSound {T : Type 0} (order : T → T → Ordering) (r : Root T) : Type 0 where
   pub whole : AreWhole (child_whole high_whole high_seen) (children r.parts.items)
   pub sorted : Ascends order (root_seen r)

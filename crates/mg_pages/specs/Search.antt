@@ -4,15 +4,15 @@ use Rattle.std.specs.List.{AllByRecursion}
 use Rattle.std.specs.declared.cmp.Ordering.{Ordering}
 use Rattle.std.specs.declared.cmp.Ordering.TheVariants.{Less, Equal, Greater}
 
--- a key is above all the elements
+-- the key is above all the elements
 abbrev pub AllBelow : {T : Type 0} → (T → Ordering) → List T → Type 0
 AllBelow against xs = AllByRecursion (λ x. against x ≡ Greater) xs
 
--- a key is below all the elements
+-- the key is below all the elements
 abbrev pub AllAbove : {T : Type 0} → (T → Ordering) → List T → Type 0
 AllAbove against xs = AllByRecursion (λ x. against x ≡ Less) xs
 
--- the key ties with the element at i
+-- the key ties with the element at i: it is above those before i and below those after it
 pub record IsTie {T : Type 0} (against : T → Ordering) (xs : List T) (i : ℕ) : Type 0 where
   pub within : i < length xs
   pub element : T
@@ -22,14 +22,14 @@ pub record IsTie {T : Type 0} (against : T → Ordering) (xs : List T) (i : ℕ)
   pub after : AllAbove against (drop (i + 1) xs)
 
 -- the key ties with no element, and belongs before the element at i, or at the end if i is the length
-pub record IsGap {T : Type 0} (against : T → Ordering) (xs : List T) (i : ℕ) : Type 0 where
+pub record BelongsAt {T : Type 0} (against : T → Ordering) (xs : List T) (i : ℕ) : Type 0 where
   pub within : i ≤ length xs
   pub before : AllBelow against (take i xs)
   pub after : AllAbove against (drop i xs)
 
 -- the key ties with no element, and belongs between the element before i and the one at i
-pub record IsInnerGap {T : Type 0} (against : T → Ordering) (xs : List T) (i : ℕ) : Type 0 where
-  pub gap : IsGap against xs i
+pub record BelongsWithin {T : Type 0} (against : T → Ordering) (xs : List T) (i : ℕ) : Type 0 where
+  pub belongs : BelongsAt against xs i
   pub some : 0 < i
   pub less : i < length xs
 

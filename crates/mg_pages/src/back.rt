@@ -25,7 +25,8 @@ impl<'a, T: Keyed> Model for Back<'a, T> {
     ghost view = { λ it. reverse (ended T.order it.pages.now it.run.now) };
 }
 
-// The run with which to continue before `last`: `run`, which is what is left before it, or an earlier one if that is empty.
+// Finds the run with which to continue before `last`: `run`, which is what is left of the current run; if `run` is empty, the run
+// that ends before `last`; empty if no element is left.
 fn run_before_last<'a, T: Keyed>(pages: &'a Pages<T>, run: &'a [T], last: &'a T) -> &'a [T]
     ensures { ended T.order pages.now (run.now ++ last.now ∷ [])
         ≡ ended T.order pages.now result.now ++ last.now ∷ [] }
@@ -36,7 +37,8 @@ fn run_before_last<'a, T: Keyed>(pages: &'a Pages<T>, run: &'a [T], last: &'a T)
     pages.run_before(last)
 }
 
-// The run with which to continue after skipping the last `count` elements: what is left of this run, or an earlier one.
+// Finds the run with which to continue once the last `count` elements are skipped: what is left of this run, or an earlier run; empty if
+// no element is left.
 fn run_before_skip<'a, T: Keyed>(pages: &'a Pages<T>, run: &'a [T], count: usize) -> &'a [T]
     ensures { reverse (ended T.order pages.now result.now)
         ≡ drop count (reverse (ended T.order pages.now run.now)) }
@@ -59,7 +61,7 @@ impl<'a, T: Keyed> Back<'a, T> {
         Back { pages, run }
     }
 
-    /// Skips `count` elements. Cost: that of `Iter::advance`. Takes no memory.
+    /// Skips `count` elements, or all elements if fewer are left. Takes no memory. Cost: that of `Iter::advance`.
     pub fn advance(&mut self, count: usize)
         ensures { self.new ≡ drop count self.old }
     {
@@ -67,8 +69,8 @@ impl<'a, T: Keyed> Back<'a, T> {
         self.run = run_before_skip(self.pages, run, count);
     }
 
-    /// The element of the current run that is read last (a run is the rest of one page), and its place among the elements that are left;
-    /// `None` if nothing is left. Cost: constant.
+    /// Returns the first element of the current run (the rest of the current page), which is the one that the iterator reaches last, and
+    /// its place among the elements that are left, in the iterator's order; `None` if no element is left. Takes no memory. Cost: constant.
     pub fn run_end(&self) -> Option<(usize, &'a T)>
         ensures { MatchOption result (self.now ≡ []) (λ end. slice_get self.now end.0 ≡ Some end.1.now) }
     {

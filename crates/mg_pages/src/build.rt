@@ -1,16 +1,17 @@
-//! Builds collections from elements that are in order already.
+//! Builds collections from elements that are in order already. Errors: those of `Subtree`.
 ghost use Rattle.std.specs.Prelude.{◌≡◌, ◌<◌, ◌^◌, length, IfOk};
 ghost use Rattle.std.specs.List.{flat_map};
 ghost use Rattle.mg_pages.specs.Parts.{children, child_seen, child_whole, page_seen, page_whole, level_seen, level_whole, AreWhole};
 
 use crate::child::{Child, child_of, copy_children};
 use crate::keyed::Keyed;
-use crate::level::{Level, count_of};
+use crate::level::Level;
+use crate::level_parts::count_of;
 use crate::page::{Page, page_of};
 use crate::subtree::{FILL, Subtree};
 use std::alloc::{AllocError, Global};
 
-/// Groups the elements into pages. All pages but the last have `FILL` elements.
+/// Groups the elements into pages. All pages but the last have `FILL` elements. Without elements, there is no page.
 pub fn make_pages<T: Keyed>(
     alloc: Global,
     elements: &[T],
@@ -30,7 +31,7 @@ pub fn make_pages<T: Keyed>(
     Ok(pages)
 }
 
-/// Groups the parts into levels. All levels but the last have `FILL` parts.
+/// Groups the parts into levels. All levels but the last have `FILL` parts. Without parts, there is no level.
 pub fn group<T: Keyed, P: Subtree<T>>(
     alloc: Global,
     parts: &[Child<T, P>],

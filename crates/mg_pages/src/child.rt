@@ -1,5 +1,7 @@
-//! The children of a level. Each child shares a node: a part of the level, which is a page or a lower level, with its last element
-//! beside it. So a copy of a level changes one reference count for each child.
+//! The children of a level. A child is a reference to a node, which is a part of the level (a page or a lower level) with its last
+//! element beside it. Copies of a level share its nodes, so a copy changes one reference count for each child.
+//!
+//! Errors: those of `Subtree`; then no element has changed.
 ghost use Rattle.std.specs.Prelude.{◌≡◌, ◌<◌, [], true, false, is_some, length, List, IfOk, IsSome, OnOk, OnErr};
 ghost use Rattle.std.specs.Arc.{arc_value};
 ghost use Rattle.mg_pages.specs.Order.{Ascends, found, inserted, removed};
@@ -48,7 +50,7 @@ pub fn child_of<T: Keyed, P: Subtree<T>>(alloc: Global, part: P) -> Result<Child
     Ok(Child { node, hint })
 }
 
-// A second child that shares the node.
+// Makes a second child that shares the node.
 fn copy<T: Drop, P: Drop>(child: &Child<T, P>) -> Result<Child<T, P>, AllocError>
     ensures { IfOk result (λ c. child_value c ≡ child_value child.now) }
 {
@@ -57,7 +59,8 @@ fn copy<T: Drop, P: Drop>(child: &Child<T, P>) -> Result<Child<T, P>, AllocError
     Ok(Child { node, hint })
 }
 
-/// Prefetch: reads the reference count of each child's node, so that cache misses overlap. Returns their sum, wrapped at 64 bits.
+/// Prefetch: reads the reference count of each child's node, so that cache misses overlap. Returns the sum of the counts, wrapped at 64
+/// bits.
 pub fn owners_of_nodes<T: Drop, P: Drop>(parts: &[Child<T, P>]) -> usize {
     let mut owners = 0usize;
     for child in parts {
@@ -82,7 +85,7 @@ pub fn copy_children<T: Drop, P: Drop>(
     Ok(copies)
 }
 
-// The last element after `element` is put among elements that end with `last`.
+// Duplicates the element that is the last one once `element` is put among elements that end with `last`.
 fn last_with<T: Keyed>(last: &T, element: &T) -> Result<T, AllocError>
     ensures { IfOk result (λ a. (xs : List T) → Ascends T.order xs → IsLast last.now xs
         → IsLast a (inserted T.order element.now xs)) }
@@ -96,7 +99,8 @@ fn last_with<T: Keyed>(last: &T, element: &T) -> Result<T, AllocError>
     Ok(kept)
 }
 
-// The last element of a part that ends with `last`, after the element that ties with a key is removed; `last` if none is left.
+// Duplicates the element that is the last one once the element that ties with a key is removed from a part that ends with `last`; `last`
+// if no element is left.
 fn last_without<T: Keyed, P: Subtree<T>, Q: Probe<T>>(
     part: &P,
     last: &T,
@@ -121,7 +125,7 @@ fn last_without<T: Keyed, P: Subtree<T>, Q: Probe<T>>(
     Ok(kept)
 }
 
-// A second node, with a copy of the part.
+// Makes a second node, with a copy of the part.
 fn own_node<T: Keyed, P: Subtree<T>>(
     alloc: Global,
     node: &Node<T, P>,
@@ -136,7 +140,7 @@ fn own_node<T: Keyed, P: Subtree<T>>(
     Ok(Node { last, part })
 }
 
-// Puts an element into the part of a node, and returns whether it replaced one that ties.
+// Puts an element into the part of a node, and returns whether it replaced one that ties with it.
 fn put_in_node<T: Keyed, P: Subtree<T>>(
     alloc: Global,
     node: &mut Node<T, P>,
@@ -182,7 +186,7 @@ fn take_out_of_node<T: Keyed, P: Subtree<T>, Q: Probe<T>>(
     Ok(emptied)
 }
 
-// Like `put_in_node`, but copies the node first where others share it.
+// Like `put_in_node`, but copies the node first if others share it.
 fn put_shared<T: Keyed, P: Subtree<T>>(
     alloc: Global,
     node: &mut Arc<Node<T, P>>,
@@ -208,7 +212,7 @@ fn put_shared<T: Keyed, P: Subtree<T>>(
     Ok(had)
 }
 
-// Like `take_out_of_node`, but copies the node first where others share it.
+// Like `take_out_of_node`, but copies the node first if others share it.
 fn take_out_shared<T: Keyed, P: Subtree<T>, Q: Probe<T>>(
     alloc: Global,
     node: &mut Arc<Node<T, P>>,
@@ -237,7 +241,7 @@ fn take_out_shared<T: Keyed, P: Subtree<T>, Q: Probe<T>>(
     Ok(emptied)
 }
 
-/// Puts an element into a child, which is copied if others share it, and returns whether it replaced one that ties.
+/// Puts an element into a child, whose node is copied if others share it. Returns whether the element replaced one that ties with it.
 pub fn put_into<T: Keyed, P: Subtree<T>>(
     alloc: Global,
     child: &mut Child<T, P>,
@@ -258,8 +262,8 @@ pub fn put_into<T: Keyed, P: Subtree<T>>(
     Ok(had)
 }
 
-/// Removes the element that ties with a key from a child, which is copied if others share it, and returns whether the child is
-/// then empty.
+/// Removes the element that ties with a key from a child, whose node is copied if others share it. Returns whether the child is then
+/// empty.
 pub fn take_out_of<T: Keyed, P: Subtree<T>, Q: Probe<T>>(
     alloc: Global,
     child: &mut Child<T, P>,

@@ -10,14 +10,14 @@ use std::sync::Arc;
 
 /// An element that several pages can have.
 pub trait Element: Drop + Sized {
-    /// Duplicates the element: a copy of its bytes, or one more owner of its block. Takes no memory.
+    /// Makes a duplicate of the element: a copy of its bytes, or one more owner of its block. Takes no memory.
     ///
-    /// Errors: `AllocError` where the block has 2^63 - 1 owners.
+    /// Errors: `AllocError` if the block has 2^63 - 1 owners.
     fn again(&self) -> Result<Self, AllocError>
         ensures { IfOk result (λ e. e ≡ self.now) };
 
-    /// Appends a duplicate to a list, which has room for it. Takes no memory. A type overrides it where the duplicate can be written to
-    /// its place at once. Errors: those of `again`.
+    /// Appends a duplicate to a list, which must have room for it. Takes no memory. A type overrides this method if it can write the
+    /// duplicate directly into the list. Errors: those of `again`.
     #[inline(always)]
     fn push_again(&self, list: &mut Vec<Self>) -> Result<(), AllocError>
         requires { vec_len list.old < vec_capacity list.old }
@@ -30,7 +30,7 @@ pub trait Element: Drop + Sized {
         Ok(())
     }
 
-    /// How many owners its block has, read from the block; 0 for an element that has no block.
+    /// How many owners the element's block has, read from the block; 0 for an element that has no block.
     fn owners(&self) -> usize {
         0
     }
@@ -59,7 +59,7 @@ impl<X: Drop> Shared<X> {
         Ok(Shared { arc })
     }
 
-    /// The value. Takes no memory.
+    /// Lends the value. Takes no memory.
     pub fn get(&self) -> &X
         ensures { result.now ≡ self.now }
     {
@@ -90,9 +90,9 @@ impl<X: Drop> Deref for Shared<X> {
     }
 }
 
-/// Prefetch: reads the reference count of each element up to the first that has no block, and returns their sum, wrapped at 64 bits.
+/// Prefetch: reads the reference count of each element before the first that has no block, and returns the sum, wrapped at 64 bits.
 /// Cache misses of reads overlap, but those of updates follow one another; so this runs before elements are copied or dropped.
-/// Where an element has no block, its neighbours mostly have none either.
+/// It stops at an element without a block, since most of its neighbours have none either.
 pub fn owners_of<T: Element>(elements: &[T]) -> usize {
     let mut owners = 0usize;
     for element in elements {
@@ -105,14 +105,14 @@ pub fn owners_of<T: Element>(elements: &[T]) -> usize {
     owners
 }
 
-/// The capacity for a copy of a list: for one item more than the list has.
+/// Returns the capacity for a copy of a list of `count` items: one more, unless `count` is the greatest `usize`.
 pub fn room_for(count: usize) -> usize
     ensures { count ≤ result }
 {
     if count < usize::MAX { count + 1 } else { count }
 }
 
-/// Duplicates the elements, in a list with room for one more.
+/// Duplicates the elements into a list with room for one more. Errors: `AllocError` if the allocation or a duplicate fails.
 pub fn copy_elements<T: Element>(alloc: Global, elements: &[T]) -> Result<Vec<T>, AllocError>
     ensures { IfOk result (λ v. v.items ≡ elements.now) }
 {

@@ -1,15 +1,16 @@
 //! Hints: numbers that say where a search begins. A wrong hint makes a search longer, but does not change its result.
+//! Errors: `AllocError` if an allocation fails.
 ghost use Rattle.std.specs.Prelude.{◌<◌, ◌≤◌, length};
 
 use crate::keyed::Keyed;
 use std::alloc::{AllocError, Global};
 
-/// The hint of an element.
+/// Returns the hint of an element.
 pub fn hint_of<T: Keyed>(element: &T) -> u64 {
     <T as Keyed>::hint(element)
 }
 
-/// The hint of a text: its first eight bytes, filled up with zeros, as a big-endian number.
+/// Returns the hint of a text: its first eight bytes as a big-endian number. A shorter text is filled up with zeros. Takes no memory.
 pub fn text_hint(text: &str) -> u64 {
     match text.as_bytes() {
         [a, b, c, d, e, f, g, h, ..] => u64::from_be_bytes([*a, *b, *c, *d, *e, *f, *g, *h]),
@@ -17,7 +18,7 @@ pub fn text_hint(text: &str) -> u64 {
     }
 }
 
-// The hint of a text of fewer than eight bytes.
+// Returns the hint of a text of fewer than eight bytes.
 fn short_hint(bytes: &[u8]) -> u64 {
     let mut padded = [0; 8];
     let len = bytes.len().min(8);
@@ -25,7 +26,8 @@ fn short_hint(bytes: &[u8]) -> u64 {
     u64::from_be_bytes(padded)
 }
 
-/// The next place that a search looks at: the guess, then the places beside it, and then the middle.
+/// Chooses the next place that a search from `low` up to, but not including, `high` looks at: the guess, if the guess is one of these
+/// places; the place beside the guess, if the guess is just outside; else the middle.
 pub fn next_guess(low: usize, high: usize, guess: usize) -> usize
     requires { low < high }
     ensures low { low ≤ result }
@@ -50,18 +52,18 @@ pub struct Hints {
 }
 
 impl Hints {
-    /// No hints yet, with room for `count` and one more.
+    /// Makes an empty list of hints, with room for `count` hints and one more.
     pub fn with_room(alloc: Global, count: usize) -> Result<Hints, AllocError> {
         let numbers = Vec::with_capacity(alloc, count.saturating_add(1))?;
         Ok(Hints { numbers })
     }
 
-    /// A copy of the hints, with room for one more.
+    /// Copies the hints, with room for one more.
     pub fn copy(&self, alloc: Global) -> Result<Hints, AllocError> {
         hints_of(alloc, &self.numbers)
     }
 
-    /// The hints of the first `count` elements, and those of the others, each with room for one more.
+    /// Copies the hints of the first `count` elements into one list and the other hints into a second, each with room for one more.
     pub fn halves(&self, alloc: Global, count: usize) -> Result<(Hints, Hints), AllocError> {
         let count = count.min(self.numbers.len());
         let (front, back) = self.numbers.split_at(count);
@@ -76,7 +78,7 @@ impl Hints {
         Ok(())
     }
 
-    /// Inserts the hint of an element that is inserted at `i`.
+    /// Inserts the hint of an element that is inserted at `i`; does nothing if `i` is greater than the number of hints.
     pub fn add_at(&mut self, i: usize, number: u64) -> Result<(), AllocError> {
         if i <= self.numbers.len() {
             self.numbers.insert(i, number)?;
@@ -84,14 +86,16 @@ impl Hints {
         Ok(())
     }
 
-    /// Removes the hint of the element at `i`.
+    /// Removes the hint of the element at `i`; does nothing if there is no such hint.
     pub fn drop_at(&mut self, i: usize) {
         if i < self.numbers.len() {
             self.numbers.remove(i);
         }
     }
 
-    /// The place of the first hint that is not below `number`; where several equal `number`, the middle one.
+    /// Guesses the place of a key with the hint `number`. If the hints never fall, this is the place of the first hint that is not below
+    /// `number`, or the number of hints if there is no such hint. If several hints equal `number`, it is the place of the middle one of
+    /// these; but for the greatest `u64` it is that of the first.
     pub fn guess(&self, number: u64) -> usize {
         let first = begin_of(&self.numbers, number);
         match self.numbers.get(first.saturating_add(1)) {
@@ -114,8 +118,8 @@ fn hints_of(alloc: Global, given: &[u64]) -> Result<Hints, AllocError> {
 /// How many hints a search passes over at a time, before it looks at each.
 pub const STEP: usize = 8;
 
-// The place of the first hint that is not below `number`. For the few hints of a page, steps of a fixed length take fewer instructions
-// than halving.
+// Finds the place of the first hint that is not below `number`, if the hints never fall; the number of hints if there is no such hint. For
+// the few hints of a page, steps of a fixed length take fewer instructions than a binary search.
 fn begin_of(numbers: &[u64], number: u64) -> usize {
     let mut first = coarse_begin(numbers, number);
     while first < numbers.len() && numbers[first] < number {
@@ -124,7 +128,7 @@ fn begin_of(numbers: &[u64], number: u64) -> usize {
     first
 }
 
-// A place at most `STEP` before that of `begin_of`.
+// Finds a place at most `STEP` before that of `begin_of`.
 fn coarse_begin(numbers: &[u64], number: u64) -> usize
     ensures { result ≤ length numbers.now }
 {

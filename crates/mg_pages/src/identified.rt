@@ -6,12 +6,12 @@ use crate::hint::text_hint;
 use crate::keyed::{Keyed, Probe};
 use std::cmp::Ordering;
 
-/// Values that have an id. In a `Shared` block such a value is an element; elements are in the order of their ids, byte by byte.
+/// Values that have an id. `Shared` makes such a value an element; the elements are in the order of their ids, byte by byte.
 pub trait Identified: Drop {
     // the bytes of the id
     ghost id: { Self → List ℕ };
 
-    /// The id. Takes no memory.
+    /// Lends the id. Takes no memory.
     fn id(&self) -> &str
         ensures { result.now ≡ id self.now };
 }

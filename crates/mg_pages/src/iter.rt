@@ -25,7 +25,8 @@ impl<'a, T: Keyed> Model for Iter<'a, T> {
     ghost view = { λ it. continued T.order it.pages.now it.run.now };
 }
 
-// The run with which to continue after the first element of a run: what is left of it, or the next one.
+// Finds the run with which to continue after the first element of this run: what is left of this run, or the next run; empty if no element
+// is left.
 #[inline(always)]
 fn run_after_first<'a, T: Keyed>(pages: &'a Pages<T>, run: &'a [T]) -> &'a [T]
     requires { 0 < length run.now }
@@ -38,7 +39,8 @@ fn run_after_first<'a, T: Keyed>(pages: &'a Pages<T>, run: &'a [T]) -> &'a [T]
     pages.run_after(&run[0])
 }
 
-// The run with which to continue after skipping `count` elements: what is left of this run, or a later one.
+// Finds the run with which to continue once `count` elements are skipped: what is left of this run, or a later run; empty if no element is
+// left.
 fn run_after_skip<'a, T: Keyed>(pages: &'a Pages<T>, run: &'a [T], count: usize) -> &'a [T]
     ensures { continued T.order pages.now result.now
         ≡ drop count (continued T.order pages.now run.now) }
@@ -61,8 +63,9 @@ impl<'a, T: Keyed> Iter<'a, T> {
         Iter { pages, run }
     }
 
-    /// Skips `count` elements. Cost: constant within a page; otherwise the logarithm of the number of elements, and a read of the
-    /// count of each part before the place, at most 64 for each level below the top. Takes no memory.
+    /// Skips `count` elements, or all elements if fewer are left. Takes no memory. Cost: constant within a page; otherwise the logarithm of
+    /// the number of elements, and reads of the counts of the parts before the place that it reaches, at most 64 on each level below the
+    /// top.
     pub fn advance(&mut self, count: usize)
         ensures { self.new ≡ drop count self.old }
     {
@@ -70,8 +73,8 @@ impl<'a, T: Keyed> Iter<'a, T> {
         self.run = run_after_skip(self.pages, run, count);
     }
 
-    /// The last element of the run that is being read, which is the rest of one page, and its place among the elements that are left;
-    /// `None` if nothing is left. Cost: constant.
+    /// Returns the last element of the current run (the rest of the current page), and its place among the elements that are left; `None`
+    /// if no element is left. Takes no memory. Cost: constant.
     pub fn run_end(&self) -> Option<(usize, &'a T)>
         ensures { MatchOption result (self.now ≡ []) (λ end. slice_get self.now end.0 ≡ Some end.1.now) }
     {

@@ -8,18 +8,18 @@ ghost use Rattle.mg_pages.specs.Order.{IsProbe};
 use crate::element::Element;
 use std::cmp::Ordering;
 
-/// Elements with a total order. A collection has at most one of those that tie.
+/// Elements with a total order. Of elements that tie, a collection has at most one.
 pub trait Keyed: Element {
     // the order
     ghost order: { Self → Self → Ordering };
 
-    /// The hint: a number that never falls as elements ascend, which says where searches begin. A hint that falls costs time,
+    /// Returns the hint: a number that says where searches begin. It should never fall as elements ascend: a hint that falls costs time,
     /// but changes no result.
     fn hint(&self) -> u64 {
         0
     }
 
-    /// The order of two elements. Takes no memory.
+    /// Compares two elements. Takes no memory.
     fn order(&self, other: &Self) -> Ordering
         ensures { result ≡ order self.now other.now };
 
@@ -28,21 +28,22 @@ pub trait Keyed: Element {
 
 /// A key by which elements are looked up: it has one place in their order, where it may tie with an element.
 ///
-/// It need not be an element, nor hold one: a borrowed id is a key, and so is the start of a range.
+/// A key need not be an element: a borrowed id is a key, and so is the start of a range.
 pub trait Probe<T: Keyed> {
     // the order of the key against an element
     ghost against: { Self → T → Ordering };
 
-    /// The hint of the key, in the order of the elements' hints: it says where a search begins.
+    /// Returns the hint of the key: a number that says where a search begins. It should be no less than the hints of the elements below
+    /// the key, and no greater than the hints of the elements above the key; otherwise a search takes longer, with no other result.
     fn hint(&self) -> u64 {
         0
     }
 
-    /// The order of the key against an element: `Less` where the key is below it. Takes no memory.
+    /// Compares the key with an element: `Less` if the key is below the element. Takes no memory.
     fn against(&self, element: &T) -> Ordering
         ensures { result ≡ against self.now element.now };
 
-    /// Whether the key ties with an element. Takes no memory. A type overrides it where this test is faster than a comparison.
+    /// Whether the key ties with an element. Takes no memory. A type overrides this method if its test is faster than a comparison.
     fn ties(&self, element: &T) -> bool
         ensures { result ≡ is_eq (against self.now element.now) }
     {

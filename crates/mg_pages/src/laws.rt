@@ -1,4 +1,4 @@
-//! Laws of sorted lists as maps, each the contract of a function that does nothing.
+//! Laws of sorted lists as maps. Each is the contract of a function that does nothing.
 ghost use Rattle.std.specs.Prelude.{◌≡◌, ℕ, List, option_map};
 ghost use Rattle.std.specs.Cmp.Lexicographic.{slice_cmp};
 ghost use Rattle.std.specs.FinMap.{get, insert, remove};

@@ -1,5 +1,5 @@
-//! Ordered collections in shared pages: sharing one copies only its top level, and a change copies at most a page and the levels
-//! above it.
+//! Ordered collections in shared pages. Sharing a collection copies only its top level. A change copies at most one page and the
+//! levels above it. An insertion also splits each of these that has no room.
 #![tactic(auto)]
 
 mod back;
@@ -12,10 +12,12 @@ mod iter;
 mod keyed;
 pub mod laws;
 mod level;
+mod level_parts;
 mod new_page;
 mod over;
 mod page;
 mod pages;
+mod root;
 mod runs;
 mod subtree;
 

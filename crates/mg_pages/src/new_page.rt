@@ -1,4 +1,4 @@
-//! Collections of pages that are made one by one, so that several threads can make the pages of one collection.
+//! Pages that are made one by one, so that several threads can make the pages of one collection. `Pages::from_pages` builds the collection.
 ghost use Rattle.std.specs.Prelude.{◌≡◌, ◌<◌, ◌^◌, IfOk, List, length};
 ghost use Rattle.std.specs.List.{AllByRecursion, flat_map};
 ghost use Rattle.mg_pages.specs.Order.{Ascends};
@@ -7,7 +7,8 @@ ghost use Rattle.mg_pages.specs.Parts.{AreWhole, child_seen, child_value, child_
 use crate::build::group;
 use crate::child::{Child, child_of};
 use crate::keyed::Keyed;
-use crate::level::{Level, count_of};
+use crate::level::Level;
+use crate::level_parts::count_of;
 use crate::page::{Page, page_of};
 use crate::pages::Pages;
 use crate::subtree::FILL;
@@ -35,9 +36,9 @@ impl<T: Keyed> Model for NewPage<T> {
 }
 
 impl<T: Keyed> NewPage<T> {
-    /// A page of duplicates of these elements. With many more than `PAGE_FILL` of them its collection is slower.
+    /// Makes a page of duplicates of these elements. A page of many more than `PAGE_FILL` elements makes its collection slower.
     ///
-    /// Errors: `NoMemory` if an allocation fails. Cost: a step for each element.
+    /// Errors: `NoMemory` if an allocation fails, or an element's block would get 2^63 owners. Cost: a step for each element.
     pub fn of(alloc: Global, elements: &[T]) -> Result<NewPage<T>, NoMemory>
         ensures { IfOk result (λ p. p ≡ elements.now) }
     {
@@ -45,7 +46,7 @@ impl<T: Keyed> NewPage<T> {
         Ok(NewPage { page })
     }
 
-    // The page as a part of a level.
+    // Turns the page into a child of a level.
     fn child(self, alloc: Global) -> Result<Child<T, Page<T>>, AllocError>
         requires { 0 < length self }
         ensures whole { IfOk result (λ c. child_whole page_whole page_seen (child_value c)) }
@@ -56,7 +57,7 @@ impl<T: Keyed> NewPage<T> {
     }
 }
 
-// The pages as the parts of a level.
+// Turns the pages into children of a level.
 fn parts_of<T: Keyed>(
     alloc: Global,
     pages: Vec<NewPage<T>>,
@@ -75,7 +76,8 @@ fn parts_of<T: Keyed>(
 }
 
 impl<T: Keyed> Pages<T> {
-    /// Builds a collection of pages, in their order. No page may be empty, and the elements of all pages, in this order, must ascend.
+    /// Builds a collection of these pages, in this order. No page may be empty, and the elements of all pages must ascend. The contract
+    /// requires fewer than 2^64 elements.
     ///
     /// Errors: `NoMemory` if an allocation fails. Cost: a step for each page.
     pub fn from_pages(alloc: Global, pages: Vec<NewPage<T>>) -> Result<Pages<T>, NoMemory>

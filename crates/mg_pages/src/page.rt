@@ -1,7 +1,7 @@
 //! Pages of elements.
 ghost use Rattle.std.specs.Prelude.{is_some, ◌≡◌, ◌<◌, [], true, false, length, IfOk, IfSome, IsSome, MatchResult, OnOk, OnErr};
 ghost use Rattle.mg_pages.specs.Order.{Ascends, found, inserted, removed};
-ghost use Rattle.mg_pages.specs.Search.{IsTie, IsGap, IsInnerGap};
+ghost use Rattle.mg_pages.specs.Search.{IsTie, BelongsAt, BelongsWithin};
 
 use crate::element::{Element, copy_elements, owners_of};
 use crate::hint::{Hints, hint_of, next_guess};
@@ -25,12 +25,12 @@ impl<T: Element> Drop for Page<T> {
     }
 }
 
-// The place of the element that ties with a key (`Ok`), or the place where such an element belongs (`Err`).
+// Finds the place of the element that ties with a key (`Ok`), or, if there is no such element, the place where one belongs (`Err`).
 // Cost: the logarithm of the number of elements, in comparisons. The search begins at `guess`.
 pub fn find<T: Keyed, Q: Probe<T>>(elements: &[T], key: &Q, guess: usize) -> Result<usize, usize>
     requires { Ascends T.order elements.now }
     ensures { MatchResult result (IsTie (Q.against key.now) elements.now)
-        (IsGap (Q.against key.now) elements.now) }
+        (BelongsAt (Q.against key.now) elements.now) }
 {
     let mut low = 0;
     let mut high = elements.len();
@@ -45,10 +45,11 @@ pub fn find<T: Keyed, Q: Probe<T>>(elements: &[T], key: &Q, guess: usize) -> Res
     Err(low)
 }
 
-// The place where a key that ties with no element belongs, if there are elements on both sides of it. The search begins at `guess`.
-pub fn gap_within<T: Keyed, Q: Probe<T>>(elements: &[T], key: &Q, guess: usize) -> Option<usize>
+// Finds the place where a key belongs; `None` if an element ties with the key, or all elements are on one side of the key. The search
+// begins at `guess`.
+pub fn place_within<T: Keyed, Q: Probe<T>>(elements: &[T], key: &Q, guess: usize) -> Option<usize>
     requires { Ascends T.order elements.now }
-    ensures { IfSome result (IsInnerGap (Q.against key.now) elements.now) }
+    ensures { IfSome result (BelongsWithin (Q.against key.now) elements.now) }
 {
     let Err(i) = find::<T, Q>(elements, key, guess) else {
         return None;
@@ -60,7 +61,7 @@ pub fn gap_within<T: Keyed, Q: Probe<T>>(elements: &[T], key: &Q, guess: usize) 
     }
 }
 
-/// Makes a page of duplicates of the elements, with room for one more.
+/// Makes a page of duplicates of the elements, with room for one more. Errors: those of `Subtree`.
 pub fn page_of<T: Keyed>(alloc: Global, elements: &[T]) -> Result<Page<T>, AllocError>
     ensures { IfOk result (λ p. p.elements.items ≡ elements.now) }
 {
@@ -174,7 +175,7 @@ impl<T: Keyed> Subtree<T> for Page<T> {
                 Ok(true)
             }
             Err(i) => {
-                // first, so that the insertion cannot fail once the hint is there
+                // room is reserved first, so that the insertion cannot fail after the hint is added
                 self.elements.reserve(1)?;
                 self.hints.add_at(i, hint)?;
                 self.elements.insert(i, element)?;

@@ -1,148 +1,29 @@
 //! Ordered collections in shared pages.
-ghost use Rattle.std.specs.Prelude.{◌≡◌, ◌↔◌, ◌-◌, [], ◌∷◌, None, Ok, Some, false, drop, length, take, IfOk, IfSome, IsSome, IsTrue, OnOk, OnErr, is_some, option_map, reverse};
+ghost use Rattle.std.specs.Prelude.{◌≡◌, ◌↔◌, ◌-◌, [], None, Ok, Some, false, drop, length, take, IfOk, IfSome, IsTrue, OnOk, OnErr, is_some, option_map, reverse};
 ghost use Rattle.mg_pages.specs.Order.{Ascends, above, below, found, inserted, removed, upto};
 ghost use Rattle.mg_pages.specs.Runs.{IsRun, IsEndRun};
-ghost use Rattle.mg_pages.specs.Parts.{level_seen, level_whole, high_seen, high_whole, root_seen, IsSound};
+ghost use Rattle.mg_pages.specs.Parts.{root_seen, IsSound};
 
 use crate::back::Back;
 use crate::build::{group, make_pages};
-use crate::child::{child_of, copy_children};
-use crate::hint::{Hints, hint_of};
+use crate::child::copy_children;
 use crate::iter::Iter;
 use crate::keyed::{Keyed, Probe};
-use crate::level::{Level, page_among, take_out_of_parts};
+use crate::level::Level;
+use crate::level_parts::page_among;
 use crate::over::Over;
-use crate::page::{Page, gap_within};
+use crate::page::Page;
+use crate::root::{Root, find_tie, guessed_run_after, guessed_run_before, put, take_out};
 use crate::subtree::Subtree;
 use mg_value::NoMemory;
-use std::alloc::{AllocError, Global};
+use std::alloc::Global;
 use std::marker::Model;
 
-// The top of three levels above the pages.
-type Root<T> = Level<T, Level<T, Level<T, Page<T>>>>;
-
-// Makes a level of one part.
-fn level_of<T: Keyed, P: Subtree<T>>(alloc: Global, part: P) -> Result<Level<T, P>, AllocError>
-    requires { P.is_whole part }
-    ensures whole { IfOk result (λ l. level_whole P.is_whole P.seen l) }
-    ensures seen { IfOk result (λ l. level_seen P.seen l ≡ P.seen part) }
-{
-    let count = part.count();
-    let child = child_of::<T, P>(alloc, part)?;
-    let parts = vec_of(alloc, child)?;
-    Ok(Level { parts, count })
-}
-
-// Makes a root with one element.
-fn root_of<T: Keyed>(alloc: Global, element: T) -> Result<Root<T>, AllocError>
-    ensures whole { IfOk result (λ r. level_whole high_whole high_seen r) }
-    ensures seen { IfOk result (λ r. root_seen r ≡ element ∷ []) }
-{
-    let mut hints = Hints::with_room(alloc, 1)?;
-    hints.push(hint_of(&element))?;
-    let elements = vec_of(alloc, element)?;
-    let low = level_of::<T, Page<T>>(alloc, Page { elements, hints })?;
-    let high = level_of::<T, Level<T, Page<T>>>(alloc, low)?;
-    let root = level_of::<T, Level<T, Level<T, Page<T>>>>(alloc, high)?;
-    Ok(root)
-}
-
-// Puts an element under a root that may be empty, and returns whether it replaced one that ties.
-fn put<T: Keyed>(alloc: Global, root: &mut Root<T>, element: T) -> Result<bool, AllocError>
-    requires { IsSound T.order root.old }
-    ensures sound { IsSound T.order root.new }
-    ensures had { IfOk result (λ had. had ≡ is_some (found (T.order element) (root_seen root.old))) }
-    ensures ok { OnOk result (root_seen root.new ≡ inserted T.order element (root_seen root.old)) }
-    ensures err { OnErr result (root_seen root.new ≡ root_seen root.old) }
-{
-    if root.parts.is_empty() {
-        *root = root_of(alloc, element)?;
-        return Ok(false);
-    }
-    let had = root.put(alloc, element)?;
-    Ok(had)
-}
-
-// Removes the element that ties with a key from under a root that may be empty.
-fn take_out<T: Keyed, Q: Probe<T>>(
-    alloc: Global,
-    root: &mut Root<T>,
-    key: &Q,
-) -> Result<(), AllocError>
-    requires sound { IsSound T.order root.old }
-    requires there { IsSome (found (Q.against key.now) (root_seen root.old)) }
-    ensures sound { IsSound T.order root.new }
-    ensures ok { OnOk result (root_seen root.new ≡ removed (Q.against key.now) (root_seen root.old)) }
-    ensures err { OnErr result (root_seen root.new ≡ root_seen root.old) }
-{
-    if root.parts.is_empty() {
-        return Ok(());
-    }
-    take_out_of_parts::<T, Level<T, Level<T, Page<T>>>, Q>(alloc, &mut root.parts, key)?;
-    root.count -= 1;
-    Ok(())
-}
-
-// The element that ties with a key, if the hints lead to it. Cost: one comparison.
-#[inline(always)]
-fn find_tie<'a, T: Keyed, Q: Probe<T>>(root: &'a Root<T>, key: &Q) -> Option<&'a T>
-    requires { IsSound T.order root.now }
-    ensures { IfSome result (λ t. found (Q.against key.now) (root_seen root.now) ≡ Some t.now) }
-{
-    if root.parts.is_empty() {
-        return None;
-    }
-    let (page, guess) = root.guessed_page(key.hint());
-    if guess < page.len() {
-        let element = &page[guess];
-        if key.ties(element) {
-            return Some(element);
-        }
-    }
-    None
-}
-
-// The first elements above a key, up to the end of their page, if the hints lead to a page with elements on both sides of the key, none
-// of which ties with it. Cost: the logarithm of the elements of one page, in comparisons.
-fn guessed_run_after<'a, T: Keyed, Q: Probe<T>>(root: &'a Root<T>, key: &Q) -> Option<&'a [T]>
-    requires { IsSound T.order root.now }
-    ensures { IfSome result (λ run. IsRun run.now (above (Q.against key.now) (root_seen root.now))) }
-{
-    if root.parts.is_empty() {
-        return None;
-    }
-    let (page, guess) = root.guessed_page(key.hint());
-    let i = gap_within::<T, Q>(page, key, guess)?;
-    Some(&page[i..])
-}
-
-// The last elements below a key, from the start of their page, if the hints lead to a page with elements on both sides of the key, none
-// of which ties with it. Cost: that of `guessed_run_after`.
-fn guessed_run_before<'a, T: Keyed, Q: Probe<T>>(root: &'a Root<T>, key: &Q) -> Option<&'a [T]>
-    requires { IsSound T.order root.now }
-    ensures { IfSome result (λ run. IsEndRun run.now (below (Q.against key.now) (root_seen root.now))) }
-{
-    if root.parts.is_empty() {
-        return None;
-    }
-    let (page, guess) = root.guessed_page(key.hint());
-    let i = gap_within::<T, Q>(page, key, guess)?;
-    Some(&page[..i])
-}
-
-// A list of one item.
-fn vec_of<X: Drop>(alloc: Global, thing: X) -> Result<Vec<X>, AllocError>
-    ensures { IfOk result (λ v. v.items ≡ thing ∷ []) }
-{
-    let mut things = Vec::with_capacity(alloc, 1)?;
-    things.push(thing)?;
-    Ok(things)
-}
-
-/// An ordered collection of elements, no two of which tie. Contracts see their list.
+/// An ordered collection of elements, no two of which tie. Contracts see the list of the elements.
 ///
-/// A page has at most 64 elements, unless a `NewPage` had more, and a level below the top at most 64 parts. Collections share the pages
-/// and levels that they have in common; pages and levels that no other collection shares are changed in place.
+/// A page has at most 64 elements, unless a `NewPage` had more; a level below the top has at most 64 parts. Collections share the pages
+/// and levels that they have in common. Pages and levels that no other collection shares are changed in place.
+/// Each method that can return `NoMemory`, except `runs`, also does so if a block would get 2^63 owners.
 #[derive(Drop)]
 pub struct Pages<T: Keyed> {
     pub(crate) root: Root<T>,
@@ -161,7 +42,7 @@ impl<T: Keyed> Model for Pages<T> {
 }
 
 impl<T: Keyed> Pages<T> {
-    /// An empty collection. Takes no memory.
+    /// Makes an empty collection. Takes no memory.
     pub fn new(alloc: Global) -> Pages<T>
         ensures { result ≡ [] }
     {
@@ -173,8 +54,8 @@ impl<T: Keyed> Pages<T> {
         }
     }
 
-    /// Builds a collection of duplicates of the elements, which must ascend. All pages but the last are filled to three quarters, so
-    /// that the next insertions find room.
+    /// Builds a collection of duplicates of the elements, which must ascend. All pages but the last are filled to three quarters (48
+    /// elements), so that the next insertions find room.
     ///
     /// Errors: `NoMemory` if an allocation fails. Cost: a step for each element, without a search.
     pub fn from_sorted(alloc: Global, elements: &[T]) -> Result<Pages<T>, NoMemory>
@@ -212,8 +93,9 @@ impl<T: Keyed> Pages<T> {
         let _ = &self.root;
     }
 
-    /// The element that ties with the key, if there is one. Cost: one comparison where the hints lead to it, otherwise the logarithm of
-    /// the number of elements; besides, a read of the hint of every eighth part before the element's, on each level. Takes no memory.
+    /// Finds the element that ties with the key; `None` if there is no such element. Takes no memory. Cost: one comparison if the hints
+    /// lead to the element, otherwise the logarithm of the number of elements; and on each level a read of the hint of every eighth part
+    /// before the element's.
     #[inline(always)]
     pub fn get<Q: Probe<T>>(&self, key: &Q) -> Option<&T>
         ensures { option_map (λ t. t.now) result ≡ found (Q.against key.now) self.now }
@@ -227,8 +109,8 @@ impl<T: Keyed> Pages<T> {
         self.root.get(key)
     }
 
-    /// How many elements are below the key, from the counts of the parts before its place. Cost: the logarithm of the number of
-    /// elements, and a step for each of these parts, at most 64 for each level below the top. Takes no memory.
+    /// Counts the elements below the key: adds up the counts of the parts before the key's place. Takes no memory. Cost: the logarithm
+    /// of the number of elements, and a step for each of these parts, at most 64 on each level below the top.
     pub fn count_below<Q: Probe<T>>(&self, key: &Q) -> usize
         ensures { result ≡ length (below (Q.against key.now) self.now) }
     {
@@ -238,14 +120,14 @@ impl<T: Keyed> Pages<T> {
         self.root.count_below(key)
     }
 
-    /// How many elements are above the key. Cost: that of `count_below`. Takes no memory.
+    /// Counts the elements above the key. Cost: that of `count_below`. Takes no memory.
     pub fn count_above<Q: Probe<T>>(&self, key: &Q) -> usize
         ensures { result ≡ length (above (Q.against key.now) self.now) }
     {
         self.root.count - self.count_below(&Over { key })
     }
 
-    // The first elements, up to the end of their page.
+    // Lends the first elements, up to the end of their page; empty if there are no elements.
     pub(crate) fn first_run(&self) -> &[T]
         ensures run { IsRun result.now self.now }
         ensures ascends { Ascends T.order self.now }
@@ -256,7 +138,7 @@ impl<T: Keyed> Pages<T> {
         self.root.first_run()
     }
 
-    // The first elements above a key, up to the end of their page.
+    // Lends the first elements above a key, up to the end of their page; empty if there are no such elements.
     pub(crate) fn run_after<Q: Probe<T>>(&self, key: &Q) -> &[T]
         ensures run { IsRun result.now (above (Q.against key.now) self.now) }
         ensures ascends { Ascends T.order self.now }
@@ -267,7 +149,8 @@ impl<T: Keyed> Pages<T> {
         self.root.run_after(key)
     }
 
-    // What `run_after` returns. Looks first where the hints lead, and compares fewer elements if they lead to the right page.
+    // Returns what `run_after` returns, but looks first in the page to which the hints lead. If this is the right page, fewer elements are
+    // compared.
     fn hinted_run_after<Q: Probe<T>>(&self, key: &Q) -> &[T]
         ensures run { IsRun result.now (above (Q.against key.now) self.now) }
         ensures ascends { Ascends T.order self.now }
@@ -278,7 +161,8 @@ impl<T: Keyed> Pages<T> {
         }
     }
 
-    // The elements above a key after the first `count` of them, up to the end of their page.
+    // Lends the elements above a key without the first `count` of them, up to the end of the page of the first element that is left; empty
+    // if no element is left.
     pub(crate) fn run_after_some<Q: Probe<T>>(&self, key: &Q, count: usize) -> &[T]
         ensures run { IsRun result.now (drop count (above (Q.against key.now) self.now)) }
         ensures ascends { Ascends T.order self.now }
@@ -299,7 +183,8 @@ impl<T: Keyed> Pages<T> {
         &[]
     }
 
-    /// The elements in ascending order. Cost: constant, and then a step for each element and a look-up for each further page.
+    /// Iterates over the elements in ascending order. Takes no memory. Cost: constant; then a step for each element, and a look-up for each
+    /// further page.
     pub fn iter(&self) -> Iter<'_, T>
         ensures { result ≡ self.now }
     {
@@ -307,8 +192,8 @@ impl<T: Keyed> Pages<T> {
         Iter::at(self, run)
     }
 
-    /// All elements in one slice, if they are in one page; a collection that was built of at most 48 elements has one page. Takes no
-    /// memory. Cost: constant.
+    /// Lends all elements in one slice, which is empty for an empty collection; `None` if they are in several pages. `from_sorted` puts up
+    /// to 48 elements into one page. Takes no memory. Cost: constant.
     pub fn in_one_page(&self) -> Option<&[T]>
         ensures { IfSome result (λ page. page.now ≡ self.now) }
     {
@@ -319,8 +204,8 @@ impl<T: Keyed> Pages<T> {
         Some(run)
     }
 
-    /// The elements above the key, in ascending order. Cost: one look-up, and then a step for each element and a look-up for each
-    /// further page.
+    /// Iterates over the elements above the key, in ascending order. Takes no memory. Cost: one look-up; then a step for each element, and
+    /// a look-up for each further page.
     pub fn after<Q: Probe<T>>(&self, key: &Q) -> Iter<'_, T>
         ensures { result ≡ above (Q.against key.now) self.now }
     {
@@ -328,7 +213,7 @@ impl<T: Keyed> Pages<T> {
         Iter::at(self, run)
     }
 
-    // The last elements, from the start of their page.
+    // Lends the last elements, from the start of their page; empty if there are no elements.
     pub(crate) fn last_run(&self) -> &[T]
         ensures run { IsEndRun result.now self.now }
         ensures ascends { Ascends T.order self.now }
@@ -339,7 +224,7 @@ impl<T: Keyed> Pages<T> {
         self.root.last_run()
     }
 
-    // The last elements below a key, from the start of their page.
+    // Lends the last elements below a key, from the start of their page; empty if there are no such elements.
     pub(crate) fn run_before<Q: Probe<T>>(&self, key: &Q) -> &[T]
         ensures run { IsEndRun result.now (below (Q.against key.now) self.now) }
         ensures ascends { Ascends T.order self.now }
@@ -350,7 +235,7 @@ impl<T: Keyed> Pages<T> {
         self.root.run_before(key)
     }
 
-    // What `run_before` returns, with the hints as in `hinted_run_after`.
+    // Returns what `run_before` returns, but looks first in the page to which the hints lead.
     fn hinted_run_before<Q: Probe<T>>(&self, key: &Q) -> &[T]
         ensures run { IsEndRun result.now (below (Q.against key.now) self.now) }
         ensures ascends { Ascends T.order self.now }
@@ -361,7 +246,8 @@ impl<T: Keyed> Pages<T> {
         }
     }
 
-    // The elements below a key before the last `count` of them, from the start of their page.
+    // Lends the elements below a key without the last `count` of them, from the start of the page of the last element that is left; empty
+    // if no element is left.
     pub(crate) fn run_before_some<Q: Probe<T>>(&self, key: &Q, count: usize) -> &[T]
         ensures run { IsEndRun result.now
             (take (length (below (Q.against key.now) self.now) - count)
@@ -385,7 +271,7 @@ impl<T: Keyed> Pages<T> {
         &[]
     }
 
-    /// The elements from the last to the first. Cost: that of `iter`.
+    /// Iterates over the elements from the last to the first. Takes no memory. Cost: that of `iter`.
     pub fn back(&self) -> Back<'_, T>
         ensures { result ≡ reverse self.now }
     {
@@ -393,7 +279,7 @@ impl<T: Keyed> Pages<T> {
         Back::at(self, run)
     }
 
-    /// The elements below the key, from the last to the first. Cost: that of `after`.
+    /// Iterates over the elements below the key, from the last to the first. Takes no memory. Cost: that of `after`.
     pub fn before<Q: Probe<T>>(&self, key: &Q) -> Back<'_, T>
         ensures { result ≡ reverse (below (Q.against key.now) self.now) }
     {
@@ -401,17 +287,18 @@ impl<T: Keyed> Pages<T> {
         Back::at(self, run)
     }
 
-    /// The elements that are not above the key, from the last to the first. Cost: that of `after`.
+    /// Iterates over the elements that are not above the key, from the last to the first. Takes no memory. Cost: that of `after`.
     pub fn upto<Q: Probe<T>>(&self, key: &Q) -> Back<'_, T>
         ensures { result ≡ reverse (upto (Q.against key.now) self.now) }
     {
         self.before(&Over { key })
     }
 
-    /// Another collection of the same elements, which shares all pages with this one.
+    /// Makes another collection of the same elements, which shares all pages with this one.
     ///
-    /// Errors: `NoMemory` if an allocation fails. Cost: a copy of only the top level, which has a part for each
-    /// 30,000 to 260,000 elements, and for fewer after removals, since parts are never joined.
+    /// Errors: `NoMemory` if an allocation fails. Cost: a copy of the top level, which has one part for each 30,000
+    /// to 260,000 elements (for fewer after removals, since parts are never joined, or if `from_pages` was given small
+    /// pages). Nothing below it is copied.
     pub fn share(&self, alloc: Global) -> Result<Pages<T>, NoMemory>
         ensures { IfOk result (λ p. p ≡ self.now) }
     {
@@ -422,10 +309,10 @@ impl<T: Keyed> Pages<T> {
         })
     }
 
-    /// Inserts an element, and returns whether it replaced one that ties.
+    /// Inserts an element, and returns whether it replaced one that ties with it.
     ///
-    /// Errors: `NoMemory` if an allocation fails, or where there are 2^64 - 1 elements; then nothing has changed.
-    /// Cost: the logarithm of the number of elements, and a copy of each part on the way that others share.
+    /// Errors: `NoMemory` if an allocation fails, or there are 2^64 - 1 elements already; then no element has changed.
+    /// Cost: the logarithm of the number of elements, and a copy of each part on the way that others share or that is full.
     pub fn insert(&mut self, alloc: Global, element: T) -> Result<bool, NoMemory>
         ensures had { IfOk result (λ had. had ≡ is_some (found (T.order element) self.old)) }
         ensures ok { OnOk result (self.new ≡ inserted T.order element self.old) }
@@ -435,10 +322,10 @@ impl<T: Keyed> Pages<T> {
         Ok(had)
     }
 
-    /// Removes the element that ties with the key, and returns whether there was one. Without such an element it takes no memory,
-    /// and so does not fail.
+    /// Removes the element that ties with the key, and returns whether there was one. If there is no such element, the call takes
+    /// no memory and cannot fail.
     ///
-    /// Errors: `NoMemory` if an allocation fails; then nothing has changed. Cost: that of `insert`.
+    /// Errors: `NoMemory` if an allocation fails; then no element has changed. Cost: that of `get`, and that of `insert`.
     pub fn remove<Q: Probe<T>>(&mut self, alloc: Global, key: &Q) -> Result<bool, NoMemory>
         ensures had { IfOk result (λ had. had ≡ is_some (found (Q.against key.now) self.old)) }
         ensures ok { OnOk result (self.new ≡ removed (Q.against key.now) self.old) }

@@ -12,7 +12,8 @@ use crate::pages::Pages;
 use mg_value::NoMemory;
 use std::alloc::{AllocError, Global};
 
-// Adds the elements of each of these pages.
+// Adds, for each of these pages, a slice of the page's elements. Errors: `AllocError` if an allocation fails; then some slices may have
+// been added.
 fn add_pages<'a, T: Keyed>(
     runs: &mut Vec<&'a [T]>,
     pages: &'a [Child<T, Page<T>>],
@@ -27,7 +28,7 @@ fn add_pages<'a, T: Keyed>(
     Ok(())
 }
 
-// Adds the elements of each page below these levels.
+// Does what `add_pages` does, for each page below these levels.
 fn add_lows<'a, T: Keyed>(
     runs: &mut Vec<&'a [T]>,
     lows: &'a [Child<T, Level<T, Page<T>>>],
@@ -42,7 +43,7 @@ fn add_lows<'a, T: Keyed>(
     Ok(())
 }
 
-// Adds the elements of each page below the parts of a root.
+// Does what `add_pages` does, for each page below the parts of a root.
 fn add_highs<'a, T: Keyed>(
     runs: &mut Vec<&'a [T]>,
     highs: &'a [Child<T, Level<T, Level<T, Page<T>>>>],
@@ -58,7 +59,7 @@ fn add_highs<'a, T: Keyed>(
 }
 
 impl<T: Keyed> Pages<T> {
-    /// The elements in order, as one slice for each page. Reads no element.
+    /// Lends the elements in order, as one slice for each page. The elements are not read.
     ///
     /// Errors: `NoMemory` if an allocation fails. Cost: a step for each page.
     pub fn runs(&self, alloc: Global) -> Result<Vec<&[T]>, NoMemory>

@@ -14,7 +14,10 @@ pub const LIMIT: usize = 64;
 /// next insertions find room.
 pub const FILL: usize = 48;
 
-/// A page or a level, with the elements in it, in order. It is a part of the level above it, if there is one.
+/// A page or a level, with the elements in it, in order. A subtree is a part of the level above it, if there is such a level.
+///
+/// Errors: `AllocError` if an allocation fails, if a block has 2^63 - 1 owners, or if a level would have 2^64 elements. After an
+/// error, no element has changed.
 pub trait Subtree<T: Keyed>: Drop + Sized {
     // the elements
     ghost seen: { Self → List T };
@@ -33,65 +36,65 @@ pub trait Subtree<T: Keyed>: Drop + Sized {
         requires sorted { Ascends T.order (seen self.now) }
         ensures { result ≡ length (below (Q.against key.now) (seen self.now)) };
 
-    /// The last element.
+    /// Lends the last element.
     fn last(&self) -> &T
         requires { is_whole self.now }
         ensures { IsLast result.now (seen self.now) };
 
-    /// The element that ties with a key.
+    /// Finds the element that ties with a key; `None` if there is no such element.
     fn get<Q: Probe<T>>(&self, key: &Q) -> Option<&T>
         requires whole { is_whole self.now }
         requires sorted { Ascends T.order (seen self.now) }
         ensures { option_map (λ t. t.now) result ≡ found (Q.against key.now) (seen self.now) };
 
-    /// The page where the hints put a key with the hint `number`, and a guess of the key's place in it. Compares no element.
+    /// Finds the page to which the hints lead for a key with the hint `number`, and a guess of the key's place in it. Compares no element.
     fn guessed_page(&self, number: u64) -> (&[T], usize)
         requires { is_whole self.now }
         ensures { IsPiece result.0.now (seen self.now) };
 
-    /// The first elements, up to the end of their page.
+    /// Lends the first elements, up to the end of their page.
     fn first_run(&self) -> &[T]
         requires { is_whole self.now }
         ensures run { IsRun result.now (seen self.now) }
         ensures some { 0 < length result.now };
 
-    /// The first elements above a key, up to the end of their page.
+    /// Lends the first elements above a key, up to the end of their page; empty if there are no such elements.
     fn run_after<Q: Probe<T>>(&self, key: &Q) -> &[T]
         requires whole { is_whole self.now }
         requires sorted { Ascends T.order (seen self.now) }
         ensures { IsRun result.now (above (Q.against key.now) (seen self.now)) };
 
-    /// The last elements, from the start of their page.
+    /// Lends the last elements, from the start of their page.
     fn last_run(&self) -> &[T]
         requires { is_whole self.now }
         ensures run { IsEndRun result.now (seen self.now) }
         ensures some { 0 < length result.now };
 
-    /// The last elements below a key, from the start of their page.
+    /// Lends the last elements below a key, from the start of their page; empty if there are no such elements.
     fn run_before<Q: Probe<T>>(&self, key: &Q) -> &[T]
         requires whole { is_whole self.now }
         requires sorted { Ascends T.order (seen self.now) }
         ensures { IsEndRun result.now (below (Q.against key.now) (seen self.now)) };
 
-    /// The page of the element at a place, and its place in that page.
+    /// Finds the page of the element at a place, and the element's place in that page.
     fn page_at(&self, place: usize) -> (&[T], usize)
         requires whole { is_whole self.now }
         requires within { place < length (seen self.now) }
         ensures { IsPageAt result.0.now result.1 place (seen self.now) };
 
-    /// A copy of the part, which shares what is below it.
+    /// Makes a copy of the part; the copy shares what is below the part. Cost: a step for each element of a page or part of a level.
     fn copy(&self, alloc: Global) -> Result<Self, AllocError>
         requires { is_whole self.now }
         ensures { IfOk result (IsCopy is_whole seen self.now) };
 
-    /// Copies of the part's two halves, if the part has no room for the element; otherwise `None`. A level of `LIMIT` parts is halved for
-    /// any element, even one that replaces another.
+    /// Copies the part's two halves if the part has no room for the element; otherwise `None`. A page has room for an element that
+    /// replaces another; a level of `LIMIT` parts is halved for any element, since the element may split one of its parts.
     fn halves(&self, alloc: Global, element: &T) -> Result<Option<(Self, Self)>, AllocError>
         requires whole { is_whole self.now }
         requires sorted { Ascends T.order (seen self.now) }
         ensures { IfOk result (λ o. IfSome o (AreHalves is_whole seen self.now)) };
 
-    /// Inserts an element, and returns whether it replaced one that ties.
+    /// Inserts an element, and returns whether it replaced one that ties with it.
     fn put(&mut self, alloc: Global, element: T) -> Result<bool, AllocError>
         requires whole { is_whole self.old }
         requires sorted { Ascends T.order (seen self.old) }

@@ -15,7 +15,7 @@ use Rattle.mg_value.proofs.Views.{Entry, members_view-insert_entry}
 use Rattle.mg_value.proofs.Lookup.{view-lookup}
 use Rattle.mg_path.specs.Part.{placed}
 
--- the test of a name
+-- whether a map's key is this name
 abbrev pub at_name : List ℕ → String Global → Bool
 at_name name = is_at (λ k. slice_cmp nat_cmp name (string_bytes k))
 

@@ -1,10 +1,10 @@
--- Equality of paths, which is that of their steps, and the laws that Rust's `PartialEq` and `Eq` require.
+-- Equality of paths, which is equality of their steps, and the laws that Rust's `PartialEq` and `Eq` require.
 use Rattle.std.specs.Prelude.{ℕ, Bool, List, nat_eq}
 use Rattle.std.specs.Cmp.{IsEquivalence, IsPartialEquivalence, partial_equiv_from_equiv}
 use Rattle.std.specs.Cmp.Lexicographic.{pointwise}
 use Rattle.std.proofs.lemmas.Cmp.{lists_equiv, nat_list_eq_equiv}
 
--- whether the steps are the same, byte by byte
+-- whether two paths have equal steps, byte by byte
 abbrev pub path_eq : List (List ℕ) → List (List ℕ) → Bool
 path_eq = pointwise (pointwise nat_eq)
 

@@ -44,32 +44,32 @@ abbrev pub is_place : List ℕ → Bool
 is_place [] = false
 is_place (c ∷ cs) = if c == 48 then is_empty cs else all_ascii_digits (c ∷ cs)
 
--- the place in an array that a step names, from 0, however large the number
+-- the place in an array that a step names, from 0, however large; None if the step is not a decimal number without leading zeros
 abbrev pub item_place : List ℕ → Option ℕ
 item_place step = if is_place step then Some (digits_value 10 step) else None
 
--- the part one step into a value: the member of that name, or the item at that place
+-- the part one step into a value: the member of that name, or the item at that place; None if it is missing
 abbrev pub part_of_step : List ℕ → Value → Option Value
 part_of_step step (object ms) = get_member step ms
 part_of_step step (list vs) = option_and_then (λ n. slice_get (item_list vs) n) (item_place step)
 part_of_step step _ = None
 
--- the part of a value that the steps lead to
+-- the part of a value that the steps lead to; None if it is missing
 abbrev pub part_of : List (List ℕ) → Value → Option Value
 part_of [] v = Some v
 part_of (step ∷ steps) v = option_and_then (part_of steps) (part_of_step step v)
 
--- the value with the part placed under the steps, as names of nested objects, in place of what is there; nothing
--- changes where a value on the way is not an object
+-- the value with the part placed under the steps, as names of nested objects, in place of what is there; if a value on
+-- the way is not an object, nothing changes
 abbrev pub placed : List (List ℕ) → Value → Value → Value
 placed [] part v = part
 placed (step ∷ steps) part (object ms) = object (put step (placed steps part (unwrap_or (get_member step ms) (object no_members))) ms)
 placed (step ∷ steps) part v = v
 
--- what is projected so far, with the part at one more path, if there is one
+-- `projected` with the part of v at one more path; unchanged if v has no such part
 abbrev pub with_part : Value → Value → List (List ℕ) → Value
 with_part v projected steps = option_map_or (λ part. placed steps part projected) (part_of steps v) projected
 
--- the object that the parts of a value at the paths make, placed one after another
+-- the projection of a value: an object in which the value's parts at the paths are placed, one after another
 abbrev pub projection_of : List (List (List ℕ)) → Value → Value
 projection_of paths v = fold (with_part v) (object no_members) paths

@@ -2,7 +2,7 @@ use mg_value::NoMemory;
 use std::alloc::{AllocError, AllocFailed};
 use thiserror::Error;
 
-/// Why a text is not a path.
+/// Why a text was not read as a path.
 #[derive(Clone, Copy, PartialEq, Eq, Debug, Drop, Error)]
 pub enum PathError {
     /// A step is empty: the text is empty, begins or ends with a dot, or has two dots in a row. The dot of

@@ -6,8 +6,9 @@ ghost use Rattle.mg_path.specs.Part.{part_of, part_of_step, item_place};
 
 use mg_value::{Kind, LentValue};
 
-/// Finds the part of a lent value that the steps lead to: in an object a step names a member, in an array
-/// the place of an item, from 0 and without leading zeros. `None` where the part is missing. No memory is taken.
+/// Finds the part of a lent value that the steps lead to. In an object a step is the name of a member; in an array
+/// it is the place of an item, from 0 and without leading zeros. `None` if the part is missing; without steps the
+/// part is the value itself. Takes no memory.
 ///
 /// Cost: for each step a look-up in an object or an array.
 #[inline]
@@ -21,7 +22,7 @@ pub fn part_of<L: LentValue>(steps: &[String], value: L) -> Option<L>
     Some(part)
 }
 
-// The part of the value that one step leads to.
+// Finds the part of the value that one step leads to; `None` if it is missing.
 fn step_in<L: LentValue>(step: &str, value: L) -> Option<L>
     ensures { option_map L.value result ≡ part_of_step step.now (L.value value) }
 {
@@ -45,7 +46,8 @@ fn item_at<L: LentValue>(step: &str, items: L::List) -> Option<L>
     }
 }
 
-// The place that the step names; `None` also for a number that no `usize` holds, since no array is that long.
+// Reads the place that the step names. `None` if the step is not a number without leading zeros, or if no `usize` holds
+// the number, since no array is that long.
 fn place_of(step: &str) -> Option<usize>
     ensures { MatchOption result
         ((n : ℕ) → item_place step.now ≡ Some n → 2 ^ 64 ≤ n)

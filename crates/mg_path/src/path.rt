@@ -46,8 +46,8 @@ impl Path {
     /// Reads a text such as `a.b.0`, with dots between the steps. `\.` is a dot within a step; a
     /// backslash before anything else is a backslash.
     ///
-    /// Errors: `Empty` for exactly the texts with an empty step, before any memory is taken;
-    /// `NoMemory` if an allocation fails.
+    /// Errors: `Empty` if and only if the text has an empty step (then no memory was taken); `NoMemory` if an
+    /// allocation fails.
     /// Cost: the length of the text. Source: the field syntax of CouchDB's `_find`.
     pub fn parse(alloc: Global, text: &str) -> Result<Path, PathError>
         ensures ok { IfOk result (λ path. steps_of text.now ≡ Some path) }
@@ -61,23 +61,23 @@ impl Path {
         })
     }
 
-    /// The steps, in order.
+    /// Lends the steps, in order.
     pub fn steps(&self) -> &[String]
         ensures { map string_bytes result.now ≡ self.now }
     {
         &self.steps
     }
 
-    /// The steps, in order, taken out of the path. Takes no memory.
+    /// Turns the path into its steps, in order. Takes no memory.
     pub fn into_steps(self) -> Vec<String>
         ensures { map string_bytes result.items ≡ self }
     {
         self.steps
     }
 
-    /// Finds the part of the value at this path. A step is the name of a member, or in an array the place of
-    /// an item, from 0 and without leading zeros. `None` if the part is missing. The part is borrowed; no
-    /// memory is taken.
+    /// Finds the part of the value at this path, and borrows it. In an object a step is the name of a member; in
+    /// an array it is the place of an item, from 0 and without leading zeros. `None` if the part is missing.
+    /// Takes no memory.
     ///
     /// Cost: for each step a look-up in an object or an array.
     pub fn get<'a>(&self, value: &'a Json) -> Option<&'a Json>
@@ -87,7 +87,8 @@ impl Path {
         part_of(&self.steps, value)
     }
 
-    /// Finds the part at this path, as `get` does, in a lent part that may itself be missing. Cost: that of `get`.
+    /// Finds the part at this path in a lent part, as `get` does; `None` also if the lent part is missing. Cost: that of
+    /// `get`.
     pub fn get_in<L: LentValue>(&self, part: Option<L>) -> Option<L>
         ensures { option_map L.value result
             ≡ option_and_then (part_of self.now) (option_map L.value part) }
@@ -95,7 +96,7 @@ impl Path {
         part_of(&self.steps, part?)
     }
 
-    /// A copy of the path. Errors: `NoMemory` if an allocation fails. Cost: the size of the path.
+    /// Copies the path. Errors: `NoMemory` if an allocation fails. Cost: the size of the path.
     pub fn copy(&self, alloc: Global) -> Result<Path, NoMemory>
         ensures { IfOk result (λ path. path ≡ self.now) }
     {
@@ -104,7 +105,7 @@ impl Path {
     }
 }
 
-/// Whether a text is a path: it has no empty step. Takes no memory. Cost: the length of the text.
+/// Whether a text is a path, which means that it has no empty step. Takes no memory. Cost: the length of the text.
 pub fn is_path(text: &str) -> bool
     ensures { result ≡ is_some (steps_of text.now) }
 {

@@ -26,8 +26,8 @@ pub(crate) fn has_empty_piece(text: &str) -> bool
     is_empty
 }
 
-// The pieces of the text, including the empty ones. A text without a dot, the most common path, is copied whole, into
-// memory of just its size.
+// Cuts the text into its pieces, including the empty ones. A text without a dot, which is the most common path, is
+// copied in one step, and its memory has no unused room.
 pub(crate) fn pieces(alloc: Global, text: &str) -> Result<Vec<String>, NoMemory>
     ensures { IfOk result (λ pieces. map string_bytes pieces.items ≡ pieces_of text.now) }
 {

@@ -15,7 +15,9 @@ use std::mem;
 /// skipped where its part is missing, or where an earlier path put something other than an object on its way.
 ///
 /// Errors: `NoMemory` if an allocation fails.
-/// Cost: for each path its steps, and the size of its part, even if the part is not put in or is replaced later.
+/// Cost: for each path, one look-up for each step in the value; if the part is there, also a copy of the part, even if it
+/// is not put in or is replaced later, and for each step up to two look-ups in the object that is built, and a copy
+/// of the step.
 /// Source: `fields` of CouchDB's `_find`.
 pub fn project<L: LentValue>(alloc: Global, value: L, paths: &[Path]) -> Result<Json, NoMemory>
     ensures { IfOk result (λ projected. view projected ≡ projection_of paths.now (L.value value)) }
@@ -30,7 +32,8 @@ pub fn project<L: LentValue>(alloc: Global, value: L, paths: &[Path]) -> Result<
     Ok(projected)
 }
 
-// Places the part under the steps in the value; nothing changes where a value on the way is not an object.
+// Places the part under the steps in the value; without steps the part replaces the value. If a value on the way is not
+// an object, nothing changes.
 #[cycle(place)]
 fn place(alloc: Global, value: Json, steps: &[String], part: Json) -> Result<Json, NoMemory>
     ensures { IfOk result (λ filled. view filled

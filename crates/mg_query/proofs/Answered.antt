@@ -24,7 +24,7 @@ use Rattle.mg_shard.specs.Shard.{ShardView}
 use Rattle.mg_query.specs.Page.{Candidate, candidates_of, is_asked, page_candidates, row_by}
 use Rattle.mg_query.specs.Query.{Query}
 use Rattle.mg_query.specs.Served.{HaveIdsAndRevs}
-use Rattle.mg_query.proofs.Candidates.{document, documents_of, found_by}
+use Rattle.mg_query.proofs.Candidates.{document, documents_of, found_by_row}
 use Rattle.mg_query.proofs.Dealt.{dealt}
 use Rattle.mg_query.proofs.Gathered.{IsFoundBy, listed_rows, rows_asked, rows_of_page}
 
@@ -36,15 +36,15 @@ follows q r = option_map_or (λ p. is_gt (directed_order q.direction r (p.key, p
 abbrev pub is_wanted_by : Query → List Steps → RowValue → Bool
 is_wanted_by q columns r = has_key (range_of (atoms_of q.selector) columns) (item_list r.0) && follows q r
 
--- each of these has, where it is found, the one row that the query finds of it, and none otherwise
-pub all_found_by : RangesAreComplete → (q : Query) (columns : List Steps) (holds : Option Value → Bool) → ((x : Option Value) → holds x ≡ holds_in q.selector Plain x) → is_usable (atoms_of q.selector) q.sort columns ≡ true
+-- of each candidate the query finds one row if it asks for the candidate and the row is after the bookmark, and none otherwise
+pub all_found_by_row : RangesAreComplete → (q : Query) (columns : List Steps) (holds : Option Value → Bool) → ((x : Option Value) → holds x ≡ holds_in q.selector Plain x) → is_usable (atoms_of q.selector) q.sort columns ≡ true
     → (cs : List Candidate) → HaveIdsAndRevs cs
     → AllByRecursion (IsFoundBy (row_by columns) document (is_asked q) (follows q) (rows_asked (λ d. holds (Some d.1)) (row_of columns) (is_wanted_by q columns))) cs
-all_found_by complete q columns holds same usable [] h = tt
-all_found_by complete q columns holds same usable (c ∷ cs) h = (found_by complete q columns (follows q) holds same usable c h.0.0 h.0.1, all_found_by complete q columns holds same usable cs h.1)
+all_found_by_row complete q columns holds same usable [] h = tt
+all_found_by_row complete q columns holds same usable (c ∷ cs) h = (found_by_row complete q columns (follows q) holds same usable c h.0.0 h.0.1, all_found_by_row complete q columns holds same usable cs h.1)
 
--- What shards list of their documents, each cut at skip and limit together, merged, and the first passed over: the rows of the page
--- over all documents that the histories serve, wherever these are placed.
+-- The rows of the page over all documents that the histories serve, wherever these are placed: the lists of the shards, each cut at
+-- skip + limit, merged, without the first `skip`.
 pub rows_of_answer : RangesAreComplete → (q : Query) (columns : List Steps) (holds : Option Value → Bool) → ((x : Option Value) → holds x ≡ holds_in q.selector Plain x) → is_usable (atoms_of q.selector) q.sort columns ≡ true
     → (place : Placing) (shards : List ShardView) (hs : Histories) → ShardsStandFor place shards hs → HaveIdsAndRevs (candidates_of hs)
     → drop q.skip (merged q.direction (q.skip + q.limit) (map (λ ds. take (q.skip + q.limit) (listed_rows (λ d. holds (Some d.1)) (row_of columns) (is_wanted_by q columns) q.direction ds)) (map (λ s. docs_of s.documents) shards)))
@@ -54,4 +54,4 @@ rows_of_answer complete q columns holds same usable place shards hs stands whole
     rows_of_page (row_by columns) document (is_asked q) (follows q) rows (λ d. holds (Some d.1)) (row_of columns) (is_wanted_by q columns) refl q.direction q.skip q.limit (candidates_of hs)
     (map (λ s. docs_of s.documents) shards)
     (subst (λ ds. IsPermutation ds (joined (map (λ s. docs_of s.documents) shards))) (sym (documents_of (entries hs))) (dealt place shards hs stands))
-    (all_found_by complete q columns holds same usable (candidates_of hs) whole)
+    (all_found_by_row complete q columns holds same usable (candidates_of hs) whole)

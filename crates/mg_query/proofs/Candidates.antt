@@ -1,4 +1,4 @@
--- The rows by which a document is found: the one that the page's order gives it, where the query asks for it.
+-- The rows by which a query finds a document: the one row that orders it in the page if the query asks for it, otherwise none.
 use Rattle.std.proofs.Common.{◌≡◌, ℕ, zero, suc, arith, Bool, true, false, ◌&&◌, cond, List, [], ◌∷◌, ◌++◌, Option, Some, None, option_to_list, option_map, option_and_then, is_some, map, take, length, refl, sym, ap, ◌∙◌}
 use Rattle.std.proofs.lemmas.Bool.{and_parts}
 use Rattle.std.specs.List.{All, filter, filter_map, list_all, starts_with}
@@ -54,9 +54,6 @@ items_listed : (vs : List Value) → item_list (items_of vs) ≡ vs
 items_listed [] = refl
 items_listed (v ∷ vs) = ap (λ ws. v ∷ ws) (items_listed vs)
 
-value_there : (o : Option Value) (w d : Value) → o ≡ Some w → unwrap_or o d ≡ w
-value_there o w d e = rw e
-
 lengths_at : (part : Option Value) (vs : Option (List Value)) (cs : List Steps) (key : List Value) → ((k : List Value) → vs ≡ Some k → length k ≡ length cs)
     → option_and_then (λ w. option_map (λ ws. w ∷ ws) vs) part ≡ Some key → length key ≡ suc (length cs)
 lengths_at None vs cs key h e = absurd cc
@@ -109,11 +106,11 @@ plain after ranged true false row r h k = ap (λ o. filter (λ x. ranged x && af
 plain after ranged true true row r h k =
     let p = h refl refl in ap (λ o. filter (λ x. ranged x && after x) (option_to_list o)) p.0 ∙ ap (λ b. cond (b && after r) (r ∷ []) []) p.1
 
--- a document that a query finds by a usable index has one row there, in the range, and it has none that is asked for otherwise
-pub found_by : RangesAreComplete → (q : Query) (columns : List Steps) (after : RowValue → Bool) (holds : Option Value → Bool) → ((x : Option Value) → holds x ≡ holds_in q.selector Plain x)
+-- a document that a query asks for has one row in a usable index, which is in the range; another document has no row that is asked for
+pub found_by_row : RangesAreComplete → (q : Query) (columns : List Steps) (after : RowValue → Bool) (holds : Option Value → Bool) → ((x : Option Value) → holds x ≡ holds_in q.selector Plain x)
     → is_usable (atoms_of q.selector) q.sort columns ≡ true → (c : Candidate) → Has c.form id_path → Has c.form rev_path
     → rows_asked (λ d. holds (Some d.1)) (row_of columns) (λ r. has_key (range_of (atoms_of q.selector) columns) (item_list r.0) && after r) (document c) ≡ filter after (cond (is_asked q c) (row_by columns c ∷ []) [])
-found_by complete q columns after holds same usable c i r =
+found_by_row complete q columns after holds same usable c i r =
     let atoms = atoms_of q.selector in
     let ranged = λ (x : RowValue). has_key (range_of atoms columns) (item_list x.0) in
     let present = list_all (λ path. is_some (part_of path c.form)) q.sort in

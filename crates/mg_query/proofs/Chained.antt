@@ -1,4 +1,4 @@
--- Pages that follow one another by their bookmarks are there, and they join.
+-- There are pages that follow one another by their bookmarks, and they join.
 use lib.Dec.{T}
 use Rattle.std.proofs.Common.{◌≡◌, ◌≢◌, ℕ, zero, suc, ◌-◌, ◌≤◌, Bool, true, false, ◌&&◌, cond, codes, List, [], ◌∷◌, ◌++◌, Option, Some, None, option_map, option_to_list, Ok, length, map, take, drop, Ordering, Less, Equal, Greater, is_gt, is_lt, refl, sym, ap, ap₂, ◌∙◌, subst, arith, append_assoc, length-drop}
 use Rattle.std.specs.Prelude.{nat_eq}
@@ -37,7 +37,7 @@ use Rattle.mg_query.specs.Query.{Query}
 use Rattle.mg_query.proofs.Candidates.{shown_first}
 use Rattle.mg_query.proofs.Serving.{choice_served, serves}
 
--- ---- lists whose elements are apart
+-- ---- candidates with different ids
 
 all_if : {X : Type 0} (P : X → Type 0) (b : Bool) (xs ys : List X) → AllByRecursion P xs → AllByRecursion P ys → AllByRecursion P (cond b xs ys)
 all_if P true xs ys h k = h
@@ -80,7 +80,7 @@ apart_sorted : (order : Candidate → Candidate → Ordering) (cs : List Candida
 apart_sorted order [] h = tt
 apart_sorted order (c ∷ cs) h = apart_inserted order c (sorted order cs) (all_sorted (Differ c) order cs h.0) (apart_sorted order cs h.1)
 
--- ---- the candidates are apart
+-- ---- the candidates of histories have different ids
 
 both : (a b : Bool) → T (a && b) → T a × T b
 both true b h = (tt, h)
@@ -152,7 +152,7 @@ module _ (columns : List Steps) (q : Query) where
   all_middle P [] c ys h = h.0
   all_middle P (x ∷ xs) c ys h = all_middle P xs c ys h.1
 
-  -- what comes after one of them is what stands after it
+  -- what comes after an element in the order is what stands after it in the sorted list
   after_one : (xs : List Candidate) (c : Candidate) (ys : List Candidate) → IsStrictlySortedBy order (xs ++ c ∷ ys) → filter (follows c) (xs ++ c ∷ ys) ≡ ys
   unfolding IsStrictlySortedBy
   after_one [] c ys h =
@@ -209,11 +209,11 @@ module _ (ds : List IndexDefinition) (s : Source) (q : Query) (cs : List Candida
   abbrev after : Option RowPlace → Candidate → Bool
   after place c = option_map_or (λ p. is_gt (directed_order q.direction (row_by (source_columns s) c) (p.key, p.id))) place true
 
-  -- the page of these, asked for after a place, by a text
+  -- the page of these candidates for the query with this place and text as its bookmark
   abbrev page_with : Option RowPlace → List ℕ → List Candidate → Page
   page_with place t rows = page_of s (asked_after q place t) rows
 
-  -- what is left after a place answers the query by the text that is read as this place
+  -- if a text is read as a place, the query with this text as its bookmark is answered by the page of what is left after the place
   answered : (t : List ℕ) (place : Option RowPlace) (left rows : List Candidate) → bookmark_read t ≡ Some place → accepts_bookmark s (asked_after q place t) ≡ true → filter (after place) whole ≡ left → rows ≡ take q.limit left
       → answer_with ds q cs t ≡ Some (Ok (page_with place t rows))
   answered t place left rows read fit here e =

@@ -26,13 +26,13 @@ use Rattle.mg_query.specs.Paged.{count_handed, counts_handed}
 use Rattle.mg_query.specs.Lent.{shard_rows}
 use Rattle.mg_query.specs.Query.{Query}
 use Rattle.mg_query.specs.Served.{HaveIdsAndRevs, HasIdAndRev}
-use Rattle.mg_query.proofs.Answered.{all_found_by, follows, is_wanted_by}
+use Rattle.mg_query.proofs.Answered.{all_found_by_row, follows, is_wanted_by}
 use Rattle.mg_query.proofs.Candidates.{document, documents_of, shown_first}
 use Rattle.mg_query.proofs.Dealt.{entries_kept}
 use Rattle.mg_query.proofs.Gathered.{all_found, listed_sorted, rows_asked}
 use Rattle.mg_query.proofs.Handed.{shard_listed}
 
--- ---- where all documents are whole, those of a shard are
+-- ---- if all documents have an id and a revision, those of a shard have
 
 all_split : {X : Type 0} (P : X → Type 0) (xs ys : List X) → AllByRecursion P (xs ++ ys) → AllByRecursion P xs × AllByRecursion P ys
 all_split P [] ys h = (tt, h)
@@ -55,7 +55,7 @@ whole_on place n i hs h =
 
 -- ---- the numbers
 
--- lists of hits with these rows have their lengths
+-- lists of hits have the lengths of the lists of their rows
 pub sizes : (rows : ShardView → List RowValue) (lists : List (Vec Hit Global)) (shards : List ShardView) → map (λ v. hit_rows v.items) lists ≡ map rows shards
     → map (λ (v : Vec Hit Global). length v.items) lists ≡ map (λ s. length (rows s)) shards
 sizes rows [] [] e = refl
@@ -67,7 +67,7 @@ sizes rows (v ∷ lists) (s ∷ shards) e =
     ap₂ (λ n ns. n ∷ ns) (sym (length-map v.items hit_row) ∙ ap length here) (sizes rows lists shards rest)
 
 module _ (complete : RangesAreComplete) (q : Query) (columns : List Steps) (normal : NormalForm) (is : IsNormalOf q.selector normal) (usable : is_usable (atoms_of q.selector) q.sort columns ≡ true) where
-  -- what a shard lists is as long as what the query finds of its documents, up to skip and limit together
+  -- a shard lists as many rows as the query finds of its documents, but at most skip + limit
   shard_count : (s : ShardView) (on : Histories) → StandFor s.documents on → HaveIdsAndRevs (candidates_of on) → length (shard_rows normal columns q s) ≡ count_handed columns q on
   shard_count s on stands whole =
       let most = q.skip + q.limit in
@@ -75,7 +75,7 @@ module _ (complete : RangesAreComplete) (q : Query) (columns : List Steps) (norm
       let rows = rows_asked asked (row_of columns) (is_wanted_by q columns) in
       let cs = candidates_of on in
       let docs : docs_of s.documents ≡ map document cs = same_docs s.documents on stands ∙ sym (documents_of (entries on)) in
-      let each = all_found_by complete q columns (normal_holds normal) is.meaning usable cs whole in
+      let each = all_found_by_row complete q columns (normal_holds normal) is.meaning usable cs whole in
       ap length
       (shard_listed q columns normal is s
       ∙ ap (take most)
@@ -94,7 +94,7 @@ module _ (complete : RangesAreComplete) (q : Query) (columns : List Steps) (norm
       ap₂ (λ m ms. m ∷ ms) (shard_count s (histories_on place n k hs) first (whole_on place n k hs whole))
       (each_count place n (k + 1) hs shards (λ i t e. let m : k + suc i ≡ (k + 1) + i = omega arith in subst (λ j. StandFor t.documents (histories_on place n j hs)) m (each (suc i) t e)) whole)
 
-  -- how much each shard lists
+  -- how many rows each shard lists
   pub listed_counts : (place : Placing) (shards : List ShardView) (hs : Histories) → ShardsStandFor place shards hs → HaveIdsAndRevs (candidates_of hs)
       → map (λ s. length (shard_rows normal columns q s)) shards ≡ counts_handed columns q place (length shards) hs
   listed_counts place shards hs stands whole =

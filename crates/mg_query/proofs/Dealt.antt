@@ -1,4 +1,4 @@
--- The documents of shards together are those that the histories serve, in some order.
+-- The documents of all shards together are those that the histories serve, in some order.
 use lib.Dec.{eqb, leb}
 use Rattle.std.proofs.Common.{◌≡◌, ℕ, suc, ◌+◌, ◌<◌, Bool, true, false, List, [], ◌∷◌, ◌++◌, Option, Some, None, is_some, is_eq, Equal, option_to_list, append_assoc, length, map, slice_get, cond, refl, sym, ap, ◌∙◌, subst, arith}
 use Rattle.std.proofs.lemmas.Cmp.{tied_itself}
@@ -20,7 +20,7 @@ use Rattle.mg_shard.specs.Shard.{ShardView}
 use Rattle.mg_shard.proofs.Shown.{bytes_cmp, bytes_exact}
 use Rattle.mg_shard.proofs.Standing.{same_docs}
 
--- ---- elements that are cut in two by a number
+-- ---- elements e with a number f e and maybe a value g e
 
 module _ {E D : Type 0} (f : E → ℕ) (g : E → Option D) where
   shown_first : (e : E) (es : List E) (o : Option D) → g e ≡ o → filter_map g (e ∷ es) ≡ option_to_list o ++ filter_map g es
@@ -36,11 +36,11 @@ module _ {E D : Type 0} (f : E → ℕ) (g : E → Option D) where
   back (Some d) xs ys zs h =
       IsPermutation-trans (d ∷ xs) (d ∷ (ys ++ zs)) (ys ++ d ∷ zs) (IsPermutation-cons d xs (ys ++ zs) h) (IsPermutation-sym (ys ++ d ∷ zs) (d ∷ (ys ++ zs)) (IsPermutation-middle ys d zs))
 
-  -- those from k on
+  -- the values of the elements whose number is at least k
   abbrev from_on : ℕ → List E → List D
   from_on k es = filter_map g (filter (λ e. leb k (f e)) es)
 
-  -- those at k
+  -- the values of the elements whose number is k
   abbrev at_one : ℕ → List E → List D
   at_one k es = filter_map g (filter (λ e. eqb (f e) k) es)
 
@@ -76,7 +76,7 @@ module _ {E D : Type 0} (f : E → ℕ) (g : E → Option D) where
       ap (from_with e (filter (λ x. leb 0 (f x)) es)) passes
       ∙ shown_first e (filter (λ x. leb 0 (f x)) es) (g e) refl ∙ ap (λ ds. option_to_list (g e) ++ ds) (all_from_zero es) ∙ sym (shown_first e es (g e) refl)
 
-  -- lists that have those at each number have all from the first number on
+  -- if the lists have the values at k, k + 1 and so on, they have together the values from k on
   gathered : {X : Type 0} (docs : X → List D) (k : ℕ) (xs : List X) (es : List E) → ((i : ℕ) (x : X) → slice_get xs i ≡ Some x → docs x ≡ at_one (k + i) es)
       → AllByRecursion (λ e. f e < k + length xs) es → IsPermutation (from_on k es) (joined (map docs xs))
   gathered docs k [] es each within =
@@ -117,13 +117,13 @@ each_found before [] = tt
 each_found before (e ∷ es) =
     (found_after before e es, subst (λ all. AllByRecursion (λ x. is_some (find bytes_cmp x.0 all) ≡ true) es) (append_assoc before (e ∷ []) es) (each_found (before ++ e ∷ []) es))
 
--- each id that has a history is placed where it may be
+-- each id that has a history is placed on one of the n shards
 all_within : (place : Placing) (n : ℕ) (hs : Histories) → ((id : List ℕ) (h : Paths) → get hs id ≡ Some h → place id n < n) → AllByRecursion (λ e. place e.0 n < n) (entries hs)
 all_within place n hs h =
     let placed_at = λ (e : List ℕ × Paths) (k : is_some (find bytes_cmp e.0 (entries hs)) ≡ true). let v = some_value (find bytes_cmp e.0 (entries hs)) k in h e.0 v.0 (get-entries hs e.0 ∙ v.1) in
     all_weaker (λ e. is_some (find bytes_cmp e.0 (entries hs)) ≡ true) (λ e. place e.0 n < n) placed_at (entries hs) (each_found [] (entries hs))
 
--- the documents that shards keep to be served are all that are served
+-- the served documents of all shards together are the served documents of the histories
 pub dealt : (place : Placing) (shards : List ShardView) (hs : Histories) → ShardsStandFor place shards hs → IsPermutation (served_documents hs) (joined (map (λ s. docs_of s.documents) shards))
 dealt place shards hs stands =
     let n = length shards in

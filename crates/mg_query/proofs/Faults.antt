@@ -1,15 +1,15 @@
--- The fault of a body that is found without memory, and that it is the body's first.
-use Rattle.std.specs.Prelude.{codes}
+-- The fault of a body that is found without taking memory is the body's first fault.
+use Rattle.std.specs.Prelude.{codes, ok_or}
 use Rattle.std.proofs.Common.{◌≡◌, ◌∷◌, [], Bool, true, false, ◌&&◌, cond, List, Option, Some, None, is_some, option_map, option_and_then, unwrap_or, Result, Ok, Err, refl, ap, ◌∙◌}
 use Rattle.std.specs.List.{list_all}
 use Rattle.std.specs.Result.{result_err}
 use Rattle.mg_value.specs.Value.{Value, member_of}
+use Rattle.mg_value.specs.Results.{◌>>=◌}
 use Rattle.mg_collate.specs.declared.direction.Direction.{Direction}
 use Rattle.mg_index.specs.Definition.{Steps}
 use Rattle.mg_index.specs.Reading.{each_of, field_direction}
 use Rattle.mg_selector.specs.Reading.{reading}
 use Rattle.mg_query.specs.Given.{Given, fault_given, given, gives_path, gives_sort, parsed, with_parts}
-use Rattle.mg_selector.specs.Fault.{◌>>=◌, or_fault}
 use Rattle.mg_query.specs.Query.{Shaped, early_fault, path_of, query_of, query_with, selector_or_fault, shaped, sort_path}
 use Rattle.mg_query.specs.Seen.{Fails, ReadsAs, query_seen}
 use Rattle.mg_query.specs.declared.error.QueryError.{QueryError}
@@ -23,7 +23,7 @@ both f None q = refl
 both f (Some y) None = refl
 both f (Some y) (Some z) = refl
 
--- something is given of all where it is given of each
+-- `each_of` gives a list if f gives a value for each element
 all_of : {A B : Type 0} (f : A → Option B) (xs : List A) → is_some (each_of f xs) ≡ list_all (λ x. is_some (f x)) xs
 all_of f [] = refl
 all_of f (x ∷ xs) = both (λ y ys. y ∷ ys) (f x) (each_of f xs) ∙ ap (λ b. is_some (f x) && b) (all_of f xs)
@@ -45,7 +45,7 @@ parts_there g (Some a) None d = refl
 parts_there g (Some a) (Some b) None = refl
 parts_there g (Some a) (Some b) (Some d) = refl
 
--- the shapes of the members are right where each field gives a path, and each of the sort a path and a direction
+-- the shapes of the members are right if each of `fields` gives a path, and each field of `sort` a path and a direction
 pub shapes_there : (g : Given) → is_some (parsed g) ≡ (list_all gives_path g.fields && list_all gives_sort g.sort)
 shapes_there g =
     parts_there g (each_of path_of g.fields) (each_of sort_path g.sort) (each_of field_direction g.sort)
@@ -55,7 +55,7 @@ shapes_there g =
     ∙ ap (λ b. list_all gives_path g.fields && b) (all_and (λ v. is_some (sort_path v)) (λ v. is_some (field_direction v)) g.sort)
 
 parts_fault : (g : Given) (a b : Option (List Steps)) (d : Option (List Direction))
-    → result_err (or_fault Shape (option_and_then (λ fields. option_and_then (λ sort. option_map (λ directions. with_parts g fields sort directions) d) b) a) >>= (λ m. selector_or_fault (reading m.selector)))
+    → result_err (ok_or (option_and_then (λ fields. option_and_then (λ sort. option_map (λ directions. with_parts g fields sort directions) d) b) a) Shape >>= (λ m. selector_or_fault (reading m.selector)))
     ≡ cond (is_some (option_and_then (λ fields. option_and_then (λ sort. option_map (λ directions. with_parts g fields sort directions) d) b) a)) (result_err (selector_or_fault (reading g.selector))) (Some Shape)
 parts_fault g None b d = refl
 parts_fault g (Some a) None d = refl
@@ -69,13 +69,13 @@ members_fault g = parts_fault g (each_of path_of g.fields) (each_of sort_path g.
 -- ---- the body
 
 abbrev fault_of_shaped : Option Shaped → Option QueryError
-fault_of_shaped o = result_err (or_fault Shape o >>= (λ m. selector_or_fault (reading m.selector)))
+fault_of_shaped o = result_err (ok_or o Shape >>= (λ m. selector_or_fault (reading m.selector)))
 
 -- the fault of a body whose members are lent
 pub fault_lent : (v : Value) (g : Given) → given v ≡ Some g → early_fault v ≡ fault_given g
 fault_lent v g e = ap fault_of_shaped (members_given v ∙ ap (option_and_then parsed) e)
 
--- and where none are lent
+-- the fault of a body of which no members are lent
 pub fault_none : (v : Value) → given v ≡ None → early_fault v ≡ Some Shape
 fault_none v e = ap fault_of_shaped (members_given v ∙ ap (option_and_then parsed) e)
 
@@ -83,7 +83,7 @@ carried : {A B : Type 0} (r : Result A QueryError) (f : A → Result B QueryErro
 carried (Ok x) f e h = absurd cc
 carried (Err x) f e h = let same : x ≡ e = cc in ap Err same
 
-first_of : (fields : Option Value) (o : Option Shaped) (e : QueryError) → fault_of_shaped o ≡ Some e → (or_fault Shape o >>= query_with fields) ≡ Err e
+first_of : (fields : Option Value) (o : Option Shaped) (e : QueryError) → fault_of_shaped o ≡ Some e → (ok_or o Shape >>= query_with fields) ≡ Err e
 first_of fields None e h = let same : Shape ≡ e = cc in ap Err same
 first_of fields (Some m) e h = carried (selector_or_fault (reading m.selector)) _ e h
 

@@ -15,11 +15,11 @@ use Rattle.mg_merge.proofs.Cuts.{cut_lists}
 use Rattle.mg_merge.proofs.Shards.{first_of_any_dealing}
 use Rattle.mg_query.proofs.Sorts.{filter_sorted, map_filter, map_sorted}
 
--- the rows of a document: the one that it has, where it is asked for, and the row is wanted
+-- the rows of a document that are asked for: its row, if there is one, the document is asked for, and the row is wanted
 abbrev pub rows_asked : (Document → Bool) → (Document → Option RowValue) → (RowValue → Bool) → Document → List RowValue
 rows_asked asked row wanted d = filter wanted (cond (asked d) (option_to_list (row d)) [])
 
--- what a list of documents lists: the wanted ones of the sorted rows of those that are asked for
+-- the rows that these documents list: the wanted ones of the sorted rows of the documents that are asked for
 abbrev pub listed_rows : (Document → Bool) → (Document → Option RowValue) → (RowValue → Bool) → Direction → List Document → List RowValue
 listed_rows asked row wanted direction ds = filter wanted (sorted_rows direction (filter_map row (filter asked ds)))
 
@@ -59,7 +59,7 @@ lists_in_order direction rows shards =
     All-map (IsInOrder direction) (rows_of direction rows) shards
     (λ k d l. in_order (directed_order direction) (directed_total direction) (rows_of direction rows (get_or shards k d)) (rises_sorted (directed_order direction) (directed_total direction) (flat_map rows (get_or shards k d))))
 
--- the first rows of what the shards list, each cut at their number, are the first rows of all documents
+-- the merge of the first `count` rows that each shard lists has the first `count` rows of all documents
 first_of_shards : (asked : Document → Bool) (row : Document → Option RowValue) (wanted : RowValue → Bool) (direction : Direction) (count : ℕ) (documents : List Document) (shards : List (List Document))
     → IsPermutation documents (joined shards)
     → merged direction count (map (λ ds. take count (listed_rows asked row wanted direction ds)) shards) ≡ take count (rows_of direction (rows_asked asked row wanted) documents)
@@ -70,7 +70,7 @@ first_of_shards asked row wanted direction count documents shards h =
     ∙ first_of_any_dealing direction rows documents shards count h
 
 module _ {X : Type 0} (f : X → RowValue) (document : X → Document) (picked : X → Bool) (after : RowValue → Bool) (rows : Document → List RowValue) where
-  -- a candidate's rows are the one by which it is found, where it is picked and after the place
+  -- x is found by its row f x if it is picked and the row is after the place, otherwise by none
   abbrev pub IsFoundBy : X → Type 0
   IsFoundBy x = rows (document x) ≡ filter after (cond (picked x) (f x ∷ []) [])
 
@@ -91,7 +91,7 @@ module _ {X : Type 0} (f : X → RowValue) (document : X → Document) (picked :
       ∙ ap (filter after) (sym (map_sorted f (directed_order direction) (filter picked xs)))
       ∙ sym (map_filter f after (sorted (λ x y. directed_order direction (f x) (f y)) (filter picked xs)))
 
-  -- the rows of a page: what the shards list is cut at so many and merged, and the first of them are passed over
+  -- the rows of a page: the lists of the shards, each cut at skip + limit, merged, without the first `skip`
   pub rows_of_page : (asked : Document → Bool) (row : Document → Option RowValue) (wanted : RowValue → Bool) → rows ≡ rows_asked asked row wanted
       → (direction : Direction) (skip limit : ℕ) (xs : List X) (shards : List (List Document)) → IsPermutation (map document xs) (joined shards) → AllByRecursion IsFoundBy xs
       → drop skip (merged direction (skip + limit) (map (λ ds. take (skip + limit) (listed_rows asked row wanted direction ds)) shards))

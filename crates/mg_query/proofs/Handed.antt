@@ -74,7 +74,7 @@ length_joined (v ∷ lists) =
 
 -- ---- rows
 
--- a merge of the same number of the same lists
+-- merges of equal lists, up to equal numbers, are equal
 pub merged_same : (direction : Direction) (hits : List Hit) (m n : ℕ) (lists others : List (Vec Hit Global)) → hits ≡ merged_by hit_row direction m (contents_of lists) → m ≡ n → lists ≡ others → hits ≡ merged_by hit_row direction n (contents_of others)
 merged_same direction hits m n lists others e f g = e ∙ ap₂ (λ k ls. merged_by hit_row direction k (contents_of ls)) f g
 
@@ -93,19 +93,19 @@ found_each : (q : Query) (a : Plan) (search : Search) → IsPlanOf q a → IsSea
 found_each q a search asks is [] h = refl
 found_each q a search asks is (s ∷ shards) h = ap₂ (λ x xs. x ∷ xs) (found_at q a search asks is s (is.target s.definitions h.0)) (found_each q a search asks is shards h.1)
 
--- what it finds in shards in which the index is listed
+-- what the search finds in shards that have the index
 pub found_rows : (q : Query) (a : Plan) (search : Search) → IsPlanOf q a → IsSearchOf q a search → (shards : List ShardView) → All (λ s. IsInCatalog s.definitions (source_seen a.source)) shards
     → map (found_by search) shards ≡ map (rows_asked_of q a) shards
 found_rows q a search asks is shards listed = found_each q a search asks is shards (recursion_from_All (λ s. IsInCatalog s.definitions (source_seen a.source)) shards listed)
 
--- and the first of all that
+-- the first rows of what the search finds in these shards
 pub found_first : (q : Query) (a : Plan) (search : Search) → IsPlanOf q a → IsSearchOf q a search → (shards : List ShardView) → All (λ s. IsInCatalog s.definitions (source_seen a.source)) shards
     → merged search.direction search.take (map (found_by search) shards) ≡ merged q.direction (q.skip + q.limit) (map (rows_asked_of q a) shards)
 found_first q a search asks is shards listed =
     ap₂ (λ direction count. merged direction count (map (found_by search) shards)) is.direction is.take
     ∙ ap (merged q.direction (q.skip + q.limit)) (found_rows q a search asks is shards listed)
 
--- where the range decides, it does so in each shard
+-- if the range decides, it decides in each shard
 pub decided_in : (q : Query) (a : Plan) (search : Search) → IsPlanOf q a → IsSearchOf q a search → a.is_decided ≡ true → (shards : List ShardView) → All (λ s. IsInCatalog s.definitions (source_seen a.source)) shards
     → All (IsDecidedIn search.target search.normal.now search.range.now) shards
 decided_in q a search asks is decides shards listed =
@@ -120,7 +120,7 @@ decided_in q a search asks is decides shards listed =
       bounds = is.range ∙ asks.range ∙ ap (λ (normal : NormalForm). range_of normal.atoms columns) (sym is.normal);
     }) shards listed
 
--- the first hits, of which the page passes over some
+-- without the first `skip`, the first hits are those of the page
 pub first_passed : (q : Query) (a : Plan) (shards : List ShardView) (hits : List Hit) → AreFirst q a shards hits → AreOfPage q a shards q.skip hits
 first_passed q a shards hits first = record { rows = sym (drop-map hit_row q.skip hits) ∙ ap (drop q.skip) first.rows; hits = first.hits }
 
@@ -156,13 +156,13 @@ module _ (q : Query) (columns : List Steps) (normal : NormalForm) (is : IsNormal
   all_listed [] = refl
   all_listed (s ∷ shards) = ap₂ (λ rows lists. rows ∷ lists) (shard_listed s) (all_listed shards)
 
-  -- the merged rows after the first are those of the page, over all documents that the histories serve
+  -- the merged rows without the first `skip` are those of the page, over all documents that the histories serve
   pub rows_merged : RangesAreComplete → is_usable (atoms_of q.selector) q.sort columns ≡ true → (place : Placing) (shards : List ShardView) (hs : Histories) → ShardsStandFor place shards hs → HaveIdsAndRevs (candidates_of hs)
       → drop q.skip (merged q.direction most (map (shard_rows normal columns q) shards)) ≡ map (row_by columns) (page_candidates columns q (candidates_of hs))
   rows_merged complete usable place shards hs stands whole =
       ap (λ lists. drop q.skip (merged q.direction most lists)) (all_listed shards) ∙ rows_of_answer complete q columns (normal_holds normal) is.meaning usable place shards hs stands whole
 
-  -- the rows of the hits after the first are those of the page
+  -- the rows of the hits without the first `skip` are those of the page
   pub rows_handed : RangesAreComplete → is_usable (atoms_of q.selector) q.sort columns ≡ true → (place : Placing) (shards : List ShardView) (hs : Histories) → ShardsStandFor place shards hs → HaveIdsAndRevs (candidates_of hs)
       → (hits : List Hit) → hit_rows hits ≡ merged q.direction most (map (shard_rows normal columns q) shards)
       → map hit_row (drop q.skip hits) ≡ map (row_by columns) (page_candidates columns q (candidates_of hs))
@@ -184,7 +184,7 @@ module _ (q : Query) (columns : List Steps) (normal : NormalForm) (is : IsNormal
       let rest : map (λ (w : Vec Hit Global). hit_rows w.items) lists ≡ map (shard_rows normal columns q) shards = cc in
       (by_rows hit_row q.direction v.items (subst (IsInOrder q.direction) (sym here) (shard_in_order s)), each_in_order lists shards rest)
 
-  -- what is handed over is in order
+  -- the lists that are handed over are in order
   pub handed_in_order : (lists : List (Vec Hit Global)) (shards : List ShardView) → map (λ v. hit_rows v.items) lists ≡ map (shard_rows normal columns q) shards → All (IsInOrderBy hit_row q.direction) (contents_of lists)
   handed_in_order lists shards e = All-from_recursion (IsInOrderBy hit_row q.direction) (contents_of lists) (each_in_order lists shards e)
 
@@ -200,7 +200,7 @@ module _ (q : Query) (columns : List Steps) (normal : NormalForm) (is : IsNormal
       let same : length (hit_rows v.items) ≡ length (shard_rows normal columns q s) = ap length here in
       (omega (arith, length-map v.items hit_row, same, shard_at_most s), each_at_most lists shards rest)
 
-  -- and what of it is merged out is bounded by the page
+  -- the counts of handed over and merged rows are within the bounds of the page
   pub handed_within : (lists : List (Vec Hit Global)) (shards : List ShardView) → map (λ v. hit_rows v.items) lists ≡ map (shard_rows normal columns q) shards
       → (hits : List Hit) → hits ≡ merged_by hit_row q.direction most (contents_of lists) → (work : WorkView) → work.handed ≡ map (λ (v : Vec Hit Global). length v.items) lists → work.taken ≡ length hits
       → IsWorkWithin (length shards) most work

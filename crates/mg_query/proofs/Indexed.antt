@@ -31,7 +31,7 @@ listed_in ds own (defined d) listed catalog has = among own d catalog (holds_of_
 
 -- ---- all shards
 
--- what is listed in the catalog is listed in each
+-- what is listed in the catalog is listed in each shard
 pub listed_in_each : (ds : List IndexDefinition) (source : Source) (shards : List ShardView) → IsInCatalog ds source → All (λ s. IsCatalog s.definitions) shards → HaveIndexes ds shards
     → All (λ s. IsInCatalog s.definitions source) shards
 listed_in_each ds source shards listed catalogs have k d less = listed_in ds (slice_index_or shards k d).definitions source listed (catalogs k d less) (have k d less)

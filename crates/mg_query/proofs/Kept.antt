@@ -1,4 +1,4 @@
--- What a shard keeps of a document is its candidate's.
+-- What a shard keeps of a document stands for the history and the form of its candidate.
 use lib.Dec.{T, eqb}
 use Rattle.std.proofs.Common.{◌≡◌, ℕ, Bool, true, false, ◌&&◌, cond, List, [], ◌∷◌, ◌++◌, Option, Some, None, option_map, option_to_list, Ordering, Less, Equal, Greater, is_eq, is_lt, refl, sym, ap, ◌∙◌, subst}
 use Rattle.std.specs.FinMap.{entries, entries_sorted, find, get, get-entries}

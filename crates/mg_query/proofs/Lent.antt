@@ -23,7 +23,7 @@ use Rattle.mg_query.specs.Query.{Query}
 use Rattle.mg_query.proofs.Chained.{all_kept, all_sorted}
 use Rattle.mg_query.proofs.Kept.{IsKnown, all_known, kept_history}
 
--- ---- what a hit lends is of the history of its id
+-- ---- a hit lends the tree and the form of the history of its id
 
 record IsOf (hs : Histories) (h : Hit) : Type 0 where
   history : Paths
@@ -49,7 +49,7 @@ all_dropped P zero xs h = h
 all_dropped P (suc n) [] h = tt
 all_dropped P (suc n) (x ∷ xs) h = all_dropped P n xs h.1
 
--- ---- hits of lists, one for each shard, are hits in these
+-- ---- hits in lists, one list for each shard, are hits in these shards
 
 in_lists : (all : List ShardView) (k : ℕ) (shards : List ShardView) (lists : List (Vec Hit Global)) → ((i : ℕ) (s : ShardView) → slice_get shards i ≡ Some s → slice_get all (k + i) ≡ Some s)
     → AllZip (λ s v. AreHitsOf s.documents v.items) shards lists → AllByRecursion (IsHitIn all) (joined (contents_of lists))
@@ -61,7 +61,7 @@ in_lists all k (s ∷ shards) (v ∷ lists) each h =
     (all_weaker (IsHitOf s.documents) (IsHitIn all) (λ x is. record { place = k + 0; shard = s; there = each 0 s refl; hit = is }) v.items h.0)
     (in_lists all (suc k) shards lists (λ i t e. let m : k + suc i ≡ suc k + i = omega arith in subst (λ j. slice_get all j ≡ Some t) m (each (suc i) t e)) h.1)
 
--- so are those of their merge
+-- the hits of the merge of these lists are hits in the shards
 pub merged_in : (shards : List ShardView) (lists : List (Vec Hit Global)) (direction : Direction) (most : ℕ) → AllZip (λ s v. AreHitsOf s.documents v.items) shards lists
     → AreHitsIn shards (merged_by hit_row direction most (contents_of lists))
 merged_in shards lists direction most h =
@@ -69,7 +69,7 @@ merged_in shards lists direction most h =
     all_taken (IsHitIn shards) most (sorted (order_by hit_row direction) all)
     (all_sorted (IsHitIn shards) (order_by hit_row direction) all (in_lists shards 0 shards lists (λ i s e. let here : i ≡ 0 + i = omega arith in subst (λ j. slice_get shards j ≡ Some s) here e) h))
 
--- ---- so it is of the candidate whose row it has
+-- ---- a hit lends the candidate whose row it has
 
 same : {X : Type 0} (x y : X) → Some x ≡ Some y → x ≡ y
 same x y e = ap (λ o. unwrap_or o x) e
@@ -119,7 +119,7 @@ lends_next columns (x ∷ hits) (c ∷ cs) (suc i) h l less is =
     let n : suc (i + 1) ≡ suc i + 1 = omega arith in
     (more.0, more.1, more.2 ∙ ap (λ m. more.0 ∷ drop m (c ∷ cs)) n)
 
--- after the last hit there are no more
+-- after the last hit there are no more candidates
 pub lends_no_more : (columns : List Steps) (hits : List Hit) (cs : List Candidate) (i : ℕ) → LendEach columns hits cs → length hits ≤ i → drop i cs ≡ []
 lends_no_more columns [] [] zero l le = refl
 lends_no_more columns [] [] (suc i) l le = refl
@@ -141,7 +141,7 @@ lends_at columns (x ∷ hits) [] i h l e = absurd l
 lends_at columns (x ∷ hits) (c ∷ cs) zero h l e = (c, subst (λ y. Lends columns y c) (same x h e) l.0, refl)
 lends_at columns (x ∷ hits) (c ∷ cs) (suc i) h l e = lends_at columns hits cs i h l.1 e
 
--- the last of a list stands at its last place
+-- the last item of a list is at its last place
 last_at : {X : Type 0} (xs : List X) → slice_get xs (length xs - 1) ≡ last xs
 last_at [] = refl
 last_at (x ∷ []) = refl
@@ -149,7 +149,7 @@ last_at (x ∷ y ∷ ys) =
     let n : length (x ∷ y ∷ ys) - 1 ≡ suc (length (y ∷ ys) - 1) = omega arith in
     ap (slice_get (x ∷ y ∷ ys)) n ∙ last_at (y ∷ ys)
 
--- the last ones
+-- the last hit lends the last candidate
 pub lends_last : (columns : List Steps) (hits : List Hit) (cs : List Candidate) (h : Hit) → LendEach columns hits cs → slice_get hits (length hits - 1) ≡ Some h
     → (c : Candidate) × Lends columns h c × (last cs ≡ Some c)
 lends_last columns hits cs h l e =

@@ -40,7 +40,7 @@ later e es [] h k = tt
 later e es (d ∷ ds) h k =
     (ap (λ b. cond b (Some e) (definition_at d.ddoc d.name es)) (not_at d e (is_named d.ddoc d.name e) refl h.0) ∙ k.0, later e es ds h.1 k.1)
 
--- each definition of a catalog is
+-- each definition of a catalog is the one of its design document and name
 pub all_found : (ds : List IndexDefinition) → IsCatalog ds → AllByRecursion (IsFound ds) ds
 all_found [] h = tt
 all_found (d ∷ ds) h = (first d ds, later d ds ds h.0 (all_found ds h.1))

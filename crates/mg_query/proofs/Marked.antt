@@ -1,9 +1,10 @@
 -- A body with another bookmark is read as the same query with that bookmark.
-use Rattle.std.specs.Prelude.{codes}
+use Rattle.std.specs.Prelude.{codes, ok_or}
 use Rattle.std.proofs.Common.{◌≡◌, ◌≢◌, ℕ, Bool, true, false, List, Option, Some, None, option_map, Result, Ok, Err, refl, ap, ap₂, ◌∙◌}
 use Rattle.std.specs.Str.{bytes_eq}
 use Rattle.std.proofs.lemmas.Slice.Eq.{bytes_eq-Decides}
 use Rattle.mg_value.specs.Value.{Value, member_of}
+use Rattle.mg_value.specs.Results.{◌>>=◌}
 use Rattle.mg_collate.specs.declared.direction.Direction.{Direction}
 use Rattle.mg_selector.specs.Reading.{reading}
 use Rattle.mg_selector.specs.Selector.{Selector}
@@ -13,7 +14,6 @@ use Rattle.mg_index.specs.Choice.{Hint}
 use Rattle.mg_index.specs.Definition.{Steps}
 use Rattle.mg_index.specs.Reading.{each_of, field_direction}
 use Rattle.mg_query.specs.Laws.{BookmarksChangeNothingElse, HasBookmark, asked_after}
-use Rattle.mg_selector.specs.Fault.{◌>>=◌, or_fault}
 use Rattle.mg_query.specs.Query.{Query, Shaped, ◌>>◌, bookmark_given, conflicts_of, count_of, fields_of, hint_given, one_direction, query_with, selector_given, selector_or_fault, shaped, items_given, sort_path, rendered_fields_of}
 use Rattle.mg_query.specs.declared.error.QueryError.{QueryError}
 use Rattle.mg_query.specs.declared.error.QueryError.TheVariants.{BadBookmark, MixedSort, Shape}
@@ -61,7 +61,7 @@ from_members a f l k s h b c = all_of (selector_given a) (fields_of f) (count_of
 differ : (a b : List ℕ) → bytes_eq a b ≡ false → a ≢ b
 differ a b f e = let t : bytes_eq a b ≡ true = (bytes_eq-Decides a b).1 e in cc
 
--- under any other name they have the same
+-- under any other name than `bookmark` both bodies have the same
 other : (name : List ℕ) (t : List ℕ) (v w : Value) → HasBookmark t v w → bytes_eq name (codes "bookmark") ≡ false → member_of name v ≡ member_of name w
 other name t v w h f = h.others name (differ name (codes "bookmark") f)
 
@@ -96,24 +96,24 @@ query_made fields m selector bookmark direction = record {
 }
 
 abbrev read_in : Option Value → Shaped → Result Selector QueryError → Option (Option RowPlace) → Option Direction → Result Query QueryError
-read_in fields m s b d = s >>= (λ selector. or_fault BadBookmark b >>= (λ bookmark. or_fault MixedSort d >>= (λ direction. Ok (query_made fields m selector bookmark direction))))
+read_in fields m s b d = s >>= (λ selector. ok_or b BadBookmark >>= (λ bookmark. ok_or d MixedSort >>= (λ direction. Ok (query_made fields m selector bookmark direction))))
 
 read_marked : (fields : Option Value) (m : Shaped) (t : List ℕ) (q : Query) (s : Result Selector QueryError) (b o : Option (Option RowPlace)) (d : Option Direction)
-    → read_in fields m s b d ≡ Ok q → read_in fields (with_mark m t) s o d ≡ or_fault BadBookmark (option_map (λ place. asked_after q place t) o)
+    → read_in fields m s b d ≡ Ok q → read_in fields (with_mark m t) s o d ≡ ok_or (option_map (λ place. asked_after q place t) o) BadBookmark
 read_marked fields m t q (Err s) b o d e = absurd cc
 read_marked fields m t q (Ok s) None o d e = absurd cc
 read_marked fields m t q (Ok s) (Some b) o None e = absurd cc
 read_marked fields m t q (Ok s) (Some b) None (Some d) e = refl
 read_marked fields m t q (Ok s) (Some b) (Some place) (Some d) e = let same : query_made fields m s b d ≡ q = cc in ap (λ r. Ok (asked_after r place t)) same
 
-query_marked : (fields : Option Value) (m : Shaped) (t : List ℕ) (q : Query) → query_with fields m ≡ Ok q → query_with fields (with_mark m t) ≡ or_fault BadBookmark (option_map (λ place. asked_after q place t) (bookmark_read t))
+query_marked : (fields : Option Value) (m : Shaped) (t : List ℕ) (q : Query) → query_with fields m ≡ Ok q → query_with fields (with_mark m t) ≡ ok_or (option_map (λ place. asked_after q place t) (bookmark_read t)) BadBookmark
 query_marked fields m t q e = read_marked fields m t q (selector_or_fault (reading m.selector)) (bookmark_read m.bookmark) (bookmark_read t) (one_direction m.directions) e
 
-of_shaped : (v : Value) (fields : Option Value) (t : List ℕ) (q : Query) (r : Option Shaped) → or_fault Shape r >>= query_with fields ≡ Ok q → ((m : Shaped) → r ≡ Some m → shaped v ≡ Some (with_mark m t))
-    → or_fault Shape (shaped v) >>= query_with fields ≡ or_fault BadBookmark (option_map (λ place. asked_after q place t) (bookmark_read t))
+of_shaped : (v : Value) (fields : Option Value) (t : List ℕ) (q : Query) (r : Option Shaped) → ok_or r Shape >>= query_with fields ≡ Ok q → ((m : Shaped) → r ≡ Some m → shaped v ≡ Some (with_mark m t))
+    → ok_or (shaped v) Shape >>= query_with fields ≡ ok_or (option_map (λ place. asked_after q place t) (bookmark_read t)) BadBookmark
 of_shaped v fields t q None e k = absurd cc
-of_shaped v fields t q (Some m) e k = ap (λ o. or_fault Shape o >>= query_with fields) (k m refl) ∙ query_marked fields m t q e
+of_shaped v fields t q (Some m) e k = ap (λ o. ok_or o Shape >>= query_with fields) (k m refl) ∙ query_marked fields m t q e
 
 pub bookmarks_change_nothing_else : BookmarksChangeNothingElse
 bookmarks_change_nothing_else v w t q h e =
-    ap (λ f. or_fault Shape (shaped v) >>= query_with f) (other (codes "fields") t v w h refl) ∙ of_shaped v (member_of (codes "fields") w) t q (shaped w) e (λ m k. shaped_marked v w t m h k)
+    ap (λ f. ok_or (shaped v) Shape >>= query_with f) (other (codes "fields") t v w h refl) ∙ of_shaped v (member_of (codes "fields") w) t q (shaped w) e (λ m k. shaped_marked v w t m h k)

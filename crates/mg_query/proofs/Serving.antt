@@ -18,6 +18,6 @@ choice_from : (q : Query) (s : Source) (o : Option Source) → ◌≡◌ {A = Re
 choice_from q s None e = absurd cc
 choice_from q s (Some t) e = ap Some (same_served s t (accepts_bookmark t q) e)
 
--- what serves the query is what is chosen
+-- the index that serves the query is the one that is chosen
 pub choice_served : (ds : List IndexDefinition) (q : Query) (s : Source) → served_by ds q ≡ Ok s → choice_of ds (atoms_of q.selector) q.sort q.hint ≡ Some s
 choice_served ds q s e = choice_from q s (choice_of ds (atoms_of q.selector) q.sort q.hint) e

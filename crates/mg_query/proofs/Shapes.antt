@@ -1,13 +1,13 @@
--- The members of a body are those that are lent with their paths and directions read; and which fault comes first.
-use Rattle.std.specs.Prelude.{codes}
+-- The members of a body are those that the code lends, once their paths and directions are read; and which fault comes first.
+use Rattle.std.specs.Prelude.{codes, ok_or}
 use Rattle.std.proofs.Common.{◌≡◌, ℕ, Bool, List, Option, Some, None, option_map, option_and_then, Err, refl, ap, sym, ◌∙◌}
 use Rattle.mg_value.specs.Value.{Value, list, member_of}
+use Rattle.mg_value.specs.Results.{◌>>=◌}
 use Rattle.mg_collate.specs.declared.direction.Direction.{Direction}
 use Rattle.mg_index.specs.Choice.{Hint}
 use Rattle.mg_index.specs.Definition.{Steps}
 use Rattle.mg_index.specs.Reading.{each_of, field_direction}
 use Rattle.mg_query.specs.Given.{Given, given, parsed, query_given}
-use Rattle.mg_selector.specs.Fault.{◌>>=◌, or_fault}
 use Rattle.mg_query.specs.Query.{Shaped, path_of, query_of, query_with, shaped, items_given, selector_given, count_of, hint_given, bookmark_given, conflicts_of, fields_of, sort_path}
 use Rattle.mg_query.specs.declared.error.QueryError.TheVariants.{Shape as wrong_shape}
 
@@ -17,7 +17,7 @@ fields_lent None = refl
 fields_lent (Some (list vs)) = refl
 fields_lent (Some v) = refl
 
--- the two ways to take the members, over what each of them gives: paths and directions in between, or last
+-- two orders to read the members, over the result of each: with paths and directions in between, or at the end
 module _ {F L K P D H B C R : Type 0} (make : F → L → K → P → D → H → B → C → R) where
   in_turn : Option F → Option L → Option K → Option P → Option D → Option H → Option B → Option C → Option R
   in_turn f l k p d h b c =
@@ -52,7 +52,7 @@ module _ {F L K P D H B C R : Type 0} (make : F → L → K → P → D → H �
   regrouped (Some f) (Some l) (Some k) (Some p) (Some d) (Some h) (Some b) None = refl
   regrouped (Some f) (Some l) (Some k) (Some p) (Some d) (Some h) (Some b) (Some c) = refl
 
--- the members that are lent, over what each of them gives
+-- the members that the code lends, over the result of each
 lent_from : Option Value → Option (List Value) → Option ℕ → Option ℕ → Option (List Value) → Option Hint → Option (List ℕ) → Option Bool → Option Given
 lent_from a f l k s h b c =
     option_and_then (λ selector. option_and_then (λ fields. option_and_then (λ limit. option_and_then (λ skip. option_and_then (λ sort. option_and_then (λ hint. option_and_then (λ bookmark. option_map (λ conflicts.
@@ -110,8 +110,8 @@ members_given v =
 
 -- the query of members that are lent
 pub of_lent : (v : Value) (g : Given) → given v ≡ Some g → query_of v ≡ query_given (member_of (codes "fields") v) g
-of_lent v g e = ap (λ o. or_fault wrong_shape o >>= query_with (member_of (codes "fields") v)) (members_given v ∙ ap (option_and_then parsed) e)
+of_lent v g e = ap (λ o. ok_or o wrong_shape >>= query_with (member_of (codes "fields") v)) (members_given v ∙ ap (option_and_then parsed) e)
 
--- and where none are lent
+-- a body of which no members are lent has no query
 pub of_none : (v : Value) → given v ≡ None → query_of v ≡ Err wrong_shape
-of_none v e = ap (λ o. or_fault wrong_shape o >>= query_with (member_of (codes "fields") v)) (members_given v ∙ ap (option_and_then parsed) e)
+of_none v e = ap (λ o. ok_or o wrong_shape >>= query_with (member_of (codes "fields") v)) (members_given v ∙ ap (option_and_then parsed) e)

@@ -21,14 +21,14 @@ use Rattle.mg_query.specs.Lent.{LendEach, Lends, shows_whole}
 use Rattle.mg_query.specs.Query.{Query}
 use Rattle.mg_query.proofs.Lent.{lends_last, lends_next, lends_no_more, lends_none}
 
--- what holds of a value that there is
+-- if Q follows from P, it holds of a result of which P holds
 pub ok_weaker : {X E : Type 0} (r : Result X E) (P Q : X → Type 0) → ((x : X) → P x → Q x) → IfOk r P → IfOk r Q
 ok_weaker (Ok x) P Q f h = f x h
 ok_weaker (Err e) P Q f h = h
 
 -- ---- one document
 
--- what is shown of a form and a tree is what is shown of the candidate that the hit lends
+-- what is shown of a hit's form and tree is what is shown of the candidate that the hit lends
 pub shown_hit : (q : Query) (columns : List Steps) (h : Hit) (c : Candidate) (form : Value) (tree : Tree) (v : Value)
     → ((id : List ℕ) (p : Paths) → StandsFor tree p → v ≡ shown_of q (record { id = id; form = form; history = p })) → form ≡ hit_form h → tree ≡ (kept_of (hit_document h)).0 → Lends columns h c → v ≡ shown_of q c
 shown_hit q columns h c form tree v s f t l =
@@ -45,7 +45,7 @@ shown_whole q c e = whole_if q.conflicts q.fields _ c.form e
 
 -- ---- one after the other
 
--- one value more
+-- the value of one more document
 pub shown_more : (q : Query) (columns : List Steps) (hits : List Hit) (cs : List Candidate) (i : ℕ) (h : Hit) (before : List Value) (v : Value) → LendEach columns hits cs → i < length hits → h ≡ get_or hits i h
     → ((c : Candidate) → Lends columns h c → v ≡ shown_of q c) → before ++ map (shown_of q) (drop i cs) ≡ map (shown_of q) cs → (before ++ v ∷ []) ++ map (shown_of q) (drop (i + 1) cs) ≡ map (shown_of q) cs
 shown_more q columns hits cs i h before v l less is s e =
@@ -54,7 +54,7 @@ shown_more q columns hits cs i h before v l less is s e =
     ∙ ap (λ x. before ++ x ∷ map (shown_of q) (drop (i + 1) cs)) (s next.0 next.1)
     ∙ ap (λ xs. before ++ map (shown_of q) xs) (sym next.2) ∙ e
 
--- no value more
+-- after the last document all values are there
 pub shown_all : (q : Query) (columns : List Steps) (hits : List Hit) (cs : List Candidate) (i : ℕ) (values : List Value) → LendEach columns hits cs → length hits ≤ i
     → values ++ map (shown_of q) (drop i cs) ≡ map (shown_of q) cs → values ≡ map (shown_of q) cs
 shown_all q columns hits cs i values l le e =
@@ -65,7 +65,7 @@ shown_all q columns hits cs i values l le e =
 abbrev rest_text : Query → Bool → List Candidate → List ℕ
 rest_text q later cs = compact_items later (items_of (map (shown_of q) cs))
 
--- one text more
+-- the text of one more document
 pub text_more : (q : Query) (columns : List Steps) (hits : List Hit) (cs : List Candidate) (i : ℕ) (h : Hit) (all out comma text : List ℕ) → LendEach columns hits cs → i < length hits → h ≡ get_or hits i h
     → comma ≡ cond (nat_lt 0 i) (44 ∷ []) [] → ((c : Candidate) → Lends columns h c → text ≡ (out ++ comma) ++ compact (shown_of q c))
     → all ≡ out ++ compact_items (nat_lt 0 i) (items_of (map (shown_of q) (drop i cs)))
@@ -81,18 +81,18 @@ text_more q columns hits cs i h all out comma text l less is so s e =
     ∙ sym (append_assoc (out ++ comma) (compact (shown_of q c)) more)
     ∙ ap₂ (λ t b. t ++ rest_text q b (drop (i + 1) cs)) (sym (s c next.1)) (sym later)
 
--- no text more
+-- after the last document, the closing bracket ends the text
 pub text_all : (q : Query) (columns : List Steps) (hits : List Hit) (cs : List Candidate) (i : ℕ) (all out : List ℕ) → LendEach columns hits cs → length hits ≤ i
     → all ≡ out ++ compact_items (nat_lt 0 i) (items_of (map (shown_of q) (drop i cs))) → out ++ 93 ∷ [] ≡ all
 text_all q columns hits cs i all out l le e = ap (λ xs. out ++ rest_text q (nat_lt 0 i) xs) (sym (lends_no_more columns hits cs i l le)) ∙ sym e
 
--- the first text
+-- the opening bracket begins the text
 pub text_first : (q : Query) (cs : List Candidate) (out begun : List ℕ) → begun ≡ out ++ 91 ∷ [] → out ++ compact (list (items_of (map (shown_of q) cs))) ≡ begun ++ compact_items (nat_lt 0 0) (items_of (map (shown_of q) cs))
 text_first q cs out begun e = sym (append_assoc out (91 ∷ []) (rest_text q false cs)) ∙ ap (λ t. t ++ rest_text q false cs) (sym e)
 
 -- ---- the bookmark
 
--- of the last hit
+-- the bookmark of the last hit
 pub bookmark_last : (s : Source) (q : Query) (hits : List Hit) (cs : List Candidate) (h : Hit) (mark : List ℕ) → LendEach (source_columns s) hits cs → slice_get hits (length hits - 1) ≡ Some h
     → mark ≡ spelled (record { ddoc = ddoc_of s; name = name_of s; direction = q.direction; key = (hit_row h).0; id = (hit_row h).1 }) → mark ≡ bookmark_after s q cs
 bookmark_last s q hits cs h mark l e m =
@@ -100,7 +100,7 @@ bookmark_last s q hits cs h mark l e m =
     m ∙ ap (λ (r : RowValue). spelled (record { ddoc = ddoc_of s; name = name_of s; direction = q.direction; key = r.0; id = r.1 })) last.1.row
     ∙ ap (λ (o : Option Candidate). option_map_or (bookmark_at s q) o q.given_bookmark) (sym last.2)
 
--- of none
+-- the bookmark without a hit
 pub bookmark_none : (s : Source) (q : Query) (hits : List Hit) (cs : List Candidate) (mark : List ℕ) → LendEach (source_columns s) hits cs → slice_get hits (length hits - 1) ≡ None → mark ≡ q.given_bookmark → mark ≡ bookmark_after s q cs
 bookmark_none s q hits cs mark l e m =
     m ∙ ap (λ (o : Option Candidate). option_map_or (bookmark_at s q) o q.given_bookmark) (sym (lends_none (source_columns s) hits cs l e))
@@ -110,7 +110,7 @@ bookmark_none s q hits cs mark l e m =
 regrouped : (p q r d e : List ℕ) → (((p ++ q) ++ r) ++ d) ++ e ≡ p ++ (q ++ (r ++ (d ++ e)))
 regrouped p q r d e = simp append_assoc
 
--- what stands before the bookmark, and between it and the documents
+-- the text before the bookmark, `{"bookmark":`, and between it and the documents, `,"docs":`
 abbrev pub before_mark : List ℕ
 before_mark = 123 ∷ 34 ∷ 98 ∷ 111 ∷ 111 ∷ 107 ∷ 109 ∷ 97 ∷ 114 ∷ 107 ∷ 34 ∷ 58 ∷ []
 

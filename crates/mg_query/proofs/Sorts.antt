@@ -1,4 +1,4 @@
--- Sorting, and what is kept or shown of the elements of a list that is sorted.
+-- Sorting, and maps and filters of a list that is sorted.
 use Rattle.std.proofs.Common.{◌≡◌, ◌+◌, Bool, true, false, ◌&&◌, List, [], ◌∷◌, map, cond, Ordering, is_eq, is_gt, refl, sym, ap, ◌∙◌}
 use Rattle.std.specs.Cmp.{IsTotalOrder}
 use Rattle.std.specs.List.{AllByRecursion, filter}
@@ -9,7 +9,7 @@ use Rattle.std.proofs.lemmas.List.Sorted.{sum_by-IsPermutation}
 use Rattle.mg_collate.specs.Sorted.{sorted_with, sorted}
 use Rattle.mg_collate.proofs.Sorting.{Rises, times, rises_sorted, permutation_sorted, times_permutation, same_list}
 
--- ---- what is shown of sorted elements
+-- ---- maps of sorted elements
 
 map_chosen : {X Y : Type 0} (f : X → Y) (b : Bool) (xs ys : List X) → map f (cond b xs ys) ≡ cond b (map f xs) (map f ys)
 map_chosen f true xs ys = refl
@@ -21,17 +21,17 @@ map_inserted f order x (y ∷ ys) =
     map_chosen f (is_gt (order (f x) (f y))) (y ∷ sorted_with (λ a b. order (f a) (f b)) x ys) (x ∷ y ∷ ys)
     ∙ ap (λ zs. cond (is_gt (order (f x) (f y))) (f y ∷ zs) (f x ∷ f y ∷ map f ys)) (map_inserted f order x ys)
 
--- elements that are sorted by what is shown of them are shown sorted
+-- to sort by f and then map f is to map f and then sort
 pub map_sorted : {X Y : Type 0} (f : X → Y) (order : Y → Y → Ordering) (xs : List X) → map f (sorted (λ a b. order (f a) (f b)) xs) ≡ sorted order (map f xs)
 map_sorted f order [] = refl
 map_sorted f order (x ∷ xs) = map_inserted f order x (sorted (λ a b. order (f a) (f b)) xs) ∙ ap (sorted_with order (f x)) (map_sorted f order xs)
 
--- elements that are kept by what is shown of them are those of the shown ones that are kept
+-- to filter by f and then map f is to map f and then filter
 pub map_filter : {X Y : Type 0} (f : X → Y) (p : Y → Bool) (xs : List X) → map f (filter (λ x. p (f x)) xs) ≡ filter p (map f xs)
 map_filter f p [] = refl
 map_filter f p (x ∷ xs) = map_chosen f (p (f x)) (x ∷ filter (λ y. p (f y)) xs) (filter (λ y. p (f y)) xs) ∙ ap (λ ys. cond (p (f x)) (f x ∷ ys) ys) (map_filter f p xs)
 
--- ---- what is kept of sorted elements
+-- ---- filters of sorted elements
 
 pub all_kept : {X : Type 0} (P : X → Type 0) (p : X → Bool) (xs : List X) → AllByRecursion P xs → AllByRecursion P (filter p xs)
 all_kept P p [] h = tt
@@ -49,7 +49,7 @@ times_chosen : {X : Type 0} (order : X → X → Ordering) (z y : X) (ys : List 
 times_chosen order z y ys true = refl
 times_chosen order z y ys false = refl
 
--- how often an element stands in what is kept does not rest on the order
+-- how often an element is among those that are kept does not depend on the order of the list
 times_kept : {X : Type 0} (order : X → X → Ordering) (p : X → Bool) (z : X) (xs ys : List X) → IsPermutation xs ys → times order z (filter p ys) ≡ times order z (filter p xs)
 times_kept order p z xs ys h =
     let counted = is_count_by (λ zs. times order z (filter p zs)) (λ y. p y && is_eq (order z y)) refl (λ y zs. times_chosen order z y (filter p zs) (p y)) in

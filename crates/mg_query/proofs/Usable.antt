@@ -41,7 +41,7 @@ chosen : (atoms : List Atom) (sort : List Steps) (o : Option IndexDefinition) (s
 chosen atoms sort None s h e = by_id atoms sort (all_docs_usable sort) s refl e
 chosen atoms sort (Some d) s h e = subst (λ t. is_usable atoms sort (source_columns t) ≡ true) (same (defined d) s e) (h d refl)
 
--- what is chosen is usable
+-- the chosen index is usable
 pub choice_usable : (ds : List IndexDefinition) (atoms : List Atom) (sort : List Steps) (hint : Hint) (s : Source) → choice_of ds atoms sort hint ≡ Some s → is_usable atoms sort (source_columns s) ≡ true
 choice_usable ds atoms sort hint s e =
     chosen atoms sort (least (preference atoms hint) (usable_of atoms sort ds)) s

@@ -1,21 +1,21 @@
 -- For private clauses: the members of a body as they are lent, before any path is read.
-use Rattle.std.specs.Prelude.{ℕ, List, Bool, ◌&&◌, Option, codes, is_some, map, option_and_then, option_map, Result}
+use Rattle.std.specs.Prelude.{ℕ, List, Bool, ◌&&◌, Option, codes, is_some, map, option_and_then, option_map, Result, ok_or}
 use Rattle.std.specs.Result.{result_err}
 use Rattle.mg_value.specs.Value.{Value, member_of}
 use Rattle.mg_value.specs.View.{view}
+use Rattle.mg_value.specs.Results.{◌>>=◌}
 use Rattle.mg_collate.specs.declared.direction.Direction.{Direction}
 use Rattle.mg_index.specs.Choice.{Hint, no_hint, in_document, exactly}
 use Rattle.mg_index.specs.Definition.{design_document}
 use Rattle.mg_index.specs.Reading.{each_of, field_direction}
 use Rattle.mg_selector.specs.Reading.{reading}
-use Rattle.mg_selector.specs.Fault.{◌>>=◌, or_fault}
 use Rattle.mg_query.specs.Query.{Query, Shaped, query_with, selector_or_fault, path_of, sort_path, items_given, selector_given, count_of, hint_given, bookmark_given, conflicts_of}
 use Rattle.mg_query.specs.declared.error.QueryError.{QueryError}
 use Rattle.mg_query.specs.declared.error.QueryError.TheVariants.{Shape as wrong_shape}
 use Rattle.mg_query.specs.declared.member.Members as code
 use Rattle.mg_query.specs.declared.member.GivenHint as code_hint
 
--- members whose shapes are right, but for the paths and the directions, which are not yet read
+-- members whose shapes are right, except for paths and directions, which are not read yet
 pub record Given : Type 0 where
   pub selector : Value
   pub fields : List Value
@@ -62,7 +62,7 @@ parsed g =
 
 -- the query of given members, or their first fault; `fields` is the member as it was given
 abbrev pub query_given : Option Value → Given → Result Query QueryError
-query_given fields g = or_fault wrong_shape (parsed g) >>= query_with fields
+query_given fields g = ok_or (parsed g) wrong_shape >>= query_with fields
 
 -- ---- the fault that is found without taking memory
 
@@ -70,13 +70,13 @@ query_given fields g = or_fault wrong_shape (parsed g) >>= query_with fields
 abbrev pub gives_path : Value → Bool
 gives_path v = is_some (path_of v)
 
--- whether a field of `sort` gives a path and a direction
+-- whether an item of `sort` gives a path and a direction
 abbrev pub gives_sort : Value → Bool
 gives_sort v = is_some (sort_path v) && is_some (field_direction v)
 
--- the fault of given members: a wrong shape, or else that of the selector
+-- the fault of given members: a wrong shape, or else the first fault of the selector; `None` if there is neither
 abbrev pub fault_given : Given → Option QueryError
-fault_given g = result_err (or_fault wrong_shape (parsed g) >>= (λ m. selector_or_fault (reading m.selector)))
+fault_given g = result_err (ok_or (parsed g) wrong_shape >>= (λ m. selector_or_fault (reading m.selector)))
 
 -- ---- what the code's members stand for
 

@@ -1,4 +1,4 @@
--- For private clauses: the hits of a page, which lend documents, and the lists that shards hand over.
+-- For private clauses: the hits of a page, which lend documents, and the rows that shards hand over.
 use Rattle.std.specs.Prelude.{◌≡◌, ◌+◌, ◌==◌, Bool, not, ◌&&◌, List, length, option_map}
 use Rattle.std.specs.List.{AllZip}
 use Rattle.mg_collate.specs.Row.{RowValue}

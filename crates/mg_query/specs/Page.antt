@@ -1,6 +1,6 @@
 -- The page that answers a query, after CouchDB's `_find`. The query finds the documents that match its selector, have each path of its
--- sort, and come after its bookmark, in the order of the index that serves it. The page skips some, shows the next up to its limit, and
--- has the bookmark of the last one.
+-- sort, and come after its bookmark, in the order of the index that serves the query. The page skips the first of these documents, shows
+-- the next ones up to the query's limit, and has the bookmark of the last one that it shows.
 use Rattle.std.specs.Prelude.{ℕ, ◌==◌, List, [], ◌∷◌, Bool, true, false, ◌&&◌, codes, drop, filter, length, map, take, Option, Some, None, is_some, option_map, unwrap_or, Result, Ok, Err, if◌then◌else◌}
 use Rattle.std.specs.FinMap.{entries}
 use Rattle.std.specs.List.{filter_map, list_all}
@@ -43,24 +43,25 @@ candidates_of hs = filter_map candidate_of (entries hs)
 
 -- ---- the index that serves the query
 
--- its columns; the index of all documents has the one column `_id`
+-- the columns of an index; the index of all documents has the one column `_id`
 abbrev pub source_columns : Source → List Steps
 source_columns all_docs = id_path ∷ []
 source_columns (defined d) = d.columns
 
--- its design document; `None` for the index of all documents
+-- the design document of an index; `None` for the index of all documents
 abbrev pub ddoc_of : Source → Option (List ℕ)
 ddoc_of all_docs = None
 ddoc_of (defined d) = Some d.ddoc
 
--- its name
+-- the name of an index
 abbrev pub name_of : Source → List ℕ
 name_of all_docs = codes "_all_docs"
 name_of (defined d) = d.name
 
 -- ---- the order
 
--- the value of a column; null if it is missing. A document that the query finds has a value for each column, by the law `RangesAreComplete`
+-- the value of a document at a column; null if the document has no value there. A document that a query finds has a value at each column of
+-- the index that serves the query, by the law `RangesAreComplete`
 abbrev pub value_at : Candidate → Steps → Value
 value_at c column = unwrap_or (part_of column c.form) null
 
@@ -74,7 +75,7 @@ order_by columns direction a b = directed_order direction (row_by columns a) (ro
 
 -- ---- the page
 
--- the selector holds of the document, and each path of the sort is there
+-- the selector holds of the document, and the document has each path of the sort
 abbrev pub is_asked : Query → Candidate → Bool
 is_asked q c = holds_in q.selector Plain (Some c.form) && list_all (λ path. is_some (part_of path c.form)) q.sort
 
@@ -82,11 +83,11 @@ is_asked q c = holds_in q.selector Plain (Some c.form) && list_all (λ path. is_
 abbrev pub is_after : List Steps → Query → Candidate → Bool
 is_after columns q c = option_map_or (λ p. is_gt (directed_order q.direction (row_by columns c) (p.key, p.id))) q.bookmark true
 
--- all documents that are found after the bookmark, in order
+-- all documents that the query finds after its bookmark, in order
 abbrev pub candidates_found : List Steps → Query → List Candidate → List Candidate
 candidates_found columns q cs = filter (is_after columns q) (sorted (order_by columns q.direction) (filter (is_asked q) cs))
 
--- those of the page
+-- the documents that the page shows
 abbrev pub page_candidates : List Steps → Query → List Candidate → List Candidate
 page_candidates columns q cs = take q.limit (drop q.skip (candidates_found columns q cs))
 
@@ -94,7 +95,7 @@ page_candidates columns q cs = take q.limit (drop q.skip (candidates_found colum
 abbrev pub form_for : Query → Candidate → Value
 form_for q c = if q.conflicts then with_conflicts_of c.history c.form else c.form
 
--- the parts at the fields; the whole if no fields are given
+-- the parts of a value at the fields; the whole value if no fields are given
 abbrev pub projected : List Steps → Value → Value
 projected [] v = v
 projected (field ∷ fields) v = projection_of (field ∷ fields) v
@@ -113,7 +114,7 @@ last [] = None
 last (x ∷ []) = Some x
 last (x ∷ y ∷ ys) = last (y ∷ ys)
 
--- the bookmark of the last document; without documents, the one that the query gave
+-- the bookmark of the last document; without documents, the bookmark's text as the query gave it
 abbrev pub bookmark_after : Source → Query → List Candidate → List ℕ
 bookmark_after s q cs = option_map_or (bookmark_at s q) (last cs) q.given_bookmark
 
@@ -126,7 +127,7 @@ pub record Page : Type 0 where
 abbrev pub page_of : Source → Query → List Candidate → Page
 page_of s q cs = record { docs = map (shown_of q) cs; bookmark = bookmark_after s q cs }
 
--- `{"bookmark":..,"docs":[..]}`
+-- the page as a value: `{"bookmark":..,"docs":[..]}`
 abbrev pub page_value : Page → Value
 page_value p = object (member (codes "bookmark") (text p.bookmark) (member (codes "docs") (list (items_of p.docs)) no_members))
 
@@ -152,7 +153,7 @@ fits_source s q p =
 abbrev pub accepts_bookmark : Source → Query → Bool
 accepts_bookmark s q = option_map_or (fits_source s q) q.bookmark true
 
--- what serves the query, or why it is not answered
+-- the index that serves the query, or why the query is not answered
 abbrev pub served_by : List IndexDefinition → Query → Result Source Unanswered
 served_by ds q = option_map_or (λ s. if accepts_bookmark s q then Ok s else Err bad_bookmark) (choice_of ds (atoms_of q.selector) q.sort q.hint) (Err no_usable_index)
 

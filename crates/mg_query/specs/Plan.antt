@@ -24,7 +24,8 @@ use Rattle.mg_query.specs.declared.page_search.PageSearch.{PageSearch}
 abbrev pub IsDecidedBy : List Steps → NormalForm → Type 0
 IsDecidedBy columns normal = (is_some normal.rest ≡ false) × (decides_of normal.atoms columns ≡ true)
 
--- the code's `Plan` is what the query asks of each shard
+-- the plan is made for the query: it has the query's selector in normal form, the range of its keys in the plan's index, and the row of its
+-- bookmark; `is_decided` is true only if that range decides the whole selector
 pub record IsPlanOf (q : Query) (a : Plan) : Type 0 where
   pub normal : IsNormalOf q.selector a.normal
   pub range : a.range ≡ range_of a.normal.atoms (source_columns (source_seen a.source))
@@ -37,7 +38,7 @@ pub record IsPlanned (s : PageSearch) : Type 0 where
   pub range : s.range.now ≡ s.plan.now.range
   pub listed : All (λ x. IsInCatalog x.definitions (source_seen s.plan.now.source)) (shards_seen s.shards.now)
 
--- the search asks a shard for this, and takes as many rows as the page skips and shows
+-- the search has the plan's index, normal form, range and row to begin after, and takes as many rows as the page skips and shows
 pub record IsSearchOf (q : Query) (a : Plan) (s : Search) : Type 0 where
   pub target : (ds : List IndexDefinition) → IsInCatalog ds (source_seen a.source) → target_columns s.target ds ≡ Some (source_columns (source_seen a.source))
   pub normal : s.normal.now ≡ a.normal
@@ -50,7 +51,7 @@ pub record IsSearchOf (q : Query) (a : Plan) (s : Search) : Type 0 where
 abbrev pub rows_asked_of : Query → Plan → ShardView → List RowValue
 rows_asked_of q a = shard_rows a.normal (source_columns (source_seen a.source)) q
 
--- the hits are the first of what all shards list, each of a document of one of them
+-- the hits are the first of what all shards list; each is of a document of one of the shards
 pub record AreFirst (q : Query) (a : Plan) (shards : List ShardView) (found : List Hit) : Type 0 where
   pub rows : hit_rows found ≡ merged q.direction (q.skip + q.limit) (map (rows_asked_of q a) shards)
   pub hits : AreHitsIn shards found

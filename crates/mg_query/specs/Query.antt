@@ -1,9 +1,10 @@
--- How the body of a query is read, after CouchDB's `_find`. Faults are looked for in this order: all shapes, the selector's operators,
--- the bookmark's text, and a sort in both directions.
-use Rattle.std.specs.Prelude.{ℕ, pos, nat_le, List, [], ◌∷◌, Bool, false, codes, Option, Some, None, option_and_then, Result, Ok, Err, if◌then◌else◌}
+-- How the body of a query is read, after CouchDB's `_find`. Faults are looked for in this order: all shapes, the selector, the bookmark's
+-- text, and a sort in both directions.
+use Rattle.std.specs.Prelude.{ℕ, pos, nat_le, List, [], ◌∷◌, Bool, false, codes, Option, Some, None, option_and_then, Result, Ok, Err, if◌then◌else◌, ok_or}
 use Rattle.std.specs.List.{list_all}
 use Rattle.std.specs.Result.{result_err}
 use Rattle.mg_value.specs.Value.{Value, null, flag, whole, text, list, object, no_items, item, member_of, item_list}
+use Rattle.mg_value.specs.Results.{◌>>=◌}
 use Rattle.mg_path.specs.Part.{steps_of}
 use Rattle.mg_path.specs.declared.error.PathError.{PathError}
 use Rattle.mg_path.specs.declared.error.PathError.TheVariants as path_fault
@@ -13,7 +14,6 @@ use Rattle.mg_selector.specs.Selector.{Selector}
 use Rattle.mg_selector.specs.Reading.{reading}
 use Rattle.mg_selector.specs.declared.error.SelError.{SelError}
 use Rattle.mg_selector.specs.declared.error.SelError.TheVariants as selector_fault
-use Rattle.mg_selector.specs.Fault.{◌>>=◌, or_fault}
 use Rattle.mg_bookmark.specs.Bookmark.{RowPlace}
 use Rattle.mg_bookmark.specs.Reading.{bookmark_read}
 use Rattle.mg_index.specs.Choice.{Hint, no_hint, in_document, exactly}
@@ -42,36 +42,36 @@ pub record Query : Type 0 where
 
 -- ---- faults
 
--- a selector's fault as the query's
+-- the query's fault for a fault of its selector
 abbrev pub fault_of_selector : SelError → QueryError
 fault_of_selector selector_fault.InvalidOperator = InvalidOperator
 fault_of_selector selector_fault.BadArg = BadArg
 fault_of_selector selector_fault.Shape = Shape
 fault_of_selector selector_fault.NoMemory = NoMemory
 
--- a selector that was read, or its fault as the query's
+-- a selector that was read, or the query's fault for the selector's fault
 abbrev pub selector_or_fault : Result Selector SelError → Result Selector QueryError
 selector_or_fault (Ok s) = Ok s
 selector_or_fault (Err e) = Err (fault_of_selector e)
 
--- a path's fault as the query's
+-- the query's fault for a fault of a path of `sort` or `fields`
 abbrev pub error_of_path : PathError → QueryError
 error_of_path path_fault.Empty = Shape
 error_of_path path_fault.NoMemory = NoMemory
 
 -- ---- members; `None` stands for a wrong shape
 
--- `selector`, an object
+-- `selector`, an object, which must be there
 abbrev pub selector_given : Option Value → Option Value
 selector_given (Some (object ms)) = Some (object ms)
 selector_given v = None
 
--- the path that a text spells
+-- the path that a value spells; `None` if the value is not a text, or the text has an empty step
 abbrev pub path_of : Value → Option Steps
 path_of (text t) = steps_of t
 path_of v = None
 
--- `fields`, an array of path texts, which may be absent
+-- the paths of `fields`, an array of path texts; no paths if it is absent
 abbrev pub fields_of : Option Value → Option (List Steps)
 fields_of None = Some []
 fields_of (Some (list vs)) = each_of path_of (item_list vs)
@@ -97,19 +97,19 @@ count_of otherwise (Some v) = None
 abbrev pub sort_path : Value → Option Steps
 sort_path v = option_and_then steps_of (field_path v)
 
--- the items of `sort` or `fields`, an array; no items if it is absent. A field of `sort` is a path text, which is ascending, or
+-- the items of `sort` or `fields`, an array; no items if it is absent. An item of `sort` is a path text, for ascending order, or an object,
 -- `{path: "asc"}` or `{path: "desc"}`
 abbrev pub items_given : Option Value → Option (List Value)
 items_given None = Some []
 items_given (Some (list vs)) = Some (item_list vs)
 items_given (Some v) = None
 
--- the direction that all share; ascending if there are none
+-- the direction that all fields share; ascending without fields; `None` if the directions differ
 abbrev pub one_direction : List Direction → Option Direction
 one_direction [] = Some Asc
 one_direction (d ∷ ds) = if list_all (is_same d) ds then Some d else None
 
--- `use_index`: a design document, or an array: `[]`, `[ddoc]` or `[ddoc, name]`
+-- `use_index`: a design document, or an array: `[]`, `[ddoc]` or `[ddoc, name]`; no hint if it is absent
 abbrev pub hint_given : Option Value → Option Hint
 hint_given None = Some no_hint
 hint_given (Some (text ddoc)) = Some (in_document (design_document ddoc))
@@ -146,12 +146,12 @@ pub record Shaped : Type 0 where
   pub bookmark : List ℕ
   pub conflicts : Bool
 
--- `None`, or the result of f for the value
+-- the result of f for the value; `None` without a value
 infixl 10 ◌>>◌
 abbrev pub ◌>>◌ : {A B : Type 0} → Option A → (A → Option B) → Option B
 o >> f = option_and_then f o
 
--- the members of a body; a member that is not named here is ignored
+-- the members of a body; `None` if one has a wrong shape. A member that is not named here is ignored
 abbrev pub shaped : Value → Option Shaped
 shaped v =
     selector_given (member_of (codes "selector") v) >> (λ selector.
@@ -180,8 +180,8 @@ shaped v =
 abbrev pub query_with : Option Value → Shaped → Result Query QueryError
 query_with fields m =
     selector_or_fault (reading m.selector) >>= (λ selector.
-    or_fault BadBookmark (bookmark_read m.bookmark) >>= (λ bookmark.
-    or_fault MixedSort (one_direction m.directions) >>= (λ direction.
+    ok_or (bookmark_read m.bookmark) BadBookmark >>= (λ bookmark.
+    ok_or (one_direction m.directions) MixedSort >>= (λ direction.
     Ok (record {
       selector = selector;
       fields = m.fields;
@@ -199,8 +199,8 @@ query_with fields m =
 
 -- the query in a body, or the body's first fault
 abbrev pub query_of : Value → Result Query QueryError
-query_of v = or_fault Shape (shaped v) >>= query_with (member_of (codes "fields") v)
+query_of v = ok_or (shaped v) Shape >>= query_with (member_of (codes "fields") v)
 
--- the fault that is found without taking memory: a wrong shape, or else the first fault of the selector
+-- the fault that is found without taking memory: a wrong shape, or else the first fault of the selector; `None` if there is neither
 abbrev pub early_fault : Value → Option QueryError
-early_fault v = result_err (or_fault Shape (shaped v) >>= (λ m. selector_or_fault (reading m.selector)))
+early_fault v = result_err (ok_or (shaped v) Shape >>= (λ m. selector_or_fault (reading m.selector)))

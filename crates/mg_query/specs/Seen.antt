@@ -12,7 +12,7 @@ use Rattle.mg_query.specs.declared.error.QueryError.{QueryError}
 use Rattle.mg_query.specs.declared.error.QueryError.TheVariants.{Shape, InvalidOperator, BadArg, BadBookmark, MixedSort, NoMemory}
 use Rattle.mg_query.specs.declared.query.Query as code
 
--- the value that is lent, if one is
+-- the value that is lent, if there is one
 abbrev pub lent : Option (Bor Json) → Option Value
 lent = option_map (λ v. view v.now)
 
@@ -33,7 +33,7 @@ query_seen q = record {
   given_bookmark = q.given_bookmark.now;
 }
 
--- the result is the fault, or anything if an allocation fails
+-- the definition's result is this fault; it may be any result if the fault is `NoMemory`
 abbrev pub Fails : {Y : Type 0} → QueryError → Result Y QueryError → Type 0
 Fails Shape r = r ≡ Err Shape
 Fails InvalidOperator r = r ≡ Err InvalidOperator

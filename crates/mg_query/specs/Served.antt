@@ -10,23 +10,23 @@ use Rattle.mg_query.specs.declared.error.PageError.{PageError}
 use Rattle.mg_query.specs.declared.error.PageError.TheVariants.{NoUsableIndex, BadBookmark, NoMemory}
 use Rattle.mg_query.specs.declared.source.Source as code
 
--- why a query is not answered, unless an allocation failed
+-- the definition's result is the fault that this error stands for; it may be any result if the error is `NoMemory`
 abbrev pub FailsAs : {Y : Type 0} → PageError → Result Y Unanswered → Type 0
 FailsAs NoUsableIndex r = r ≡ Err no_usable_index
 FailsAs BadBookmark r = r ≡ Err bad_bookmark
 FailsAs NoMemory r = Unit {0}
 
--- what a call returned is the answer, unless an allocation failed
+-- the call returned what the definition gives, unless an allocation failed
 abbrev pub PageAnswers : {X Y : Type 0} → (X → Y) → Result X PageError → Result Y Unanswered → Type 0
 PageAnswers seen (Ok x) r = r ≡ Ok (seen x)
 PageAnswers seen (Err e) r = FailsAs e r
 
--- the index that serves a query
+-- the index that the code's `Source` stands for
 abbrev pub source_seen : code.Source → Source
 source_seen code.TheVariants.AllDocs = all_docs
 source_seen (code.TheVariants.Defined d) = defined d.now
 
--- the index is one of these definitions, and the one of its design document and name; that of all documents always is
+-- the catalog of these definitions has the index under its design document and name; every catalog has the index of all documents
 abbrev pub IsInCatalog : List IndexDefinition → Source → Type 0
 IsInCatalog ds all_docs = Unit {0}
 IsInCatalog ds (defined d) = definition_at d.ddoc d.name ds ≡ Some d
@@ -40,10 +40,10 @@ IsSourceChosen (Err NoMemory) r = ⊥
 
 -- ---- documents that are objects
 
--- a served document has its id and its revision among its members; every document whose body is an object does
+-- the document's form has an `_id` and a `_rev`; the form of every document whose body is an object has both
 abbrev pub HasIdAndRev : Candidate → Type 0
 HasIdAndRev c = Has c.form id_path × Has c.form rev_path
 
--- each of these documents has its id and its revision among its members
+-- the form of each of these documents has an `_id` and a `_rev`
 abbrev pub HaveIdsAndRevs : List Candidate → Type 0
 HaveIdsAndRevs cs = AllByRecursion HasIdAndRev cs

@@ -30,16 +30,16 @@ use std::alloc::Global;
 use std::sync::Arc;
 use std::thread::Threads;
 
-/// The page that answers a query over the indexes of the catalog, and how many rows each shard handed over for it: all
-/// that the query finds there, but at most skip + limit. Each shard must have the indexes of the catalog; others that it
-/// has are ignored. Each document must have an object as its body. The page does not depend on the number of workers, from
-/// 1 to 32, nor on how documents are placed on shards. The gate is passed before a shard's first row is read, and after its
-/// last unless an allocation fails.
+/// Returns the page that answers a query over the indexes of the catalog. Also returns how many rows each shard handed over for it (all
+/// that the query finds there, but at most skip + limit), and how many of these were merged. Each shard must have the indexes of the
+/// catalog; other indexes that it has are ignored. Each document must have an object as its body. The page does not depend on the number of
+/// workers, from 1 to 32, nor on how documents are placed on shards. The gate is passed before a shard's first row is read, and after the
+/// last row that is read unless an allocation fails in that shard.
 ///
-/// Errors: `NoUsableIndex` if no index serves the query, then `BadBookmark` if its bookmark is of another index, direction or
-/// number of columns; `NoMemory` if an allocation fails.
-/// Cost: the choice of the index; in each shard a look-up of where to begin, then a look-up of a document and the selector on
-/// it for each row, until skip + limit are found; the merge of these; copies of what is shown. Source: `_find` of
+/// Errors: `NoUsableIndex` if no index serves the query, then `BadBookmark` if its bookmark is of another index, direction or number of
+/// columns; `NoMemory` if an allocation fails. Cost: the choice of the index; a thread for each worker but one, with at most as many
+/// workers as shards; in each shard a look-up of where to begin, then, until skip + limit hits are found, for each row of an index a
+/// look-up of its document, and for each document the selector; the merge of the hits; copies of what is shown. Source: `_find` of
 /// CouchDB's API reference.
 pub fn page<R: Threads + Sync, G: Gate + Sync>(
     rt: &R,
@@ -78,14 +78,15 @@ pub fn page<R: Threads + Sync, G: Gate + Sync>(
     Ok((Page { docs, bookmark }, found.work))
 }
 
-/// The compact text of the page that answers a query, `{"bookmark":..,"docs":[..]}`. If the query shows documents whole and without
-/// conflicts, the texts that shards keep of them are copied. If the number of workers is only a maximum, a query that is not worth a second
-/// thread runs on the caller's thread, and passes no gate.
+/// Writes the compact text of the page that answers a query, `{"bookmark":..,"docs":[..]}`. The shards and documents must be as for `page`.
+/// If the query shows documents whole and without conflicts, the texts that shards keep of them are copied. If the number of workers is a
+/// maximum, the search runs on the caller's thread, and passes no gate, in each of these cases: there is one worker; there are fewer than
+/// two shards; a second thread is expected to cost more than it saves.
 ///
-/// Errors: those of `page`. Cost: that of `page`, but documents whose texts are copied are not made into values. On the caller's thread,
-/// all shards together find at most skip + limit hits and one more for each shard, and read no further. If the range of the index decides
-/// the whole selector, documents are looked up only for the hits that the page shows, and most rows that it skips are passed over by
-/// counts.
+/// Errors: those of `page`. Cost: that of `page`, but documents whose texts are copied are not made into values; with several workers and
+/// several shards, also that of `mg_scan::reads_at_most`. On the caller's thread, all shards together find at most skip + limit hits and
+/// one more for each shard, and read no further. If moreover the range of the index decides the whole selector, documents are looked up
+/// only for the hits that the page shows, and most rows that a long skip passes are counted and not read.
 pub fn page_text<R: Threads + Sync, G: Gate + Sync>(
     rt: &R,
     alloc: Global,
@@ -106,7 +107,7 @@ pub fn page_text<R: Threads + Sync, G: Gate + Sync>(
     Ok(write_page(alloc, query, found.source, hits)?)
 }
 
-// The text of the page of these hits.
+// Writes the text of the page that shows the documents of these hits. Errors: `NoMemory` if an allocation fails.
 fn write_page(
     alloc: Global,
     query: &Query<'_>,
@@ -121,7 +122,7 @@ fn write_page(
     text_with(alloc, query, &bookmark, hits)
 }
 
-// What the page shows of the documents.
+// Makes what the page shows of the documents of these hits. Errors: `NoMemory` if an allocation fails.
 fn show_all(alloc: Global, query: &Query<'_>, hits: &[Hit<'_>]) -> Result<Vec<Json>, NoMemory>
     ensures { IfOk result (λ v. (columns : List Steps) (cs : List Candidate) → LendEach columns hits.now cs
         → map view v.items ≡ map (shown_of (query_seen query.now)) cs) }
@@ -134,7 +135,7 @@ fn show_all(alloc: Global, query: &Query<'_>, hits: &[Hit<'_>]) -> Result<Vec<Js
     Ok(docs)
 }
 
-// The bookmark of the last hit; without a hit, the bookmark's text as the query gave it.
+// Makes the bookmark of the last hit; without a hit, copies the bookmark's text as the query gave it. Errors: `NoMemory`.
 fn last_bookmark(
     alloc: Global,
     query: &Query<'_>,
@@ -151,7 +152,7 @@ fn last_bookmark(
     }
 }
 
-// The bookmark of a hit.
+// Makes the bookmark of a hit. Errors: `NoMemory` if an allocation fails.
 fn bookmark_at(
     alloc: Global,
     source: Source<'_>,

@@ -8,19 +8,19 @@ use thiserror::Error;
 /// Why the body of a query was not read.
 #[derive(Clone, Copy, PartialEq, Eq, Debug, Drop, Error)]
 pub enum QueryError {
-    /// The body is not an object, a member has the wrong shape, or a path of `sort` or `fields` has an empty step.
+    /// The body is not an object, `selector` is missing, a member has the wrong shape, or a path of `sort` or `fields` has an empty step.
     #[error("wrong shape")]
     Shape,
-    /// An operator that is not known.
+    /// The selector has an unknown operator.
     #[error("unknown operator")]
     InvalidOperator,
-    /// An operator with an argument that it does not take, or a path of the selector with an empty step.
+    /// An operator of the selector has an argument that it does not take, or a path of the selector has an empty step.
     #[error("bad argument for an operator")]
     BadArg,
-    /// The text is not a bookmark.
+    /// The text of `bookmark` is not a bookmark.
     #[error("invalid bookmark")]
     BadBookmark,
-    /// A sort in both directions.
+    /// The fields of the sort have both directions.
     #[error("a sort has one direction")]
     MixedSort,
     /// An allocation failed.
@@ -94,7 +94,8 @@ impl From<SelError> for QueryError {
 /// Why a query that was read has no page.
 #[derive(Clone, Copy, PartialEq, Eq, Debug, Drop, Error)]
 pub enum PageError {
-    /// No index serves the query's sort.
+    /// No index is usable for the query and its sort. Without a sort, or with a sort by `_id` alone, the index of all documents is always
+    /// usable.
     #[error("no index is usable")]
     NoUsableIndex,
     /// The bookmark is of another index or direction, or its key has another number of values than the index has columns.

@@ -14,14 +14,13 @@ use mg_normal::Normal;
 use mg_value::{Json, NoMemory, copy_items};
 use std::alloc::Global;
 
-/// How a query would be answered in a database of this name, over the indexes of the catalog:
-/// `{"dbname":..,"fields":..,"index":..,"limit":..,"range":..,"selector":..,"skip":..}`, with `fields` and `selector`
-/// as they were given (`"all_fields"` if the fields are absent or empty), the index as it is listed, and the range of its keys.
+/// Explains how a query would be answered in a database of this name, over the indexes of the catalog: returns
+/// `{"dbname":..,"fields":..,"index":..,"limit":..,"range":..,"selector":..,"skip":..}`, with `fields` and `selector` as they were given
+/// (`"all_fields"` if the fields are absent or empty), the index as it is listed, and the range of keys that the query has to read in it.
 ///
-/// Errors: `NoUsableIndex` if no index serves the query, then `BadBookmark` if its bookmark is of another index, direction
-/// or number of columns; `NoMemory` if an allocation fails.
-/// Cost: the size of the query, and for each definition its columns times the query's atoms and the paths of its sort.
-/// Source: `_explain` of CouchDB's API reference.
+/// Errors: `NoUsableIndex` if no index serves the query, then `BadBookmark` if its bookmark is of another index, direction or number of
+/// columns; `NoMemory` if an allocation fails. Cost: the size of the query; for each definition, the number of its columns times the number
+/// of the query's atoms and sort paths. Source: `_explain` of CouchDB's API reference.
 pub fn explain(
     alloc: Global,
     db: &str,
@@ -38,7 +37,7 @@ pub fn explain(
     Ok(render_explanation(alloc, db, query, index, range)?)
 }
 
-// The explanation, with an index and a range as they are shown.
+// Makes the explanation from an index and a range as they are shown. Errors: `NoMemory` if an allocation fails.
 fn render_explanation(
     alloc: Global,
     db: &str,
@@ -63,7 +62,7 @@ fn render_explanation(
     Ok(explanation)
 }
 
-// The fields as they were given; `all_fields` if they are absent or empty.
+// Copies the fields as they were given; makes `"all_fields"` if they are absent or empty. Errors: `NoMemory` if an allocation fails.
 fn render_fields(alloc: Global, fields: Option<&Json>) -> Result<Json, NoMemory>
     ensures { IfOk result (λ v. view v ≡ rendered_fields_of (lent fields.entry)) }
 {

@@ -13,7 +13,8 @@ use mg_index::{field_direction, field_path};
 use mg_path::is_path;
 use mg_value::Json;
 
-// A wrong shape, otherwise the first fault of the selector; `None` if there is neither. Later faults are not looked for.
+// Finds a wrong shape, otherwise the first fault of the selector; `None` if there is neither. The bookmark and mixed directions are not
+// checked.
 pub(crate) fn fault_of(body: &Json) -> Option<QueryError>
     ensures { result ≡ early_fault (view body.now) }
 {
@@ -33,7 +34,7 @@ fn members_fault(members: Members<'_>) -> Option<QueryError>
     }
 }
 
-// Whether `fields` and `sort` give paths, and `sort` directions.
+// Whether each item of `fields` gives a path, and each item of `sort` a path and a direction.
 fn are_shaped(members: Members<'_>) -> bool
     ensures { result ≡ is_some (parsed (given_seen members.entry)) }
 {

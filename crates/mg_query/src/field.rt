@@ -1,8 +1,7 @@
 //! The paths of `fields`, and the paths and directions of `sort`.
-ghost use Rattle.std.specs.Prelude.{map};
+ghost use Rattle.std.specs.Prelude.{map, ok_or};
 ghost use Rattle.mg_value.specs.View.{view};
 ghost use Rattle.mg_index.specs.Reading.{each_of, field_direction};
-ghost use Rattle.mg_selector.specs.Fault.{or_fault};
 ghost use Rattle.mg_query.specs.Query.{one_direction, path_of, sort_path};
 ghost use Rattle.mg_query.specs.Seen.{ReadsAs};
 
@@ -13,10 +12,10 @@ use mg_path::Path;
 use mg_value::Json;
 use std::alloc::Global;
 
-// The paths that these texts spell.
+// Reads the paths that these values spell. Errors: `Shape` if a value is not a text, or its text has an empty step; `NoMemory`.
 pub(crate) fn read_paths(alloc: Global, texts: &[Json]) -> Result<Vec<Path>, QueryError>
     ensures { ReadsAs (λ v. v.items) result
-        (or_fault QueryError.Shape (each_of path_of (map view texts.now))) }
+        (ok_or (each_of path_of (map view texts.now)) QueryError.Shape) }
 {
     let mut paths = Vec::with_capacity(alloc, texts.len())?;
     for text in texts {
@@ -27,7 +26,7 @@ pub(crate) fn read_paths(alloc: Global, texts: &[Json]) -> Result<Vec<Path>, Que
 }
 
 fn read_path(alloc: Global, text: &Json) -> Result<Path, QueryError>
-    ensures { ReadsAs (λ path. path) result (or_fault QueryError.Shape (path_of (view text.now))) }
+    ensures { ReadsAs (λ path. path) result (ok_or (path_of (view text.now)) QueryError.Shape) }
 {
     match text {
         Json::Text(text) => Ok(Path::parse(alloc, text.as_str())?),
@@ -35,10 +34,10 @@ fn read_path(alloc: Global, text: &Json) -> Result<Path, QueryError>
     }
 }
 
-// The paths of a sort's fields.
+// Reads the paths of a sort's fields. Errors: `Shape` if a field has no path, or its path has an empty step; `NoMemory`.
 pub(crate) fn read_sort_paths(alloc: Global, fields: &[Json]) -> Result<Vec<Path>, QueryError>
     ensures { ReadsAs (λ v. v.items) result
-        (or_fault QueryError.Shape (each_of sort_path (map view fields.now))) }
+        (ok_or (each_of sort_path (map view fields.now)) QueryError.Shape) }
 {
     let mut paths = Vec::with_capacity(alloc, fields.len())?;
     for field in fields {
@@ -50,7 +49,7 @@ pub(crate) fn read_sort_paths(alloc: Global, fields: &[Json]) -> Result<Vec<Path
 
 fn read_sort_path(alloc: Global, field: &Json) -> Result<Path, QueryError>
     ensures { ReadsAs (λ path. path) result
-        (or_fault QueryError.Shape (sort_path (view field.now))) }
+        (ok_or (sort_path (view field.now)) QueryError.Shape) }
 {
     match field_path(field) {
         Some(path) => Ok(Path::parse(alloc, path)?),
@@ -58,10 +57,10 @@ fn read_sort_path(alloc: Global, field: &Json) -> Result<Path, QueryError>
     }
 }
 
-// The directions of a sort's fields.
+// Reads the directions of a sort's fields. Errors: `Shape` if a field has no direction; `NoMemory`.
 pub(crate) fn read_directions(alloc: Global, fields: &[Json]) -> Result<Vec<Direction>, QueryError>
     ensures { ReadsAs (λ v. v.items) result
-        (or_fault QueryError.Shape (each_of field_direction (map view fields.now))) }
+        (ok_or (each_of field_direction (map view fields.now)) QueryError.Shape) }
 {
     let mut directions = Vec::with_capacity(alloc, fields.len())?;
     for field in fields {
@@ -73,9 +72,9 @@ pub(crate) fn read_directions(alloc: Global, fields: &[Json]) -> Result<Vec<Dire
     Ok(directions)
 }
 
-// The direction that all share; ascending if there are none.
+// Returns the direction that all fields share; ascending without fields. Errors: `MixedSort` if the directions differ.
 pub(crate) fn one_direction(directions: &[Direction]) -> Result<Direction, QueryError>
-    ensures { ReadsAs (λ d. d) result (or_fault QueryError.MixedSort (one_direction directions.now)) }
+    ensures { ReadsAs (λ d. d) result (ok_or (one_direction directions.now) QueryError.MixedSort) }
 {
     let Some((first, others)) = directions.split_first() else {
         return Ok(Direction::Asc);

@@ -28,7 +28,8 @@ use std::alloc::Global;
 use std::sync::Arc;
 use std::thread::Threads;
 
-// The index that serves a query, the hits that its page skips and then those that it shows, and how many rows each shard handed over.
+// The index that serves a query; the hits that the query's page skips, and after them those that it shows; how many rows each shard handed
+// over, and how many of these were merged.
 #[derive(Drop)]
 pub(crate) struct Found<'a> {
     pub(crate) source: Source<'a>,
@@ -36,7 +37,7 @@ pub(crate) struct Found<'a> {
     pub(crate) work: Work,
 }
 
-// The index that serves a query, and its hits. The page does not show the first `skip` of them.
+// The index that serves a query, and hits of the query. The page shows all of these hits but the first `skip`.
 #[derive(Drop)]
 pub(crate) struct PageHits<'a> {
     pub(crate) source: Source<'a>,
@@ -44,8 +45,8 @@ pub(crate) struct PageHits<'a> {
     pub(crate) skip: u32,
 }
 
-// The plan of a query: the index that serves it, its selector in normal form, its range of keys, the row of its bookmark as bytes, and
-// whether the range decides the whole selector.
+// The plan of a query: the index that serves it, its selector in normal form, its range of keys in that index, the row of its bookmark as
+// bytes, and whether the range decides the whole selector.
 #[derive(Drop)]
 pub(crate) struct Plan<'a> {
     pub(crate) source: Source<'a>,
@@ -55,8 +56,9 @@ pub(crate) struct Plan<'a> {
     pub(crate) is_decided: bool,
 }
 
-// Finds the hits of the query's page, over the indexes of the catalog; each shard has these indexes, and maybe others. Each shard
-// hands over its first hits: at most as many as the page skips and shows.
+// Finds the hits that the query's page skips and shows, over the indexes of the catalog; each shard has these indexes, and maybe others.
+// Each shard hands over its first hits: at most as many as the page skips and shows. Errors: those of `served_by`, and `NoMemory` if an
+// allocation fails.
 pub(crate) fn find<'a, R: Threads + Sync, G: Gate + Sync>(
     rt: &R,
     alloc: Global,
@@ -98,8 +100,10 @@ pub(crate) fn find<'a, R: Threads + Sync, G: Gate + Sync>(
     })
 }
 
-// Finds the hits of the query's page as `find` does, without the counts of rows. If the number of workers is a maximum, and either the
-// query is small or there is only one worker or one shard, the caller's thread pulls the hits one by one, as the merge asks for them.
+// Finds the hits of the query's page as `find` does, without the counts of rows; hits that the page skips may be missing. If the number of
+// workers is a maximum, the caller's thread pulls the hits one by one, as the merge asks for them, and passes no gate, in each of these
+// cases: there is one worker; there are fewer than two shards; a second thread is expected to cost more than it saves. Errors: those of
+// `find`.
 pub(crate) fn find_page<'a, R: Threads + Sync, G: Gate + Sync>(
     rt: &R,
     alloc: Global,
@@ -135,7 +139,7 @@ pub(crate) fn find_page<'a, R: Threads + Sync, G: Gate + Sync>(
     })
 }
 
-// Chooses an index of the catalog for the query, and makes the query's plan.
+// Chooses an index of the catalog for the query, and makes the query's plan. Errors: those of `served_by`, and `NoMemory`.
 fn plan_of<'a>(
     alloc: Global,
     query: &Query<'_>,
@@ -160,7 +164,7 @@ fn plan_of<'a>(
     })
 }
 
-// The row after which the page begins, as bytes, if there is a bookmark.
+// Makes the bytes of the row after which the page begins; `None` without a bookmark. Errors: `NoMemory` if an allocation fails.
 fn after_row(alloc: Global, query: &Query<'_>) -> Result<Option<RowBytes>, NoMemory>
     ensures { IfOk result (λ after. after ≡ option_map row_at (query_seen query.now).bookmark) }
 {
@@ -170,7 +174,7 @@ fn after_row(alloc: Global, query: &Query<'_>) -> Result<Option<RowBytes>, NoMem
     }
 }
 
-// The hits without the first `skip`, which the page does not show.
+// Returns the hits after the first `skip`; no hits if there are at most `skip`.
 pub(crate) fn after_skip<'a, 'b>(hits: &'b [Hit<'a>], skip: u32) -> &'b [Hit<'a>]
     ensures { result.now ≡ drop skip hits.now }
 {

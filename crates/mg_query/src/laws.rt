@@ -13,8 +13,8 @@ pub fn pages_join()
     what_is_spelled_is_read();
 }
 
-/// Pages join for any keys and texts if the bookmark of each document is read back as the document's place. The query must meet the
-/// conditions of `pages_join`.
+/// Pages join, whatever the keys and texts, if the bookmark of each document is read back as the document's place. The query must meet the
+/// conditions that `pages_join` sets for it.
 pub fn pages_that_read_back_join()
     ensures { PagesReadBackJoin }
 {}

@@ -1,4 +1,4 @@
-//! The members of a query's body, lent from it. Only `to_hint` takes memory.
+//! The members of a query's body, lent from the body. Only `to_hint` takes memory.
 ghost use Rattle.std.specs.Prelude.{◌≡◌, Some, map, option_map};
 ghost use Rattle.mg_value.specs.Value.{item, list, no_items, whole};
 ghost use Rattle.mg_value.specs.View.{view, items_view};
@@ -37,7 +37,7 @@ pub(crate) enum GivenHint<'a> {
     Both(&'a str, &'a str),
 }
 
-// The members of a body; `None` if one has a wrong shape.
+// Returns the members of a body; `None` if the body is not an object, `selector` is missing, or a member has a wrong shape.
 pub(crate) fn members_in(body: &Json) -> Option<Members<'_>>
     ensures { option_map given_seen result ≡ given (view body.now) }
 {
@@ -61,7 +61,7 @@ pub(crate) fn members_in(body: &Json) -> Option<Members<'_>>
     })
 }
 
-// `selector`: an object, which must be there.
+// Returns `selector`; `None` if it is missing, or is not an object.
 fn selector_given<'a>(value: Option<&'a Json>) -> Option<&'a Json>
     ensures { option_map (λ v. view v.now) result ≡ selector_given (lent value.entry) }
 {
@@ -80,7 +80,7 @@ fn object_in(value: &Json) -> Option<&Json>
     }
 }
 
-// The items of a member that is an array; no items if it is absent.
+// Returns the items of a member that is an array; no items if it is absent, and `None` if it is anything else.
 fn array_given<'a>(value: Option<&'a Json>) -> Option<&'a [Json]>
     ensures { option_map (λ items. map view items.now) result ≡ items_given (lent value.entry) }
 {
@@ -106,7 +106,7 @@ fn some_items(items: &[Json]) -> Option<&[Json]>
     Some(items)
 }
 
-// `limit` or `skip`: a whole number from 0 to `GREATEST_COUNT`; `otherwise` if it is absent.
+// Returns `limit` or `skip`, a whole number from 0 to `GREATEST_COUNT`; `otherwise` if it is absent, and `None` if it is anything else.
 fn count_given(otherwise: u32, value: Option<&Json>) -> Option<u32>
     ensures { result ≡ count_of otherwise (lent value.entry) }
 {
@@ -127,7 +127,8 @@ fn count_in(_otherwise: u32, count: i64) -> Option<u32>
     }
 }
 
-// `use_index`: a design document, or an array: `[]`, `[ddoc]` or `[ddoc, name]`.
+// Returns `use_index`: a design document, or an array: `[]`, `[ddoc]` or `[ddoc, name]`; no hint if it is absent, and `None` if it is
+// anything else.
 fn hint_given<'a>(value: Option<&'a Json>) -> Option<GivenHint<'a>>
     ensures { option_map hint_seen result ≡ hint_given (lent value.entry) }
 {
@@ -171,7 +172,7 @@ fn hint_by_both<'a>(ddoc: &'a Json, name: &'a Json) -> Option<GivenHint<'a>>
     }
 }
 
-// `bookmark`: a text; `nil` if it is null or absent.
+// Returns `bookmark`, a text; `nil` if it is null or absent, and `None` if it is anything else.
 fn bookmark_given<'a>(value: Option<&'a Json>) -> Option<&'a str>
     ensures { option_map (λ t. t.now) result ≡ bookmark_given (lent value.entry) }
 {
@@ -183,7 +184,7 @@ fn bookmark_given<'a>(value: Option<&'a Json>) -> Option<&'a str>
     }
 }
 
-// `conflicts`: true or false; false if it is absent.
+// Returns `conflicts`, true or false; false if it is absent, and `None` if it is anything else.
 fn conflicts_given(value: Option<&Json>) -> Option<bool>
     ensures { result ≡ conflicts_of (lent value.entry) }
 {
@@ -198,7 +199,7 @@ impl GivenHint<'_> {
     ghost use Rattle.std.specs.Prelude.{IfOk};
     ghost use Rattle.mg_index.specs.View.{hint_of};
 
-    // A copy of the hint, with `_design/` put before a design document that does not begin with it.
+    // Copies the hint, with `_design/` put before a design document that does not begin with it. Errors: `NoMemory` if an allocation fails.
     pub(crate) fn to_hint(self, alloc: Global) -> Result<Hint, NoMemory>
         ensures { IfOk result (λ hint. hint_of hint ≡ hint_seen self.entry) }
     {

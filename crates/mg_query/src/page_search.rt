@@ -1,4 +1,4 @@
-//! The search for the hits of a page.
+//! Searches for the hits of a page, by workers or on the caller's thread.
 ghost use Rattle.std.specs.Prelude.{◌≡◌, ◌+◌, true, IfOk, length, map};
 ghost use Rattle.std.specs.List.{AllZip};
 ghost use Rattle.mg_shard.specs.Shard.{shards_seen};
@@ -19,7 +19,8 @@ use std::alloc::Global;
 use std::sync::Arc;
 use std::thread::Threads;
 
-// A page that skips and shows at most this many rows is small if its range has a bound: a thread costs some 100 µs, a row at most 1 µs.
+// A page that skips and shows at most this many rows is small if its range has a limit on the first column: a thread costs some 100 µs, a
+// row at most 1 µs.
 const SMALL_PAGE: usize = 1000;
 
 // A page that shows at most this many rows is small if its range decides the whole selector, whatever it skips: the caller's thread looks
@@ -29,7 +30,7 @@ const SMALL_SHOWN: usize = 4000;
 // A scan that can read at most this many documents or rows, in all shards together, is small.
 const SMALL_SCAN: usize = 1000;
 
-// What the hits of a page are searched by: the query, its plan, the plan's range as bytes, and the shards, which have the plan's index.
+// What a search for the hits of a page needs: the query, its plan, the plan's range as bytes, and the shards, which have the plan's index.
 #[derive(Drop)]
 pub(crate) struct PageSearch<'a, 'b> {
     pub(crate) query: &'b Query<'b>,
@@ -46,7 +47,7 @@ impl<'a, 'b> PageSearch<'a, 'b> {
         self.query.skip as usize + self.query.limit as usize
     }
 
-    // The search in each shard, for the rows that the page skips and shows.
+    // Makes the search in each shard, for the rows that the page skips and shows.
     fn in_each_shard(&self) -> Search<'b>
         requires { IsPlanned self.now }
         ensures { IsSearchOf (query_seen self.now.query.now) self.now.plan.now result }
@@ -61,7 +62,9 @@ impl<'a, 'b> PageSearch<'a, 'b> {
         }
     }
 
-    // The hits that the page shows, after some that it skips; the number says how many come before those that it shows.
+    // Finds hits of which the page shows all but the first n. Returns the hits and n: 0 if the skipped hits were left out, otherwise the
+    // query's `skip`. If the number of workers is a maximum, the search runs on the caller's thread, and passes no gate, in each of these
+    // cases: there is one worker; there are fewer than two shards; `is_small` is true. Errors: `NoMemory` if an allocation fails.
     pub(crate) fn page_hits<R: Threads + Sync, G: Gate + Sync>(
         &self,
         rt: &R,
@@ -81,8 +84,8 @@ impl<'a, 'b> PageSearch<'a, 'b> {
         Ok((hits, self.query.skip))
     }
 
-    // Finds what `page_hits` returns, on the caller's thread. If the range decides the selector, no document is looked up for a row that
-    // is skipped, and the returned number is 0.
+    // Finds what `page_hits` returns, on the caller's thread. If the range decides the whole selector, no document is looked up for a row
+    // that is skipped, and the returned number is 0. Errors: `NoMemory` if an allocation fails.
     fn find_alone(&self, alloc: Global) -> Result<(Vec<Hit<'a>>, u32), NoMemory>
         requires { IsPlanned self.now }
         ensures { IfOk result (λ made. AreOfPage (query_seen self.now.query.now) self.now.plan.now
@@ -96,7 +99,7 @@ impl<'a, 'b> PageSearch<'a, 'b> {
         Ok((hits, self.query.skip))
     }
 
-    // The hits that the page shows, without those that it skips. The range must decide the selector.
+    // Finds the hits that the page shows, without those that it skips. The range must decide the whole selector. Errors: `NoMemory`.
     fn pull_page(&self, alloc: Global) -> Result<Vec<Hit<'a>>, NoMemory>
         requires decided { self.now.plan.now.is_decided ≡ true }
         requires planned { IsPlanned self.now }
@@ -108,7 +111,8 @@ impl<'a, 'b> PageSearch<'a, 'b> {
         Ok(hits)
     }
 
-    // The first hits of all shards together, as many as the page skips and shows, pulled as the merge asks for them.
+    // Finds the first hits of all shards together, as many as the page skips and shows, pulled as the merge asks for them. Errors:
+    // `NoMemory`.
     fn pull_hits(&self, alloc: Global) -> Result<Vec<Hit<'a>>, NoMemory>
         requires { IsPlanned self.now }
         ensures { IfOk result (λ hits. AreFirst (query_seen self.now.query.now) self.now.plan.now
@@ -118,7 +122,8 @@ impl<'a, 'b> PageSearch<'a, 'b> {
         Ok(hits)
     }
 
-    // The first hits of all shards together, merged from those that each shard hands over, and how many rows each handed over.
+    // Finds the first hits of all shards together: workers search the shards, and the hits that each shard hands over are merged. Also
+    // returns how many rows each shard handed over, and how many of these were merged. Errors: `NoMemory` if an allocation fails.
     pub(crate) fn merge_first<R: Threads + Sync, G: Gate + Sync>(
         &self,
         rt: &R,
@@ -141,7 +146,7 @@ impl<'a, 'b> PageSearch<'a, 'b> {
         Ok((hits, work))
     }
 
-    // The first hits in each shard, at most as many as the page skips and shows.
+    // Finds the first hits in each shard, at most as many as the page skips and shows. Errors: `NoMemory` if an allocation fails.
     fn lists<R: Threads + Sync, G: Gate + Sync>(
         &self,
         rt: &R,
@@ -160,14 +165,14 @@ impl<'a, 'b> PageSearch<'a, 'b> {
         scan_lent(rt, alloc, self.shards, search, workers, gate)
     }
 
-    // Whether a second thread would cost more than it saves: the page is small, or the shards have little to read.
+    // Whether a second thread is expected to cost more than it saves: the page is small, or the shards have little to read.
     fn is_small(&self) -> bool
         requires { IsPlanned self.now }
     {
         self.is_small_page() || reads_at_most(self.shards, self.in_each_shard(), SMALL_SCAN)
     }
 
-    // Whether the page is small, judged without a look at the shards.
+    // Whether the page is small, judged by the query and its plan, without reading the shards.
     fn is_small_page(&self) -> bool {
         let has_bound = self.plan.range.entered_at(Direction::Asc).is_some()
             || self.plan.range.entered_at(Direction::Desc).is_some();

@@ -1,7 +1,6 @@
-ghost use Rattle.std.specs.Prelude.{◌≡◌, Err, Some, option_map, unwrap_or};
+ghost use Rattle.std.specs.Prelude.{◌≡◌, Err, Some, option_map, unwrap_or, ok_or};
 ghost use Rattle.mg_value.specs.View.{view};
 ghost use Rattle.mg_query.specs.Given.{given_seen, query_given};
-ghost use Rattle.mg_selector.specs.Fault.{or_fault};
 ghost use Rattle.mg_query.specs.Query.{early_fault, query_of};
 ghost use Rattle.mg_bookmark.specs.Reading.{bookmark_read};
 ghost use Rattle.mg_bookmark.specs.Seen.{bookmark_place};
@@ -27,7 +26,7 @@ pub struct Query<'a> {
     pub fields: Vec<Path>,
     /// How many documents a page has at most.
     pub limit: u32,
-    /// How many documents the page skips.
+    /// How many documents the page skips before the first one that it shows.
     pub skip: u32,
     /// The order that is asked for.
     pub sort: Sort,
@@ -39,27 +38,29 @@ pub struct Query<'a> {
     pub conflicts: bool,
     /// The selector as it was given.
     pub given_selector: &'a Json,
-    /// The fields as they were given.
+    /// The fields as they were given; `None` if they were absent.
     pub given_fields: Option<&'a Json>,
-    /// The bookmark's text as it was given; `nil` if none was given.
+    /// The bookmark's text as it was given; `nil` if it was null or absent.
     pub given_bookmark: &'a str,
 }
 
 impl<'a> Query<'a> {
     /// Reads the body of a `_find` or an `_explain`, an object:
     ///
-    /// - `selector`, an object, has to be there.
+    /// - `selector`, an object; required.
     /// - `limit` and `skip`, whole numbers from 0 to 2,147,483,647; 25 and 0 if they are absent.
-    /// - `sort`, an array whose items are paths, for ascending order, and `{path: "asc"}` or `{path: "desc"}`.
-    /// - `fields`, an array whose items are paths. Without one, documents are shown whole.
-    /// - `use_index`, a design document, or an array: `[]`, `[ddoc]` or `[ddoc, name]`; `ddoc` may lack `_design/`.
-    /// - `conflicts`, true or false; `bookmark`, null or a text. Other members are ignored.
+    /// - `sort`, an array whose items are each a path, for ascending order, or `{path: "asc"}` or `{path: "desc"}`; empty if it is absent.
+    /// - `fields`, an array whose items are paths. If it is absent or empty, documents are shown whole.
+    /// - `use_index`, a design document, or an array: `[]`, `[ddoc]` or `[ddoc, name]`; `ddoc` may lack `_design/`. It may be absent.
+    /// - `conflicts`, true or false; false if it is absent.
+    /// - `bookmark`, a text; `nil`, for the first page, if it is null or absent.
     ///
-    /// Errors, in this order: `Shape` for any other body, or a path of `sort` or `fields` with an empty step; the
-    /// selector's first fault; `BadBookmark` if the text is not a bookmark; `MixedSort` for a sort in both
-    /// directions. `NoMemory` if an allocation fails, and never in place of a wrong shape or of the selector's fault.
-    /// Cost: the size of the selector, the sort, the fields and the bookmark. Source: `_find` of CouchDB's API
-    /// reference.
+    /// Other members are ignored.
+    ///
+    /// Errors, in this order: `Shape` for any other body, or a path of `sort` or `fields` with an empty step; the selector's first fault,
+    /// `InvalidOperator` or `BadArg`; `BadBookmark` if the text is not a bookmark; `MixedSort` for a sort in both directions. `NoMemory` if
+    /// an allocation fails, and never in place of a wrong shape or of the selector's fault. Cost: the size of the selector, the sort, the
+    /// fields and the bookmark. Source: `_find` of CouchDB's API reference.
     pub fn read(alloc: Global, body: &'a Json) -> Result<Query<'a>, QueryError>
         ensures query { ReadsAs query_seen result (query_of (view body.now)) }
         ensures refused { (e : QueryError) → early_fault (view body.now) ≡ Some e → result ≡ Err e }
@@ -78,7 +79,8 @@ fn first_fault(body: &Json, met: QueryError) -> QueryError
     fault_of(body).unwrap_or(met)
 }
 
-// The query that a body asks.
+// Reads the query in a body. Errors: those of `Query::read`, but if an allocation fails, `NoMemory` may be returned although the body has a
+// fault.
 fn query_in(alloc: Global, body: &Json) -> Result<Query<'_>, QueryError>
     ensures { ReadsAs query_seen result (query_of (view body.now)) }
 {
@@ -88,7 +90,7 @@ fn query_in(alloc: Global, body: &Json) -> Result<Query<'_>, QueryError>
     }
 }
 
-// The query of these members, with the fields as they were given.
+// Makes the query of these members; `given_fields` are the fields as they were given. Errors: those of `query_in`.
 fn query_with<'a>(
     alloc: Global,
     members: Members<'a>,
@@ -118,10 +120,10 @@ fn query_with<'a>(
     })
 }
 
-// The place that a bookmark's text names; `None` for `nil`.
+// Reads the place that a bookmark's text names; `None` for `nil`. Errors: `BadBookmark` if the text is not a bookmark; `NoMemory`.
 fn read_bookmark(alloc: Global, text: &str) -> Result<Option<Bookmark>, QueryError>
     ensures { ReadsAs (option_map bookmark_place) result
-        (or_fault QueryError.BadBookmark (bookmark_read text.now)) }
+        (ok_or (bookmark_read text.now) QueryError.BadBookmark) }
 {
     match Bookmark::decode(alloc, text) {
         Ok(found) => Ok(found),

@@ -26,8 +26,8 @@ pub struct Page {
     pub bookmark: String,
 }
 
-// A document of this form and tree as a query shows it: with its conflicts if they are asked for, and only the parts at the fields if
-// fields are given.
+// Makes what a query shows of a document with this form and tree: with its conflicts if they are asked for, and only its parts at the
+// fields if any are given. Errors: `NoMemory` if an allocation fails.
 pub(crate) fn show(
     alloc: Global,
     query: &Query<'_>,
@@ -38,15 +38,15 @@ pub(crate) fn show(
         → view v ≡ shown_of (query_seen query.now) (record { id = id; form = form.entry; history = h })) }
 {
     if query.conflicts {
-        let whole = with_conflicts(alloc, form.copy(alloc)?, tree)?;
-        parts_in(alloc, &query.fields, whole)
+        let whole = with_conflicts(alloc, form.to_json(alloc)?, tree)?;
+        project_owned(alloc, &query.fields, whole)
     } else {
-        parts_of(alloc, &query.fields, form)
+        project_lent(alloc, &query.fields, form)
     }
 }
 
-// The parts of a document at the fields; the whole document if no fields are given.
-fn parts_in(alloc: Global, fields: &[Path], document: Json) -> Result<Json, NoMemory>
+// Returns the parts of a document at the fields; the whole document if no fields are given. Errors: `NoMemory` if an allocation fails.
+fn project_owned(alloc: Global, fields: &[Path], document: Json) -> Result<Json, NoMemory>
     ensures { IfOk result (λ v. view v ≡ projected fields.now (view document)) }
 {
     if fields.is_empty() {
@@ -56,18 +56,18 @@ fn parts_in(alloc: Global, fields: &[Path], document: Json) -> Result<Json, NoMe
     }
 }
 
-// A copy of the parts of a lent document at the fields; of the whole document if no fields are given.
-fn parts_of(alloc: Global, fields: &[Path], document: Part<'_>) -> Result<Json, NoMemory>
+// Copies the parts of a lent document at the fields; the whole document if no fields are given. Errors: `NoMemory` if an allocation fails.
+fn project_lent(alloc: Global, fields: &[Path], document: Part<'_>) -> Result<Json, NoMemory>
     ensures { IfOk result (λ v. view v ≡ projected fields.now document.entry) }
 {
     if fields.is_empty() {
-        document.copy(alloc)
+        document.to_json(alloc)
     } else {
         project(alloc, document, fields)
     }
 }
 
-// The bookmark of a row of this key and id, in an index that is read in this direction.
+// Makes the bookmark of a row of this key and id, in an index that is read in this direction. Errors: `NoMemory` if an allocation fails.
 pub(crate) fn bookmark_of(
     alloc: Global,
     source: Source<'_>,

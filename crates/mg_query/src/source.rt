@@ -39,8 +39,8 @@ pub(crate) enum Source<'a> {
     Defined(&'a IndexDef),
 }
 
-// The index that serves the query. Errors: `NoUsableIndex` if no index is usable, else `BadBookmark` if the query's bookmark does not
-// belong to the chosen index.
+// Chooses the index that serves the query. Takes no memory. Errors: `NoUsableIndex` if no index is usable; otherwise `BadBookmark` if the
+// query's bookmark does not belong to the chosen index.
 pub(crate) fn served_by<'a>(
     query: &Query<'_>,
     normal: &Normal,
@@ -112,7 +112,7 @@ fn is_same_ddoc(a: Option<&str>, b: Option<&str>) -> bool
 }
 
 impl<'a> Source<'a> {
-    // Its design document; `None` for the index of all documents.
+    // Returns the design document of the index; `None` for the index of all documents.
     pub(crate) fn ddoc(self) -> Option<&'a str>
         ensures { option_map (λ t. t.now) result ≡ ddoc_of (source_seen self.entry) }
     {
@@ -131,7 +131,7 @@ impl<'a> Source<'a> {
         }
     }
 
-    // How many columns it has.
+    // How many columns the index has.
     pub(crate) fn width(self) -> usize
         ensures { result ≡ length (source_columns (source_seen self.entry)) }
     {
@@ -141,7 +141,7 @@ impl<'a> Source<'a> {
         }
     }
 
-    // What a scan of this index reads in each shard that has the index.
+    // Returns the target of a search in this index, for each shard that has the index.
     pub(crate) fn target(self) -> Target<'a>
         ensures { (ds : List IndexDefinition) → IsInCatalog ds (source_seen self.entry)
             → target_columns result ds ≡ Some (source_columns (source_seen self.entry)) }
@@ -155,7 +155,7 @@ impl<'a> Source<'a> {
         }
     }
 
-    // The range of keys that a query has to read in this index.
+    // Makes the range of keys that a query with this selector has to read in this index. Errors: `NoMemory` if an allocation fails.
     pub(crate) fn range(self, alloc: Global, normal: &Normal) -> Result<KeyRange, NoMemory>
         ensures { IfOk result
             (λ r. r ≡ range_of normal.now.atoms (source_columns (source_seen self.entry))) }
@@ -166,8 +166,8 @@ impl<'a> Source<'a> {
         }
     }
 
-    // Whether the range of its keys decides the whole selector, so that no document has to be tested. False for the index of all
-    // documents, whose rows are the documents themselves.
+    // Whether the range of keys in this index decides the whole selector, so that no document has to be tested. Always false for the index
+    // of all documents: its rows are the documents themselves.
     pub(crate) fn is_decided(self, normal: &Normal) -> bool
         ensures { result ≡ true → IsDecidedBy (source_columns (source_seen self.entry)) normal.now }
     {
@@ -179,7 +179,7 @@ impl<'a> Source<'a> {
         }
     }
 
-    // The index as it is listed.
+    // Renders the index as it is listed. Errors: `NoMemory` if an allocation fails.
     pub(crate) fn listed(self, alloc: Global) -> Result<Json, NoMemory>
         ensures { IfOk result (λ v. view v ≡ listed_source (source_seen self.entry)) }
     {
@@ -190,7 +190,7 @@ impl<'a> Source<'a> {
     }
 }
 
-// The range of ids.
+// Makes the range of keys in the index of all documents. Errors: `NoMemory` if an allocation fails.
 fn id_range(alloc: Global, normal: &Normal) -> Result<KeyRange, NoMemory>
     ensures { IfOk result (λ r. r ≡ range_of normal.now.atoms (source_columns all_docs)) }
 {

@@ -1,4 +1,5 @@
-//! Writes the text of a page, part by part. Each `with_` function takes a buffer and returns it with its part appended.
+//! Writes the text of a page, part by part. Each `with_` function takes a buffer and returns it with its part appended. Errors: `NoMemory`
+//! if an allocation fails; then the buffer is dropped.
 ghost use Rattle.std.specs.Prelude.{◌≡◌, ◌++◌, List, [], ◌∷◌, IfOk, map, nat_lt, if◌then◌else◌};
 ghost use Rattle.json.specs.Print.{quoted};
 ghost use Rattle.mg_value.specs.Text.{compact};
@@ -17,10 +18,10 @@ use mg_scan::Hit;
 use mg_value::{NoMemory, write};
 use std::alloc::Global;
 
-// The bytes that are asked for at first: the text of most pages fits.
+// How many bytes are allocated at first: the text of most pages fits.
 const FIRST_ROOM: usize = 8192;
 
-// The text of the page that shows these documents and has this bookmark.
+// Writes the text of the page that shows the documents of these hits and has this bookmark.
 pub(crate) fn text_with(
     alloc: Global,
     query: &Query<'_>,
@@ -35,14 +36,14 @@ pub(crate) fn text_with(
 {
     let mut out = Vec::with_capacity(alloc, FIRST_ROOM)?;
     out.extend_from_slice(b"{\"bookmark\":")?;
-    let mut out = with_text(out, bookmark)?;
+    let mut out = with_string(out, bookmark)?;
     out.extend_from_slice(b",\"docs\":")?;
     let mut out = with_documents(alloc, query, out, hits)?;
     out.push(b'}')?;
     Ok(out)
 }
 
-fn with_text(out: Vec<u8>, text: &str) -> Result<Vec<u8>, NoMemory>
+fn with_string(out: Vec<u8>, text: &str) -> Result<Vec<u8>, NoMemory>
     ensures { IfOk result (λ b. b.items ≡ out.items ++ quoted text.now) }
 {
     let mut writer = Writer::new(out);
@@ -50,7 +51,7 @@ fn with_text(out: Vec<u8>, text: &str) -> Result<Vec<u8>, NoMemory>
     Ok(writer.into_inner())
 }
 
-// What the page shows of the documents, as an array.
+// Appends what the page shows of the documents, as an array.
 fn with_documents(
     alloc: Global,
     query: &Query<'_>,
@@ -69,7 +70,7 @@ fn with_documents(
     Ok(out)
 }
 
-// The comma before an item at this position, which counts from 0; nothing before the first item.
+// Appends the comma before the item at this position, counted from 0; nothing before the first item.
 fn with_comma(mut out: Vec<u8>, place: usize) -> Result<Vec<u8>, NoMemory>
     ensures { IfOk result (λ b. b.items ≡ out.items ++ (if nat_lt 0 place then 44 ∷ [] else [])) }
 {
@@ -79,7 +80,7 @@ fn with_comma(mut out: Vec<u8>, place: usize) -> Result<Vec<u8>, NoMemory>
     Ok(out)
 }
 
-// What the page shows of one document.
+// Appends what the page shows of one document.
 fn with_document(
     alloc: Global,
     query: &Query<'_>,
@@ -96,15 +97,15 @@ fn with_document(
     }
 }
 
-// The text that the shard keeps of a document, as it is served.
+// Appends the text that the shard keeps of a document, as it is served.
 fn with_kept(mut out: Vec<u8>, hit: &Hit<'_>) -> Result<Vec<u8>, NoMemory>
     ensures { IfOk result (λ b. b.items ≡ out.items ++ hit_text hit.now) }
 {
-    out.extend_from_slice(hit.text())?;
+    out.extend_from_slice(hit.compact_text())?;
     Ok(out)
 }
 
-// The text of what the page shows of a document, made from its value: for parts of it, or for its conflicts.
+// Appends the text of what the page shows of a document, made from its value: the query asks for parts of it, or for its conflicts.
 fn with_shown(
     alloc: Global,
     query: &Query<'_>,

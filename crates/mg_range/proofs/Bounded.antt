@@ -40,12 +40,12 @@ not_gt Less = refl
 not_gt Equal = refl
 not_gt Greater = refl
 
--- what is asked of a value holds exactly where it meets the bound, if there is one
-abbrev Tells : Value → Bool → Option Bound → Type 0
-Tells w holds None = Unit {0}
-Tells w holds (Some b) = holds ≡ meets w b
+-- `holds` is whether w meets the bound, if there is one
+abbrev AgreesWithBound : Value → Bool → Option Bound → Type 0
+AgreesWithBound w holds None = Unit {0}
+AgreesWithBound w holds (Some b) = holds ≡ meets w b
 
-bound_tells : (sense : Sense) (o : Operator) (w : Value) → Tells w (operator_holds o sense (Some w)) (bound_in sense o)
+bound_tells : (sense : Sense) (o : Operator) (w : Value) → AgreesWithBound w (operator_holds o sense (Some w)) (bound_in sense o)
 bound_tells Plain (less x) w = refl
 bound_tells Plain (at_most x) w = refl
 bound_tells Plain (equal x) w = refl
@@ -78,18 +78,18 @@ bound_tells Negated (some_element x) w = tt
 bound_tells Negated (each_element x) w = tt
 
 atom_tells : (v : Value) (c : Steps) (w : Value) (a : Atom) → part_of c v ≡ Some w → (b : Bool) → path_eq a.steps c ≡ b
-    → Tells w (atom_holds (Some v) a) (cond b (bound_in a.sense a.operator) None)
+    → AgreesWithBound w (atom_holds (Some v) a) (cond b (bound_in a.sense a.operator) None)
 atom_tells v c w a e true f =
-    subst (λ o. Tells w (operator_holds a.operator a.sense o) (bound_in a.sense a.operator))
+    subst (λ o. AgreesWithBound w (operator_holds a.operator a.sense o) (bound_in a.sense a.operator))
     (sym e ∙ ap (λ s. part_of s v) (sym ((path_eq-Decides a.steps c).0 f))) (bound_tells a.sense a.operator w)
 atom_tells v c w a e false f = tt
 
-one_more : (w : Value) (o : Option Bound) (holds rest : Bool) (bounds : List Bound) → Tells w holds o → rest ≡ meets_all w bounds
+one_more : (w : Value) (o : Option Bound) (holds rest : Bool) (bounds : List Bound) → AgreesWithBound w holds o → rest ≡ meets_all w bounds
     → ((not (is_some o) || holds) && rest) ≡ meets_all w (cons_option o bounds)
 one_more w None holds rest bounds t e = e
 one_more w (Some b) holds rest bounds t e = ap (λ h. h && rest) t ∙ ap (λ r. meets w b && r) e
 
--- the atoms that bound a column hold exactly where its value meets all of their bounds
+-- the atoms that bound a column hold exactly if its value meets all of their bounds
 pub bounds_hold : (v : Value) (c : Steps) (w : Value) → part_of c v ≡ Some w → (atoms : List Atom)
     → list_all (λ a. not (is_some (bound_on c a)) || atom_holds (Some v) a) atoms ≡ meets_all w (bounds_on atoms c)
 bounds_hold v c w e [] = refl

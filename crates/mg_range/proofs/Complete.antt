@@ -23,7 +23,7 @@ Hold v atoms = All (λ a. atom_holds (Some v) a ≡ true) atoms
 
 -- ---- the column is there
 
--- some part
+-- the part is there
 abbrev Part : Option Value → Type 0
 Part o = (w : Value) × (o ≡ Some w)
 

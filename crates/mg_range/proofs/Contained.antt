@@ -1,4 +1,4 @@
--- The range by its tightest bounds has the keys that meet every bound.
+-- The range that is made of the tightest bounds has exactly the keys that meet every bound.
 use Rattle.std.proofs.Common.{◌≡◌, Bool, true, false, cond, not, ◌&&◌, List, [], ◌∷◌, length, Option, Some, None, is_some, Ordering, Less, Equal, Greater, refl, sym, ap, ap₂, ◌∙◌, arith}
 use Rattle.std.proofs.lemmas.Bool.{false≢true, and_parts}
 use Rattle.std.specs.List.{list_all, find}
@@ -40,7 +40,7 @@ within_both None (Some u) v vs = placed true (is_within Desc u v)
 within_both (Some l) None v vs = placed (is_within Asc l v) true
 within_both (Some l) (Some u) v vs = placed (is_within Asc l v) (is_within Desc u v)
 
--- no value is within two limits of equal value of which one is exclusive
+-- no value is within two limits with equal values if one of the limits is exclusive
 none_at : (i j : Bool) (x : Ordering) → not (i && j) ≡ true → (admits i x && admits j (ordering_reverse x)) ≡ false
 none_at true true x h = absurd (false≢true h)
 none_at true false Less h = refl
@@ -51,7 +51,7 @@ none_at false j Equal h = refl
 none_at false true Greater h = refl
 none_at false false Greater h = refl
 
--- no value is within two limits of which the lower is above the upper
+-- no value is within two limits if the lower one is above the upper one
 none_above : (i j : Bool) (x y : Ordering) → ((x ≡ Less → ⊥) → y ≡ Greater) → (admits i x && admits j (ordering_reverse y)) ≡ false
 none_above true j Less y h = refl
 none_above false j Less y h = refl
@@ -105,7 +105,7 @@ found_at p x xs y more true f g =
     (ap p (sym same) ∙ f, λ q h. ap q (sym same) ∙ (and_parts (q x) (list_all q xs) h).0)
 found_at p x xs y more false f g = ((more g).0, λ q h. (more g).1 q (and_parts (q x) (list_all q xs) h).1)
 
--- an element that a search finds passes its test
+-- an element that a search finds passes the test of the search, and each test that all elements pass
 found : {X : Type 0} (p : X → Bool) (xs : List X) (y : X) → find p xs ≡ Some y → Found p xs y
 found p [] y e = absurd cc
 found p (x ∷ xs) y e = found_at p x xs y (found p xs y) (p x) refl e
@@ -122,7 +122,7 @@ is_eq-true Less h = absurd (false≢true h)
 is_eq-true Equal h = refl
 is_eq-true Greater h = absurd (false≢true h)
 
--- a value that meets all bounds is the one that they fix
+-- a value that meets all bounds equals the one that they fix
 fixes : (bounds : List Bound) (b : Bound) (v : Value) → find is_exact bounds ≡ Some b → meets_all v bounds ≡ true → is_eq (value_order v b.value) ≡ true
 fixes bounds b v e h =
     let there = found is_exact bounds b e in

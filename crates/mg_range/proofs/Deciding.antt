@@ -36,7 +36,7 @@ left_at : {X : Type 0} (h : X → Bool) (x : X) (rest : List X) (all : Bool) →
 left_at h x rest all e true = e
 left_at h x rest all e false = ap (λ t. h x && t) e
 
--- those that are left hold
+-- those left by the filter all have h exactly if each element has d or h
 left_hold : {X : Type 0} (d h : X → Bool) (xs : List X) → list_all h (filter (λ x. not (d x)) xs) ≡ list_all (λ x. d x || h x) xs
 left_hold d h [] = refl
 left_hold d h (x ∷ xs) = left_at h x (filter (λ y. not (d y)) xs) (list_all (λ y. d y || h y) xs) (left_hold d h xs) (d x)
@@ -57,7 +57,7 @@ both_cases false h = refl
 
 -- ---- the key
 
--- a key of one column and more
+-- the parts of a key that has at least one value
 record Parts (o : Option Value) (os : Option (List Value)) (key : List Value) : Type 0 where
   first : Value
   more : List Value
@@ -88,7 +88,7 @@ where_fixed : {X : Type 0} (f : Bool) (p : X → Bool) (xs : List X) (r : Bool) 
 where_fixed true p xs r e = e
 where_fixed false p xs r e = all_true xs
 
--- the atoms that are decided hold exactly where the key is in the range
+-- the decided atoms hold exactly if the key is in the range
 decided_hold : (atoms : List Atom) (columns : List Steps) (v : Value) (key : List Value) → HasKey columns v key
     → list_all (λ a. not (is_decided atoms columns a) || atom_holds (Some v) a) atoms ≡ in_range atoms columns key
 decided_hold atoms [] v key e = all_true atoms

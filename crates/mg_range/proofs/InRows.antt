@@ -11,11 +11,11 @@ use Rattle.mg_range.specs.declared.row_range.SpanEnds.{SpanEnds}
 use Rattle.mg_rows.specs.RowBound.{bound_order}
 use Rattle.mg_value.specs.Value.{item_list}
 
--- the row is before the low of these ends
+-- the row is before the low end
 abbrev is_below : BothEnds → RowValue → Bool
 is_below ends row = is_gt (bound_order ends.0.0 ends.0.1 row)
 
--- the row is after the high one
+-- the row is after the high end
 abbrev is_above : BothEnds → RowValue → Bool
 is_above ends row = is_lt (bound_order ends.1.0 ends.1.1 row)
 
@@ -33,7 +33,7 @@ before_at true p = refl
 before_at false true = refl
 before_at false false = refl
 
--- whether a row is below the range
+-- a row is before the range exactly if it is before the low end
 pub placed_before : (range : Range) (ends : SpanEnds) (row : RowValue) → HasEnds range (Some ends) → is_side_before (side_of range (item_list row.0)) ≡ is_below (ends_at ends) row
 placed_before None ends row h = absurd (let e = h.1 in cc)
 placed_before (Some s) ends row h =
@@ -45,7 +45,7 @@ past_at true false f = refl
 past_at false true f = refl
 past_at false false f = refl
 
--- whether a row is above the range; then it is not below it
+-- a row is past the range exactly if it is after the high end
 pub placed_past : (range : Range) (ends : SpanEnds) (row : RowValue) → HasEnds range (Some ends) → is_side_past (side_of range (item_list row.0)) ≡ is_above (ends_at ends) row
 placed_past None ends row h = absurd (let e = h.1 in cc)
 placed_past (Some s) ends row h =

@@ -20,7 +20,7 @@ none_bounds c (a ∷ atoms) h =
 
 -- ---- the bounded columns, one after another
 
--- a column that no atom bounds is not bounded by this one
+-- the atom a does not bound a column that none of the atoms bounds
 abbrev BoundsBoundedOnly : List Atom → Atom → Type 0
 BoundsBoundedOnly atoms a = (c : Steps) → is_bounded atoms c ≡ false → is_some (bound_on c a) ≡ false
 

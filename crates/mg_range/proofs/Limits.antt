@@ -1,4 +1,4 @@
--- Limits on values: a value is within the tightest of them exactly where it is within each, and so meets each bound.
+-- Limits on values: a value is within the tightest limits of bounds exactly if it meets each bound.
 use Rattle.std.proofs.Common.{◌≡◌, Bool, true, false, cond, ◌&&◌, List, [], ◌∷◌, Option, Some, None, Ordering, Less, Equal, Greater, refl, sym, ap, ap₂, ◌∙◌}
 use Rattle.std.proofs.lemmas.Cmp.{back_total, on_total}
 use Rattle.std.specs.Cmp.{IsTotalOrder, bool_cmp_total, then_total}
@@ -161,7 +161,7 @@ tightness_total direction =
 same_limit : (a b : Limit) → a.value ≡ b.value → a.inclusive ≡ b.inclusive → a ≡ b
 same_limit a b e f = ap₂ limit_at e f
 
--- of two limits with one value
+-- of two limits with the same value, the lesser is the second one if the first is inclusive
 lesser_tie : (a b : Limit) → a.value ≡ b.value → (i j : Bool) → a.inclusive ≡ i → b.inclusive ≡ j → cond (is_gt (bool_cmp i j)) b a ≡ cond i b a
 lesser_tie a b e true true f g = same_limit a b e (f ∙ sym g)
 lesser_tie a b e true false f g = refl
@@ -230,6 +230,6 @@ both_sides v (b ∷ bounds) =
     ap₂ ◌&&◌ (by_comparison b.comparison v b.value) (both_sides v bounds)
     ∙ and_swap_inner (limit_admits Asc v b) (limit_admits Desc v b) (list_all (limit_admits Asc v) bounds) (list_all (limit_admits Desc v) bounds)
 
--- a value meets bounds exactly where it is within their tightest limits
+-- a value meets all bounds exactly if it is within their tightest limits
 pub meets_tightest : (v : Value) (bounds : List Bound) → meets_all v bounds ≡ (is_within_some Asc (tightest Asc bounds) v && is_within_some Desc (tightest Desc bounds) v)
 meets_tightest v bounds = both_sides v bounds ∙ ap₂ ◌&&◌ (sym (within_tightest Asc v bounds)) (sym (within_tightest Desc v bounds))

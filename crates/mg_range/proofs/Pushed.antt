@@ -22,7 +22,7 @@ first_left (v ∷ values) (suc i) x less is =
     let n : suc (i + 1) ≡ suc i + 1 = omega arith in
     first_left values i x (omega (arith, less)) is ∙ ap (λ m. item (view x) (items_view (drop m (v ∷ values)))) n
 
--- one more of the values
+-- after one more value is pushed
 pub pushed : (all key next : Items) (values : List Json) (i : ℕ) (x : Json) → i < length values → x ≡ get_or values i x → next ≡ joined_items key (item (view x) no_items)
     → joined_items key (items_view (drop i values)) ≡ all → joined_items next (items_view (drop (i + 1) values)) ≡ all
 pushed all key next values i x less is e sum =
@@ -35,7 +35,7 @@ none_left [] (suc i) e = refl
 none_left (v ∷ values) zero e = absurd (omega (arith, e))
 none_left (v ∷ values) (suc i) e = none_left values i (omega (arith, e))
 
--- all of the values
+-- after all values are pushed
 pub all_pushed : (all key : Items) (values : List Json) (i : ℕ) → i ≡ length values → joined_items key (items_view (drop i values)) ≡ all → key ≡ all
 all_pushed all key values i e sum = sym (joined_none key) ∙ ap (joined_items key) (sym (none_left values i e)) ∙ sum
 

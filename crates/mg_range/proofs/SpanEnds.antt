@@ -52,7 +52,7 @@ limit_high false Less = refl
 limit_high false Equal = refl
 limit_high false Greater = refl
 
--- one value against the first of a row
+-- lists of one value are in the order of their values
 alone : (v w : Value) → items_order (item v no_items) (item w no_items) ≡ value_order v w
 alone v w = items_order-item v w no_items no_items ∙ then_equal (value_order v w)
 

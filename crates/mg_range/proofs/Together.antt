@@ -28,11 +28,11 @@ gt_is Less h = absurd (h refl)
 gt_is Equal h = absurd (h refl)
 gt_is Greater h = refl
 
--- what is not below something above x is above x
+-- if v is above x, and not above w, then w is above x
 above_too : {R : Value → Value → Ordering} (o : IsTotalOrder R) (v w x : Value) → is_gt (R v w) ≡ false → R v x ≡ Greater → R w x ≡ Greater
 above_too {R} o v w x h g = gt_is (R w x) (λ k. false≢true (sym (upto o v w x h k) ∙ ap is_gt g))
 
--- ---- a value that is not below another is within as many limits
+-- ---- if a value is within a lower limit, so is each value that is not below it
 
 admits_reversed : (i : Bool) (o : Ordering) → is_gt o ≡ false → admits i Equal ≡ true → admits i (ordering_reverse o) ≡ true
 admits_reversed true Less h k = refl
@@ -99,7 +99,7 @@ below_too v w e f q =
 
 -- ---- the low end
 
--- the first value has order o to a fixed value, the second order p
+-- one step along the fixed values: the first key's value has order o to the fixed one, the second key's has order p
 falls : (o p : Ordering) (a b : Bool) → (o ≡ Greater → p ≡ Greater) → (p ≡ Less → o ≡ Less) → (o ≡ Equal → p ≡ Equal → b ≡ true → a ≡ true)
     → match_ordering p true b false ≡ true → match_ordering o true a false ≡ true
 falls Less p a b f g h k = refl
@@ -142,7 +142,7 @@ past_rises (e ∷ es) upper (v ∷ vs) (w ∷ ws) h k =
     climbs (value_order v e) (value_order w e) (is_past es upper vs) (is_past es upper ws) (above_too value_order_total v w e f) (below_too v w e f)
     (λ p q. past_rises es upper vs ws (behind v w e vs ws h p q)) k
 
--- ---- places
+-- ---- the sides of two keys in order
 
 ranks : (a p b q : Bool) → (b ≡ true → a ≡ true) → (p ≡ true → q ≡ true) → side_rank (cond a Before (cond p Past Within)) ≤ side_rank (cond b Before (cond q Past Within))
 ranks true p b q f g = omega arith

@@ -18,6 +18,6 @@ ends_of s = (low_end s, high_end s)
 abbrev pub ends_at : SpanEnds → BothEnds
 ends_at ends = (ends.low, ends.high)
 
--- these are the ends of the range, whose limits do not cross
+-- these are the ends of the range, whose limits do not cross; an empty range has no ends
 abbrev pub HasEnds : Range → Option SpanEnds → Type 0
 HasEnds range ends = IsUncrossed range × (option_map ends_at ends ≡ option_map ends_of range)

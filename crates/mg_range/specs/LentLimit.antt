@@ -10,11 +10,11 @@ use Rattle.mg_range.specs.declared.lent_limit.LentLimit.{LentLimit}
 abbrev pub lent_limit_seen : LentLimit → Limit
 lent_limit_seen e = limit_at (view e.value.now) e.inclusive
 
--- the tighter of two limits: the one whose value is within the other; of equal values the exclusive one
+-- the tighter of two limits from below (`Asc`) or from above (`Desc`); of two limits with equal values, an exclusive one is the tighter
 abbrev pub tighter : Direction → Limit → Limit → Limit
 tighter direction a b = match_ordering (order_from direction a.value b.value) b (if a.inclusive then b else a) a
 
--- the tighter of the tightest limit so far, if there is one, and another
+-- the tighter of the tightest limit so far and another; the other if there is no limit so far
 abbrev pub tightened : Direction → Option Limit → Limit → Option Limit
 tightened direction None b = Some b
 tightened direction (Some a) b = Some (tighter direction a b)

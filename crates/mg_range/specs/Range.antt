@@ -1,5 +1,5 @@
--- Key ranges: which keys of an index a query has to look at, by the bounds that its atoms give. `range` of CouchDB's `_explain`
--- shows them. The rule is this project's own.
+-- Key ranges: which keys of an index a query has to look at, by the bounds that the query's atoms give. `range` of CouchDB's
+-- `_explain` shows them. The rule is this project's own.
 use Rattle.std.specs.Prelude.{List, [], ◌∷◌, Bool, true, false, not, ◌&&◌, Option, Some, None, option_map, refl, if◌then◌else◌}
 use Rattle.std.specs.Coded.{Coded, code_by, coded×, coded_bool, coded_list, coded_option}
 use Rattle.std.specs.List.{filter_map, find}
@@ -33,7 +33,7 @@ pub record Limit : Type 0 where
   pub value : Value
   pub inclusive : Bool
 
--- the limit at this value
+-- the limit at this value, inclusive or exclusive
 abbrev pub limit_at : Value → Bool → Limit
 limit_at value inclusive = record { value = value; inclusive = inclusive }
 
@@ -47,15 +47,15 @@ pub record Span : Type 0 where
 abbrev pub span_of : List Value → Option Limit → Option Limit → Span
 span_of equal lower upper = record { equal = equal; lower = lower; upper = upper }
 
--- a range, which may be empty
+-- a range: a span, or `None` if the range is empty
 abbrev pub Range : Type 0
 Range = Option Span
 
--- the order of values from below (`Asc`), and from above (`Desc`)
+-- the order of values from below (`Asc`) or from above (`Desc`)
 abbrev pub order_from : Direction → Value → Value → Ordering
 order_from direction a b = directed direction (value_order a b)
 
--- whether a comparison allows the value itself; `None` if it gives no limit from below (`Asc`) or from above (`Desc`)
+-- whether a comparison allows the value itself; `None` if the comparison gives no limit from below (`Asc`) or from above (`Desc`)
 abbrev pub inclusive_from : Direction → Comparison → Option Bool
 inclusive_from Asc Below = None
 inclusive_from Asc AtMost = None
@@ -68,19 +68,19 @@ inclusive_from Desc Exactly = Some true
 inclusive_from Desc AtLeast = None
 inclusive_from Desc Above = None
 
--- the limit that a comparison with a value gives from below, or from above
+-- the limit that a comparison with a value gives from below or from above, if it gives one
 abbrev pub limit_by : Direction → Comparison → Value → Option Limit
 limit_by direction comparison v = option_map (limit_at v) (inclusive_from direction comparison)
 
--- the limit that a bound gives
+-- the limit that a bound gives from below or from above, if it gives one
 abbrev pub limit_of : Direction → Bound → Option Limit
 limit_of direction b = limit_by direction b.comparison b.value
 
--- the order of limits from below, or from above, the tighter first: by the values, then the exclusive one first
+-- the order of limits from below or from above, the tighter first: by their values; if these are equal, the exclusive limit first
 abbrev pub tightness : Direction → Limit → Limit → Ordering
 tightness direction = then_cmp (flip_args (on (λ l. l.value) (order_from direction))) (on (λ l. l.inclusive) bool_cmp)
 
--- the tightest limit that bounds give, if they give any
+-- the tightest limit that bounds give from below or from above, if they give one
 abbrev pub tightest : Direction → List Bound → Option Limit
 tightest direction bounds = least (tightness direction) (filter_map (limit_of direction) bounds)
 
@@ -88,26 +88,27 @@ tightest direction bounds = least (tightness direction) (filter_map (limit_of di
 abbrev pub are_crossed : Limit → Limit → Bool
 are_crossed lower upper = match_ordering (value_order lower.value upper.value) false (not (lower.inclusive && upper.inclusive)) true
 
--- whether both are there and crossed
+-- whether both limits are there and crossed
 abbrev pub is_crossed : Option Limit → Option Limit → Bool
 is_crossed (Some lower) (Some upper) = are_crossed lower upper
 is_crossed lower upper = false
 
--- the range between two limits
+-- the range between two limits, each of which may be absent; it is empty if they are crossed
 abbrev pub between : Option Limit → Option Limit → Range
 between lower upper = if is_crossed lower upper then None else Some (span_of [] lower upper)
 
--- the range with one more value in front
+-- the range with one more fixed value, in front of its own; an empty range stays empty
 abbrev pub with_equal : Value → Range → Range
 with_equal v rest = option_map (λ s. span_of (v ∷ s.equal) s.lower s.upper) rest
 
--- the range of columns whose first one has these bounds: if they fix its value, that value in front of the range of the others, or
--- the empty range if it breaks another bound; else what is between the tightest limits
+-- the range of columns, given the bounds on the first column, the exact one among them, and the range of the other columns: the exact
+-- bound's value in front of the other columns' range, or the empty range if the value breaks another bound; without an exact bound, the
+-- range between the tightest limits
 abbrev pub range_from : List Bound → Option Bound → Range → Range
 range_from bounds (Some fixed) rest = if meets_all fixed.value bounds then with_equal fixed.value rest else None
 range_from bounds None rest = between (tightest Asc bounds) (tightest Desc bounds)
 
--- the range of columns
+-- the range that the atoms give an index of these columns
 abbrev pub range_of : List Atom → List Steps → Range
 range_of atoms [] = Some (span_of [] None None)
 range_of atoms (c ∷ cs) = range_from (bounds_on atoms c) (find is_exact (bounds_on atoms c)) (range_of atoms cs)
@@ -118,12 +119,12 @@ range_of atoms (c ∷ cs) = range_from (bounds_on atoms c) (find is_exact (bound
 abbrev pub limit_code : Coded Limit
 limit_code = code_by (Value × Bool) (coded× value_code coded_bool) (λ l. (l.value, l.inclusive)) (λ p. limit_at p.0 p.1) (λ _. refl)
 
--- how it stores a span
+-- how the logic stores a span
 abbrev pub span_code : Coded Span
 span_code =
     code_by (List Value × (Option Limit × Option Limit)) (coded× (coded_list value_code) (coded× (coded_option limit_code) (coded_option limit_code)))
     (λ s. (s.equal, (s.lower, s.upper))) (λ p. span_of p.0 p.1.0 p.1.1) (λ _. refl)
 
--- how it stores a range
+-- how the logic stores a range
 abbrev pub range_code : Coded Range
 range_code = coded_option span_code

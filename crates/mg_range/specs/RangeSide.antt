@@ -1,4 +1,4 @@
--- Whether a key is before, within or past a range, in the order of keys: on which side of the range it is.
+-- Whether a key is before, within or past a range, in the order of keys. The rule is this project's own.
 use Rattle.std.specs.Prelude.{ℕ, List, [], ◌∷◌, Bool, true, false, not, Option, Some, None, if◌then◌else◌}
 use Rattle.std.specs.Ordering.{is_ge, is_gt, match_ordering}
 use Rattle.std.specs.declared.cmp.Ordering.{Ordering}
@@ -10,17 +10,18 @@ use Rattle.mg_range.specs.Range.{Limit, Range, order_from}
 use Rattle.mg_range.specs.declared.side.RangeSide.{RangeSide}
 use Rattle.mg_range.specs.declared.side.RangeSide.TheVariants.{Before, Within, Past}
 
--- a value with this order to a limit, which is inclusive or not, is within the limit
+-- whether a value is within a limit, given whether the limit is inclusive, and the order of the value to the limit's value, which is
+-- reversed for an upper limit
 abbrev pub admits : Bool → Ordering → Bool
 admits true order = is_ge order
 admits false order = is_gt order
 
--- the value is within the limit
+-- whether the value is within the limit, a lower one (`Asc`) or an upper one (`Desc`)
 abbrev pub is_within : Direction → Limit → Value → Bool
 is_within direction l v = admits l.inclusive (order_from direction v l.value)
 
--- the key is below the low end of a range: its first value that differs from a fixed one decides, else the lower limit; a key that
--- ends before that is below
+-- whether a key is before the span of these fixed values and this lower limit: the first value that differs from its fixed value
+-- decides; if none differs, the limit decides. A key that has no value for a fixed one or for the limit is before
 abbrev pub is_before : List Value → Option Limit → List Value → Bool
 is_before (e ∷ es) lower (v ∷ vs) = match_ordering (value_order v e) true (is_before es lower vs) false
 is_before (e ∷ es) lower [] = true
@@ -28,7 +29,8 @@ is_before [] (Some l) (v ∷ vs) = not (is_within Asc l v)
 is_before [] (Some l) [] = true
 is_before [] None key = false
 
--- the key is above the high end of a range: likewise, with the upper limit; a key that ends before that is not above
+-- whether a key is past the span of these fixed values and this upper limit: the first value that differs from its fixed value
+-- decides; if none differs, the limit decides. A key that has no value for a fixed one or for the limit is not past
 abbrev pub is_past : List Value → Option Limit → List Value → Bool
 is_past (e ∷ es) upper (v ∷ vs) = match_ordering (value_order v e) false (is_past es upper vs) true
 is_past (e ∷ es) upper [] = false
@@ -45,36 +47,36 @@ abbrev pub side_of : Range → List Value → RangeSide
 side_of None key = Past
 side_of (Some s) key = side_from s.equal s.lower s.upper key
 
--- the side is within
+-- whether the side is `Within`
 abbrev pub is_side_within : RangeSide → Bool
 is_side_within Within = true
 is_side_within side = false
 
--- the range has the key
+-- whether the range has the key
 abbrev pub has_key : Range → List Value → Bool
 has_key range key = is_side_within (side_of range key)
 
--- the side is before
+-- whether the side is `Before`
 abbrev pub is_side_before : RangeSide → Bool
 is_side_before Before = true
 is_side_before side = false
 
--- the side is past
+-- whether the side is `Past`
 abbrev pub is_side_past : RangeSide → Bool
 is_side_past Past = true
 is_side_past side = false
 
--- a key on this side comes before the range in a direction
+-- whether a key on this side comes before the range in a direction
 abbrev pub is_early : Direction → RangeSide → Bool
 is_early Asc side = is_side_before side
 is_early Desc side = is_side_past side
 
--- a key on this side comes after the range in a direction
+-- whether a key on this side comes after the range in a direction
 abbrev pub is_late : Direction → RangeSide → Bool
 is_late Asc side = is_side_past side
 is_late Desc side = is_side_before side
 
--- the sides in their order
+-- the rank of a side, in the order of keys
 abbrev pub side_rank : RangeSide → ℕ
 side_rank Before = 0
 side_rank Within = 1

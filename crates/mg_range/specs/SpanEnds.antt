@@ -1,22 +1,22 @@
--- The two ends of a range among rows, each a place before or after all rows whose key begins with some values.
+-- The two ends of a span among rows, each before or after all rows whose key begins with some values. The rule is this project's own.
 use Rattle.std.specs.Prelude.{◌≡◌, List, [], ◌∷◌, false, Option, Some, None, if◌then◌else◌}
 use Rattle.mg_value.specs.Value.{Value, Items, no_items, item}
 use Rattle.mg_range.specs.Range.{Limit, Range, Span, is_crossed}
 use Rattle.mg_rows.specs.declared.edge.Edge.{Edge}
 use Rattle.mg_rows.specs.declared.edge.Edge.TheVariants.{Before, After}
 
--- the values of an end: the fixed ones, and then that of the limit, if there is one
+-- the values of an end: the fixed values, and then the limit's value, if there is a limit
 abbrev pub end_values : List Value → Option Limit → Items
 end_values [] None = no_items
 end_values [] (Some l) = item l.value no_items
 end_values (e ∷ es) limit = item e (end_values es limit)
 
--- the low end is before the rows that have its values, unless it excludes them
+-- the edge of the low end: before the rows with its values, or after them if the limit excludes its value
 abbrev pub low_edge : Option Limit → Edge
 low_edge None = Before
 low_edge (Some l) = if l.inclusive then Before else After
 
--- the high end is after the rows that have its values, unless it excludes them
+-- the edge of the high end: after the rows with its values, or before them if the limit excludes its value
 abbrev pub high_edge : Option Limit → Edge
 high_edge None = After
 high_edge (Some u) = if u.inclusive then After else Before

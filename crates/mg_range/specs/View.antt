@@ -1,4 +1,4 @@
--- The limit and the span that those of the code stand for.
+-- What the limits and spans of the code stand for.
 use Rattle.std.specs.Prelude.{List, ◌++◌, map, option_map}
 use Rattle.mg_value.specs.Value.{Value}
 use Rattle.mg_value.specs.View.{view}
@@ -14,6 +14,6 @@ limit_seen l = limit_at (view l.value) l.inclusive
 abbrev pub span_seen : span.Span → Span
 span_seen s = span_of (map view s.equal.items) (option_map limit_seen s.lower) (option_map limit_seen s.upper)
 
--- for private clauses: the range with more values in front
+-- for private clauses: the range with these fixed values in front of its own; an empty range stays empty
 abbrev pub with_equals : List Value → Range → Range
 with_equals vs range = option_map (λ s. span_of (vs ++ s.equal) s.lower s.upper) range

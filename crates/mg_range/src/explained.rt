@@ -9,7 +9,7 @@ use crate::span::{Limit, Span};
 use mg_value::{Json, NoMemory, copy_items};
 use std::alloc::Global;
 
-// `{"empty":true}`
+// Makes the JSON of an empty range: `{"empty":true}`. Errors: `NoMemory` if an allocation fails.
 pub(crate) fn empty_json(alloc: Global) -> Result<Json, NoMemory>
     ensures { IfOk result (λ v. view v ≡ range_value None) }
 {
@@ -18,7 +18,7 @@ pub(crate) fn empty_json(alloc: Global) -> Result<Json, NoMemory>
     Ok(object)
 }
 
-// `{"equal":[..],"lower":..,"upper":..}`
+// Makes the JSON of a span: `{"equal":[..],"lower":..,"upper":..}`. Errors: `NoMemory` if an allocation fails.
 pub(crate) fn span_json(alloc: Global, span: &Span) -> Result<Json, NoMemory>
     ensures { IfOk result (λ v. view v ≡ range_value (Some (span_seen span.now))) }
 {

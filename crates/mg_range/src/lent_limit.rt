@@ -1,4 +1,4 @@
-// What the atoms of a selector ask of one column: limits, lent by the atoms.
+// The limits that the atoms of a selector give on one column, lent by the atoms.
 ghost use Rattle.std.specs.Prelude.{◌≡◌, List, option_map};
 ghost use Rattle.std.specs.List.{cons_option, filter_map, fold};
 ghost use Rattle.mg_value.specs.View.{view};
@@ -14,14 +14,14 @@ use mg_path::Path;
 use mg_value::Json;
 use std::cmp::Ordering;
 
-// A limit on the values of a column. An atom lends its value.
+// A limit on the values of a column, with a value that an atom lends.
 #[derive(Clone, Copy, Debug)]
 pub(crate) struct LentLimit<'a> {
     pub(crate) value: &'a Json,
     pub(crate) inclusive: bool,
 }
 
-// The limit that the bound gives from below (`Asc`) or from above (`Desc`), if it gives one.
+// Finds the limit that the bound gives from below (`Asc`) or from above (`Desc`); `None` if the bound gives none.
 fn find_limit(direction: Direction, bound: Bound<'_>) -> Option<LentLimit<'_>>
     ensures { option_map lent_limit_seen result
         ≡ limit_by direction bound.entry.comparison (view bound.entry.value.now) }
@@ -33,8 +33,8 @@ fn find_limit(direction: Direction, bound: Bound<'_>) -> Option<LentLimit<'_>>
     })
 }
 
-// Whether the comparison allows the value itself. `None` if it gives no limit from below (`Asc`) or from
-// above (`Desc`).
+// Whether the comparison allows the value itself. `None` if the comparison gives no limit from below (`Asc`) or
+// from above (`Desc`).
 fn inclusive_from(direction: Direction, comparison: Comparison) -> Option<bool>
     ensures { result ≡ inclusive_from direction comparison }
 {
@@ -56,7 +56,8 @@ fn inclusive_from(direction: Direction, comparison: Comparison) -> Option<bool>
     }
 }
 
-// The tighter of two limits.
+// Returns the tighter of two limits from below (`Asc`) or from above (`Desc`). Of two limits with equal values, an
+// exclusive one is the tighter.
 fn tighter<'a>(direction: Direction, a: LentLimit<'a>, b: LentLimit<'a>) -> LentLimit<'a>
     ensures { lent_limit_seen result
         ≡ tighter direction (lent_limit_seen a.entry) (lent_limit_seen b.entry) }
@@ -68,7 +69,7 @@ fn tighter<'a>(direction: Direction, a: LentLimit<'a>, b: LentLimit<'a>) -> Lent
     }
 }
 
-// The tightest limit so far, after one more atom.
+// Returns the tightest limit after one more atom, where `best` is the tightest limit so far, if there is one.
 fn tighten<'a>(
     direction: Direction,
     best: Option<LentLimit<'a>>,
@@ -93,7 +94,8 @@ fn tighten<'a>(
     }
 }
 
-// The tightest limit that the atoms give on the column, if they give any.
+// Finds the tightest limit that the atoms give on the column from below (`Asc`) or from above (`Desc`); `None` if
+// they give no such limit.
 pub(crate) fn tightest<'a>(
     direction: Direction,
     column: &Path,

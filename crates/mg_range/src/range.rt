@@ -17,8 +17,8 @@ use mg_value::{Json, NoMemory};
 use std::alloc::Global;
 use std::marker::Model;
 
-/// The keys of an index that a query looks at: the values of the leading columns, as far as the query
-/// fixes them, and limits on the value of the next column. A range may be empty.
+/// The keys of an index that a query looks at: the values of the leading columns that the query fixes, and
+/// limits on the value of the next column. A range may be empty.
 #[derive(Debug, Drop)]
 pub struct KeyRange {
     pub(crate) span: Option<Span>,
@@ -41,13 +41,15 @@ impl Model for KeyRange {
 }
 
 impl KeyRange {
-    /// The range of an index of these columns for a query.
+    /// Makes the range that a query has in an index of these columns.
     ///
     /// The bounds come from the atoms alone, as `Bound::on` gives them. They fix the value of each leading column
-    /// that an `$eq` or a negated `$ne` bounds; the value of the next column lies between its tightest bounds.
+    /// that an `$eq` or a negated `$ne` bounds; the value of the next column lies between its tightest bounds. A
+    /// key that has a value for each column is in the range if and only if its values meet all bounds on these
+    /// columns.
     ///
-    /// Errors: `NoMemory` if an allocation fails. Cost: the columns times the atoms, and a copy of each bound
-    /// that is kept.
+    /// Errors: `NoMemory` if an allocation fails. Cost: the columns times the atoms, in comparisons of paths
+    /// and of values, and a copy of each value that the range keeps.
     pub fn of(alloc: Global, columns: &[Path], normal: &Normal) -> Result<KeyRange, NoMemory>
         ensures range { IfOk result (λ r. r ≡ range_of normal.now.atoms columns.now) }
         ensures keys { IfOk result (λ r. (key : List Value) → length key ≡ length columns.now
@@ -58,20 +60,20 @@ impl KeyRange {
         })
     }
 
-    /// Whether the key is in the range. Takes no memory. Cost: one pass over the key at most.
+    /// Whether the key is in the range. Takes no memory. Cost: at most two passes over the key.
     pub fn contains(&self, key: &[Json]) -> bool
         ensures { result ≡ has_key self.now (map json_view key.now) }
     {
         match &self.span {
-            Some(span) => is_within(side_in(span, key)),
+            Some(span) => is_side_within(side_in(span, key)),
             None => false,
         }
     }
 
-    /// Whether the key that is this one text is before, within or past the range. Takes no memory. Cost: at
-    /// most one pass over the text for each limit.
+    /// Whether the key whose only value is this text is before, within or past the range; every key is past an empty
+    /// range. Takes no memory. Cost: at most two passes over the text.
     ///
-    /// Among rows in order, all before the range come first, then all in it, then all past it. So a binary
+    /// Among rows in order, those before the range come first, then those in it, then those past it. So a binary
     /// search finds the ends of the range.
     pub fn side_at_text(&self, text: &str) -> RangeSide
         ensures { result ≡ side_of self.now (string text.now ∷ []) }
@@ -82,9 +84,10 @@ impl KeyRange {
         }
     }
 
-    /// The limit on the first column at which a search in the direction enters the range: the value, and
-    /// whether keys with that value may be in the range. `None` if there is no limit on that side, or if
-    /// the range is empty. Takes no memory. Cost: constant.
+    /// Finds the range's limit on the first column, on the side where a search in the direction enters: the limit's
+    /// value, and whether keys with that value may be in the range. The value is the column's fixed value, if it has
+    /// one; otherwise that of the lower limit for `Asc`, or of the upper limit for `Desc`. `None` if the first column
+    /// has no such limit, or if the range is empty. Takes no memory. Cost: constant.
     pub fn entered_at(&self, direction: Direction) -> Option<(&Json, bool)>
         ensures { option_map (λ l. limit_at (json_view l.0.now) l.1) result
             ≡ limit_entered direction self.now }
@@ -111,8 +114,8 @@ impl KeyRange {
         }
     }
 
-    /// The range in JSON, as `_explain` shows it: `{"empty":true}`, or
-    /// `{"equal":[..],"lower":..,"upper":..}`, each limit as null or `{"inclusive":..,"value":..}`.
+    /// Makes the JSON of the range, as `_explain` shows it: `{"empty":true}`, or
+    /// `{"equal":[..],"lower":..,"upper":..}`, with each limit as null or `{"inclusive":..,"value":..}`.
     ///
     /// Errors: `NoMemory` if an allocation fails. Cost: the size of the values.
     pub fn to_json(&self, alloc: Global) -> Result<Json, NoMemory>
@@ -125,7 +128,7 @@ impl KeyRange {
     }
 }
 
-fn is_within(side: RangeSide) -> bool
+fn is_side_within(side: RangeSide) -> bool
     ensures { result ≡ is_side_within side }
 {
     match side {

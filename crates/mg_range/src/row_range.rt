@@ -18,20 +18,20 @@ use mg_value::{Json, NoMemory};
 use std::alloc::Global;
 use std::marker::Model;
 
-// The ends of a span: the rows in it are those after the low end and before the high end.
+// The ends of a span: the rows in the span are those after the low end and before the high end.
 #[derive(Drop)]
 pub(crate) struct SpanEnds {
     pub(crate) low: RowBound,
     pub(crate) high: RowBound,
 }
 
-/// A key range with its two ends as bytes, so that rows are compared with them byte by byte. In contracts it
-/// is the range.
+/// A key range with its two ends as bytes, so that rows are compared with the ends byte by byte. An empty range has
+/// no ends. In contracts, a `RowRange` stands for its key range.
 #[derive(Drop)]
 pub struct RowRange<'a> {
     keys: &'a KeyRange,
     ends: Option<SpanEnds>,
-    // the hints of where the range is entered, ascending and descending
+    // the hints at which an ascending search (`up`) and a descending search (`down`) enter the range
     up: u64,
     down: u64,
 }
@@ -51,9 +51,9 @@ impl<'a> Model for RowRange<'a> {
 }
 
 impl KeyRange {
-    /// The range with its two ends as bytes.
+    /// Makes the range with its two ends as bytes.
     ///
-    /// Errors: `NoMemory` if an allocation fails. Cost: the size of its values.
+    /// Errors: `NoMemory` if an allocation fails. Cost: the size of the range's values.
     pub fn in_rows(&self, alloc: Global) -> Result<RowRange<'_>, NoMemory>
         ensures { IfOk result (λ r. r ≡ self.now) }
     {
@@ -68,15 +68,16 @@ impl KeyRange {
 }
 
 impl<'a> RowRange<'a> {
-    /// The range. Takes no memory.
+    /// Returns the key range. Takes no memory.
     pub fn key_range(&self) -> &'a KeyRange
         ensures { result.now ≡ self.now }
     {
         self.keys
     }
 
-    /// The hint of where a search in the direction enters the range, to compare with the hints of rows: the search looks there first. No
-    /// answer depends on it. It was computed with the range. Takes no memory. Cost: constant.
+    /// Returns the hint at which a search in the direction enters the range. The search compares it with the hints of
+    /// rows, to choose where it looks first; no answer depends on the hint. Takes no memory. Cost: constant, because
+    /// `in_rows` has computed the hint.
     pub fn entry_hint(&self, direction: Direction) -> u64 {
         match direction {
             Direction::Asc => self.up,
@@ -108,7 +109,7 @@ impl<'a> RowRange<'a> {
         }
     }
 
-    // Whether the row is below each key of the range.
+    // Whether the row is below each key of the range; false if the range is empty.
     #[inline(always)]
     fn is_below(&self, row: &RowBytes) -> bool
         ensures { result ≡ is_side_before (side_of self.now (item_list row.now.0)) }
@@ -119,7 +120,7 @@ impl<'a> RowRange<'a> {
         }
     }
 
-    // Whether the row is above each key of the range, or the range is empty.
+    // Whether the row is above each key of the range; true if the range is empty.
     #[inline(always)]
     fn is_above(&self, row: &RowBytes) -> bool
         ensures { result ≡ is_side_past (side_of self.now (item_list row.now.0)) }
@@ -131,8 +132,9 @@ impl<'a> RowRange<'a> {
     }
 }
 
-// The hint of where the range is entered, in the direction. If it is entered at a value, the hint is just before the rows with that value
-// if they may be in the range, and just past them otherwise. If there is no such value, it is the first hint in the direction.
+// Computes the hint at which a search in the direction enters the range. If the search enters at a value, the hint
+// comes, in the direction, just before the hint of the rows with that value if they may be in the range, and just
+// after it otherwise. If the search enters at no value, the hint is the first one in the direction.
 fn entry_hint(keys: &KeyRange, direction: Direction) -> u64 {
     let is_up = direction == Direction::Asc;
     match keys.entered_at(direction) {
@@ -157,7 +159,7 @@ fn is_past(ends: &SpanEnds, row: &RowBytes) -> bool
     ends.high.against(row).is_lt()
 }
 
-// The ends of a span, if there is one.
+// Makes the ends of a span, if there is one. Errors: `NoMemory` if an allocation fails.
 fn ends_if(alloc: Global, span: &Option<Span>) -> Result<Option<SpanEnds>, NoMemory>
     ensures { IfOk result (λ ends. option_map ends_at ends
         ≡ option_map (λ s. ends_of (span_seen s)) span.now) }
@@ -178,8 +180,8 @@ fn ends_of(alloc: Global, span: &Span) -> Result<SpanEnds, NoMemory>
     Ok(SpanEnds { low, high })
 }
 
-// The end before or after (`edge`) all rows whose key begins with these values and then, if there is a limit,
-// the limit's value.
+// Makes the end before or after (`edge`) all rows whose key begins with these values, followed by the limit's value
+// if there is a limit. Errors: `NoMemory` if an allocation fails.
 fn end_at(
     alloc: Global,
     equal: &[Json],
@@ -195,7 +197,7 @@ fn end_at(
     Ok(key.into_bound(edge)?)
 }
 
-// Appends the values to a key.
+// Appends the values to a key. Errors: `NoMemory` if an allocation fails; then the key is empty.
 fn push_all(key: &mut KeyBytes, values: &[Json]) -> Result<(), NoMemory>
     ensures { OnOk result (key.new ≡ joined_items key.old (items_view values.now)) }
 {
@@ -205,7 +207,8 @@ fn push_all(key: &mut KeyBytes, values: &[Json]) -> Result<(), NoMemory>
     Ok(())
 }
 
-// Appends the value of a limit to a key, if there is one.
+// Appends the value of a limit, if there is one, to a key. Errors: `NoMemory` if an allocation fails; then the key
+// is empty.
 fn push_limit(key: &mut KeyBytes, limit: Option<&Limit>) -> Result<(), NoMemory>
     ensures { OnOk result (key.new
         ≡ joined_items key.old (end_values [] (option_map (λ l. limit_seen l.now) limit.entry))) }
@@ -219,7 +222,8 @@ fn push_limit(key: &mut KeyBytes, limit: Option<&Limit>) -> Result<(), NoMemory>
     }
 }
 
-// Whether the low end is before or after the rows with its values: before them if they are in the range.
+// Returns the edge of the low end: before the rows with its values if the limit includes them or there is no limit,
+// otherwise after them.
 fn low_edge(limit: Option<&Limit>) -> Edge
     ensures { result ≡ low_edge (option_map (λ l. limit_seen l.now) limit.entry) }
 {
@@ -233,7 +237,8 @@ fn low_edge(limit: Option<&Limit>) -> Edge
     }
 }
 
-// Whether the high end is before or after the rows with its values: after them if they are in the range.
+// Returns the edge of the high end: after the rows with its values if the limit includes them or there is no limit,
+// otherwise before them.
 fn high_edge(limit: Option<&Limit>) -> Edge
     ensures { result ≡ high_edge (option_map (λ l. limit_seen l.now) limit.entry) }
 {

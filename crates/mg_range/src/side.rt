@@ -1,10 +1,10 @@
 /// Whether a key is before, within or past a range, in the order of keys.
 #[derive(Clone, Copy, PartialEq, Eq, Debug, Drop)]
 pub enum RangeSide {
-    /// Below each key of the range.
+    /// Below each key of the range, which is not empty.
     Before,
-    /// One of its keys.
+    /// One of the range's keys.
     Within,
-    /// Above each of them, or the range is empty.
+    /// Above each key of the range, or the range is empty.
     Past,
 }

@@ -18,7 +18,7 @@ use mg_value::{Json, NoMemory};
 use std::alloc::Global;
 use std::cmp::Ordering;
 
-// A limit on the values of a column, with a copy of its value.
+// A limit on the values of a column, which owns its value.
 #[derive(Debug, Drop)]
 pub(crate) struct Limit {
     pub(crate) value: Json,
@@ -33,8 +33,8 @@ pub(crate) struct Span {
     pub(crate) upper: Option<Limit>,
 }
 
-// The span of the columns; `None` if a fixed value breaks another bound on its column, or if the limits
-// cross.
+// Makes the span that the atoms give an index of these columns; `None` if a fixed value breaks another bound on its
+// column, or if the limits cross. Errors: `NoMemory` if an allocation fails.
 pub(crate) fn span_of(
     alloc: Global,
     columns: &[Path],
@@ -61,7 +61,7 @@ pub(crate) fn span_of(
     }))
 }
 
-// The span of these values and limits; `None` if the limits cross.
+// Makes the span of these values and limits; `None` if the limits cross. Errors: `NoMemory` if an allocation fails.
 fn span_between(
     alloc: Global,
     equal: Vec<Json>,
@@ -103,7 +103,7 @@ fn are_crossed(lower: LentLimit<'_>, upper: LentLimit<'_>) -> bool
     }
 }
 
-// The limit with a copy of its value.
+// Copies the value of a limit, if there is one, into a limit that owns it. Errors: `NoMemory` if an allocation fails.
 fn keep_limit(alloc: Global, limit: Option<LentLimit<'_>>) -> Result<Option<Limit>, NoMemory>
     ensures { IfOk result (λ l. option_map limit_seen l ≡ option_map lent_limit_seen limit.entry) }
 {
@@ -116,7 +116,8 @@ fn keep_limit(alloc: Global, limit: Option<LentLimit<'_>>) -> Result<Option<Limi
     }
 }
 
-// Whether the key is before, within or past the span.
+// Whether the key is before, within or past the span. A key that ends before the fixed values do, and agrees with
+// them so far, is before the span.
 pub(crate) fn side_in(span: &Span, key: &[Json]) -> RangeSide
     ensures { result ≡ side_from (map view span.now.equal.items) (option_map limit_seen span.now.lower)
         (option_map limit_seen span.now.upper) (map view key.now) }
@@ -134,7 +135,7 @@ pub(crate) fn side_in(span: &Span, key: &[Json]) -> RangeSide
     side_at_limits(&span.lower, &span.upper, &key[span.equal.len()..])
 }
 
-// Whether the rest of a key is before, within or past the limits.
+// Whether a key is before, within or past the limits, where `rest` is what follows the fixed values in the key.
 pub(crate) fn side_at_limits(
     lower: &Option<Limit>,
     upper: &Option<Limit>,
@@ -176,15 +177,15 @@ fn is_past(upper: &Option<Limit>, rest: &[Json]) -> bool
     !is_within(Direction::Desc, upper, value)
 }
 
-// Whether the value is within the limit.
+// Whether the value is within the limit, a lower one (`Asc`) or an upper one (`Desc`).
 fn is_within(direction: Direction, limit: &Limit, value: &Json) -> bool
     ensures { result ≡ is_within direction (limit_seen limit.now) (view value.now) }
 {
     admits(limit, direction.apply(compare(value, &limit.value)))
 }
 
-// Whether a value is within the limit; `order` is that of the value to the limit's, reversed for an upper
-// limit.
+// Whether a value with this order to the limit's value is within the limit. For an upper limit, the caller reverses
+// the order.
 pub(crate) fn admits(limit: &Limit, order: Ordering) -> bool
     ensures { result ≡ admits limit.now.inclusive order }
 {

@@ -1,4 +1,4 @@
-// The key of one text alone, compared with a span.
+// Compares a span with a key whose only value is a text.
 ghost use Rattle.std.specs.Prelude.{◌≡◌, [], ◌∷◌, map, option_map};
 ghost use Rattle.mg_value.specs.Value.{text as string};
 ghost use Rattle.mg_value.specs.View.{view};
@@ -11,7 +11,7 @@ use mg_collate::{Direction, compare_text};
 use mg_value::Json;
 use std::cmp::Ordering;
 
-// Whether the key of one text is before, within or past the span.
+// Whether the key whose only value is this text is before, within or past the span.
 pub(crate) fn side_in(span: &Span, text: &str) -> RangeSide
     ensures { result ≡ side_from (map view span.now.equal.items) (option_map limit_seen span.now.lower)
         (option_map limit_seen span.now.upper) (string text.now ∷ []) }
@@ -26,8 +26,8 @@ pub(crate) fn side_in(span: &Span, text: &str) -> RangeSide
     }
 }
 
-// Whether a key that has no more values is before, within or past the fixed values that are left and the
-// limits.
+// Whether a key that ends after the first fixed value is before, within or past the span, where `equal` has the
+// other fixed values.
 fn side_of_ended(equal: &[Json], lower: &Option<Limit>, upper: &Option<Limit>) -> RangeSide
     ensures { result ≡ side_from (map view equal.now) (option_map limit_seen lower.now)
         (option_map limit_seen upper.now) [] }
@@ -38,7 +38,7 @@ fn side_of_ended(equal: &[Json], lower: &Option<Limit>, upper: &Option<Limit>) -
     }
 }
 
-// Whether the key of one text is before, within or past the limits.
+// Whether the key whose only value is this text is before, within or past the limits.
 fn side_of_text(lower: &Option<Limit>, upper: &Option<Limit>, text: &str) -> RangeSide
     ensures { result ≡ side_from [] (option_map limit_seen lower.now) (option_map limit_seen upper.now)
         (string text.now ∷ []) }
@@ -70,7 +70,7 @@ fn is_past(upper: &Option<Limit>, text: &str) -> bool
     }
 }
 
-// Whether the text is within the limit.
+// Whether the text is within the limit, a lower one (`Asc`) or an upper one (`Desc`).
 fn is_within(direction: Direction, limit: &Limit, text: &str) -> bool
     ensures { result ≡ is_within direction (limit_seen limit.now) (string text.now) }
 {

@@ -63,7 +63,7 @@ id_is_no_rev e = absurd cc
 rev_is_no_id : slice_cmp nat_cmp (codes "_rev") (codes "_id") ≡ Equal → ⊥
 rev_is_no_id e = absurd cc
 
--- a body that has neither an id nor a revision is what its form shows without these
+-- a body that has neither `_id` nor `_rev` is its form without these
 pub bare-form : (id rev body : Value) → IsBare body → bare (as_form id rev body) ≡ body
 bare-form id rev null h = refl
 bare-form id rev (flag b) h = refl
@@ -75,7 +75,7 @@ bare-form id rev (object ms) h =
     ap (λ x. object (without (codes "_rev") x)) (without-put (codes "_id") id (put (codes "_rev") rev ms) none)
     ∙ ap object (without-put (codes "_rev") rev ms h.1)
 
--- so such a form is that of the body which it shows
+-- a form of such a body, without these, is that body
 pub shows : (body form : Value) → IsFormOf body form → IsBare body → bare form ≡ body
 shows body form is h = ap bare is.2 ∙ bare-form is.0 is.1 body h
 
@@ -103,7 +103,7 @@ parts_are i r id rev (text s) e f = refl
 parts_are i r id rev (list vs) e f = refl
 parts_are i r id rev (object ms) e f = same_parts i r id rev ms e f
 
--- a form with this id and this revision is the one that is made of them
+-- a form of the body with this id and this revision is the form that is made of the three
 pub is_made : (id rev body form : Value) → IsFormOf body form → member_of (codes "_id") form ≡ Some id → member_of (codes "_rev") form ≡ Some rev → form ≡ as_form id rev body
 is_made id rev body form is e f =
     is.2 ∙ parts_are is.0 is.1 id rev body (ap (member_of (codes "_id")) (sym is.2) ∙ e) (ap (member_of (codes "_rev")) (sym is.2) ∙ f)

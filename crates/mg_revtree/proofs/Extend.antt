@@ -31,7 +31,7 @@ base_is h (l ∷ ls) leaves (Some q) = ap is_some (leaves.same q)
 pub position_refused : (h : Paths) (base : Option Revision) → may_extend h base ≡ false → Err NotLeaf ≡ next_position h base
 position_refused h base e = rw e refl
 
--- the position above the one below, or none
+-- the position above the base, or `Full`
 pub position_is : (h : Paths) (base : Option Revision) (n : ℕ) (o : Option ℕ) (r : Result ℕ TreeRefusal) → may_extend h base ≡ true → n ≡ position_below base → SomeIff o (n + 1 < 2 ^ 32) (n + 1) → n < 2 ^ 32 → r ≡ ok_or o Full → r ≡ next_position h base
 position_is h base n None r e is none fits to =
     let top : n ≡ 4294967295 = omega (arith, none, fits) in
@@ -49,7 +49,7 @@ position_ok base n (Some k) (Err e) is some to = tt
 
 -- ---- why a new revision is not made
 
--- why a revision is not made at its position, if it has one
+-- why a new revision is refused: for lack of a position, or because it is already known there
 abbrev pub refusal_at : Result ℕ TreeRefusal → List ℕ → List Link → Option TreeRefusal
 refusal_at (Err refusal) id ls = Some refusal
 refusal_at (Ok n) id ls = if is_known (n, id) ls then Some Known else None

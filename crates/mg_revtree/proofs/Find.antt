@@ -10,7 +10,7 @@ use Rattle.mg_revtree.specs.Revision.{Revision, revision_order, same_revision}
 use Rattle.std.specs.Option.{option_or}
 use Rattle.mg_revtree.specs.History.{Link}
 use Rattle.mg_revtree.specs.Tree.{find, IsBelow, AreSorted}
-use Rattle.mg_revtree.specs.Steps.{put, IsLinkAt, IsGap}
+use Rattle.mg_revtree.specs.Steps.{put, IsLinkAt, BelongsAt}
 use Rattle.mg_revtree.proofs.Same.{two, same_is, apart, revision_total, less_apart, equal_same}
 
 -- ---- links in order
@@ -34,7 +34,7 @@ index_small Less = omega arith
 index_small Equal = omega arith
 index_small Greater = omega arith
 
--- where a is less than b, a compares no higher
+-- if a is less than b, its order against r is not greater than that of b
 index_rises : (a b r : Revision) → revision_order a b ≡ Less → ordering_index (revision_order a r) ≤ ordering_index (revision_order b r)
 index_rises a b r lt = go (revision_order b r) refl
   where
@@ -47,14 +47,14 @@ index_rises a b r lt = go (revision_order b r) refl
     go Greater e = rw e (index_small (revision_order a r))
 
 module _ {A : Type 0} (f : A → Link) where
-  -- links in order compare with a revision in order
+  -- along links in order, the order against a revision never falls
   pub rising : (xs : List A) (r : Revision) → AreSorted (map f xs) → IsNonDecreasingBy (λ (x : A). ordering_index (revision_order (f x).rev r)) xs
   rising xs r h i j d le within = elim (two (nat_lt i j)) [
     | inl t ↦ let lt : i < j = grind (arith, nat_tests) in index_rises (f (get_or xs i d)).rev (f (get_or xs j d)).rev r (sorted_at f xs i j d lt within h)
     | inr n ↦ let e : i ≡ j = grind (arith, nat_tests) in rw e (omega arith)
   ]
 
-  -- an equal one is at its place
+  -- an item whose revision is r is at the place of r
   pub place_found : (r : Revision) (xs : List A) (i : ℕ) → i < length xs → AreSorted (map f xs) → HoldsAt (λ (x : A). revision_order (f x).rev r ≡ Equal) xs i → IsLinkAt r (map f xs) i
   place_found r [] i lt s h = absurd (omega arith)
   place_found r (x ∷ xs) zero lt s h = equal_same (f x).rev r (h x)
@@ -67,15 +67,15 @@ module _ {A : Type 0} (f : A → Link) where
   above_all r [] h = tt
   above_all r (x ∷ xs) h = (revision_total.antisymm r (f x).rev ∙ ap ordering_reverse (h 0 x (omega arith)), above_all r xs (λ k d lt. h (suc k) d (omega arith)))
 
-  -- one between the less and the greater goes there
-  pub gap_found : (r : Revision) (xs : List A) (i : ℕ) → i ≤ length xs → IsPartitionPoint (λ (x : A). revision_order (f x).rev r ≡ Less) (λ (x : A). revision_order (f x).rev r ≡ Greater) xs i → IsGap r (map f xs) i
+  -- r goes before the place that parts the lesser links from the greater ones
+  pub gap_found : (r : Revision) (xs : List A) (i : ℕ) → i ≤ length xs → IsPartitionPoint (λ (x : A). revision_order (f x).rev r ≡ Less) (λ (x : A). revision_order (f x).rev r ≡ Greater) xs i → BelongsAt r (map f xs) i
   gap_found r xs zero le h = above_all r xs (λ k d lt. h.1 k d (omega arith) lt)
   gap_found r [] (suc i) le h = absurd (omega arith)
   gap_found r (x ∷ xs) (suc i) le h =
       (h.0 0 x (omega arith) (omega arith), gap_found r xs i (omega arith) (λ k d lo hi. h.0 (suc k) d (omega arith) (omega arith), λ k d lo hi. h.1 (suc k) d (omega arith) (omega arith)))
 
-  -- what a binary search answers
-  pub searched : (r : Revision) (xs : List A) (o : Result ℕ ℕ) → IsSearchInRange o (length xs) → IsBinarySearchResult (λ (x : A). revision_order (f x).rev r) xs o → IfOk o (λ i. (i < length xs) × (AreSorted (map f xs) → IsLinkAt r (map f xs) i)) × IfErr o (λ i. (i ≤ length xs) × (AreSorted (map f xs) → IsGap r (map f xs) i))
+  -- a binary search finds the place of r, or the gap where r goes
+  pub searched : (r : Revision) (xs : List A) (o : Result ℕ ℕ) → IsSearchInRange o (length xs) → IsBinarySearchResult (λ (x : A). revision_order (f x).rev r) xs o → IfOk o (λ i. (i < length xs) × (AreSorted (map f xs) → IsLinkAt r (map f xs) i)) × IfErr o (λ i. (i ≤ length xs) × (AreSorted (map f xs) → BelongsAt r (map f xs) i))
   searched r xs (Ok i) bound by = ((bound, λ s. place_found r xs i bound s by), tt)
   searched r xs (Err i) bound by = (tt, (bound, λ s. gap_found r xs i bound (by (rising xs r s))))
 
@@ -84,7 +84,7 @@ below_none r [] h = refl
 below_none r (l ∷ ls) h = let e : same_revision r l.rev ≡ false = ap is_eq (h.0) in rw e (below_none r ls h.1)
 
 -- a revision for which there is a gap is not found
-pub gap_none : (r : Revision) (ls : List Link) (i : ℕ) → IsGap r ls i → find r ls ≡ None
+pub gap_none : (r : Revision) (ls : List Link) (i : ℕ) → BelongsAt r ls i → find r ls ≡ None
 gap_none r ls zero h = below_none r ls h
 gap_none r [] (suc i) h = absurd h
 gap_none r (l ∷ ls) (suc i) h = rw (less_apart l.rev r h.0) (gap_none r ls i h.1)
@@ -94,7 +94,7 @@ below_insert a l ls zero lt h = (lt, h)
 below_insert a l [] (suc i) lt h = (lt, tt)
 below_insert a l (y ∷ ls) (suc i) lt h = (h.0, below_insert a l ls i lt h.1)
 
-pub sorted-insert : (l : Link) (ls : List Link) (i : ℕ) → IsGap l.rev ls i → AreSorted ls → AreSorted (insert ls i l)
+pub sorted-insert : (l : Link) (ls : List Link) (i : ℕ) → BelongsAt l.rev ls i → AreSorted ls → AreSorted (insert ls i l)
 sorted-insert l ls zero gap h = (gap, h)
 sorted-insert l [] (suc i) gap h = absurd gap
 sorted-insert l (y ∷ ls) (suc i) gap h = (below_insert y.rev l ls i gap.0 h.0, sorted-insert l ls i gap.1 h.1)
@@ -111,7 +111,7 @@ sorted-set x y (l ∷ ls) (suc i) is e h = (below_set l.rev x y ls i is e h.0, s
 
 -- ---- what is found
 
--- a link put at its revision's place
+-- the parent of one more link is set at the place of its revision
 pub find-set : (l x y : Link) (ls : List Link) (i : ℕ) → IsLinkAt l.rev ls i → x ≡ get_or ls i x → y ≡ record x { parent = option_or x.parent l.parent } → (r : Revision) → find r (set ls i y) ≡ put l r (find r ls)
 find-set l x y [] i place is to r = absurd place
 find-set l x y (z ∷ ls) zero place is to r =
@@ -123,7 +123,7 @@ find-set l x y (z ∷ ls) (suc i) place is to r = elim (two (same_revision r z.r
   | inr f ↦ rw f (find-set l x y ls i place.1 is to r)
 ]
 
--- a link whose revision was unknown, at any place
+-- a link whose revision was unknown is inserted, at any place
 pub find-insert : (l : Link) (ls : List Link) (i : ℕ) → find l.rev ls ≡ None → (r : Revision) → find r (insert ls i l) ≡ put l r (find r ls)
 find-insert l ls zero none r = elim (two (same_revision r l.rev)) [
   | inl t ↦ let e : r ≡ l.rev = same_is r l.rev t in let n : find r ls ≡ None = rw e none in rw (t, n) refl
@@ -143,7 +143,7 @@ place_find r [] i x place is = absurd place
 place_find r (y ∷ ls) zero x place is = let e : x.parent ≡ y.parent = ap (λ (z : Link). z.parent) is in rw (place, e) refl
 place_find r (y ∷ ls) (suc i) x place is = rw (place.0) (place_find r ls i x place.1 is)
 
--- the one at a revision's place has that revision
+-- the link at the place of a revision has that revision
 pub place_is : (r : Revision) (ls : List Link) (i : ℕ) (x : Link) → IsLinkAt r ls i → x ≡ get_or ls i x → x.rev ≡ r
 place_is r [] i x place is = absurd place
 place_is r (y ∷ ls) zero x place is = ap (λ (z : Link). z.rev) is ∙ sym (same_is r y.rev place)

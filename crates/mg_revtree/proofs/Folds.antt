@@ -7,8 +7,8 @@ use Rattle.std.proofs.lemmas.List.{drop-drop, get_or_default, map-append, map_mo
 use Rattle.mg_revtree.specs.Revision.{Revision, revision_order}
 use Rattle.mg_revtree.specs.History.{Link}
 use Rattle.mg_revtree.specs.Tree.{AreSorted}
-use Rattle.mg_revtree.specs.Nodes.{AreWithin, Grows, NodeWithin, link_in, text_of_part}
-use Rattle.mg_revtree.specs.Steps.{IsGap, IsLinkAt}
+use Rattle.mg_revtree.specs.Nodes.{NodesWithin, IsExtendedBy, NodeWithin, link_in, text_of_part}
+use Rattle.mg_revtree.specs.Steps.{BelongsAt, IsLinkAt}
 use Rattle.mg_revtree.specs.Known.{AreBelow, with_link, with_links}
 use Rattle.mg_revtree.specs.declared.links.node.Node.{Node}
 use Rattle.mg_revtree.specs.declared.links.node.IdPart.{IdPart}
@@ -20,17 +20,17 @@ use Rattle.mg_revtree.proofs.Rooms.{sorted_back, sorted_front}
 -- ---- what stays within
 
 module _ (n : ℕ) where
-  pub within-append : (xs ys : List Node) → AreWithin n xs → AreWithin n ys → AreWithin n (xs ++ ys)
+  pub within-append : (xs ys : List Node) → NodesWithin n xs → NodesWithin n ys → NodesWithin n (xs ++ ys)
   within-append [] ys h k = k
   within-append (x ∷ xs) ys h k = (h.0, within-append xs ys h.1 k)
 
-  pub within-take : (i : ℕ) (xs : List Node) → AreWithin n xs → AreWithin n (take i xs)
+  pub within-take : (i : ℕ) (xs : List Node) → NodesWithin n xs → NodesWithin n (take i xs)
   within-take zero [] h = tt
   within-take zero (x ∷ xs) h = tt
   within-take (suc i) [] h = tt
   within-take (suc i) (x ∷ xs) h = (h.0, within-take i xs h.1)
 
-  pub within-drop : (i : ℕ) (xs : List Node) → AreWithin n xs → AreWithin n (drop i xs)
+  pub within-drop : (i : ℕ) (xs : List Node) → NodesWithin n xs → NodesWithin n (drop i xs)
   within-drop zero [] h = tt
   within-drop zero (x ∷ xs) h = h
   within-drop (suc i) [] h = tt
@@ -59,12 +59,12 @@ module _ (t : List ℕ) (made older : List Node) (i : ℕ) where
       let l = map (link_in t) older in
       subst (AreBelow r) (sym (mapped y)) (are_below-append r (m ++ take i l) (link_in t y ∷ []) (are_below-append r m (take i l) h k) (lt, tt))
 
-  pub within_made : (n : ℕ) (y : Node) → AreWithin n made → AreWithin n older → NodeWithin n y → AreWithin n ((made ++ take i older) ++ y ∷ [])
+  pub within_made : (n : ℕ) (y : Node) → NodesWithin n made → NodesWithin n older → NodeWithin n y → NodesWithin n ((made ++ take i older) ++ y ∷ [])
   within_made n y h k w = within-append n (made ++ take i older) (y ∷ []) (within-append n made (take i older) h (within-take n i older k)) (w, tt)
 
   module _ (x : Node) where
     -- where its revision is not an older one
-    module _ (gap : IsGap (link_in t x).rev (map (link_in t) older) i) where
+    module _ (gap : BelongsAt (link_in t x).rev (map (link_in t) older) i) where
       pub links_put : map (link_in t) ((made ++ take i older) ++ x ∷ []) ++ map (link_in t) (drop i older) ≡ map (link_in t) made ++ with_link (link_in t x) (map (link_in t) older)
       links_put = regrouped x i ∙ ap (λ ls. map (link_in t) made ++ ls) (gap_with (link_in t x) (map (link_in t) older) i gap)
 
@@ -73,7 +73,7 @@ module _ (t : List ℕ) (made older : List Node) (i : ℕ) where
 
     -- joined to the older one of its revision
     module _ (kept now : Node) (lt : i < length older) (is : kept ≡ get_or older i kept) (joined : now ≡ record kept { parent = option_or kept.parent x.parent }) where
-      pub within_joined : (n : ℕ) → AreWithin n older → NodeWithin n x → NodeWithin n now
+      pub within_joined : (n : ℕ) → NodesWithin n older → NodeWithin n x → NodeWithin n now
       within_joined n h w =
           let k : NodeWithin n kept = subst (NodeWithin n) (sym is) (node-within n older i kept lt h) in
           subst (NodeWithin n) (sym joined) (k.0, or_within n kept.parent x.parent k.1 w.1)
@@ -106,7 +106,7 @@ same_link t u x y pos id parent = rw (pos, id, parent_of_text (y.pos - 1) t x.pa
 -- ---- the newer nodes so far
 
 -- what is made of the newer nodes before place at, and of the older ones before place from
-module _ (t0 t t' other : List ℕ) (grown : Grows t0 t) (grows : Grows t t') (older made newer : List Node) (from at : ℕ) (older_within : AreWithin (length t0) older) (made_within : AreWithin (length t) made) (sorted : AreSorted (map (link_in t0) older)) (whole : map (link_in t) made ++ map (link_in t) (drop from older) ≡ with_links (map (link_in t0) older) (map (link_in other) (take at newer))) where
+module _ (t0 t t' other : List ℕ) (grown : IsExtendedBy t0 t) (grows : IsExtendedBy t t') (older made newer : List Node) (from at : ℕ) (older_within : NodesWithin (length t0) older) (made_within : NodesWithin (length t) made) (sorted : AreSorted (map (link_in t0) older)) (whole : map (link_in t) made ++ map (link_in t) (drop from older) ≡ with_links (map (link_in t0) older) (map (link_in other) (take at newer))) where
   all_sorted : AreSorted (map (link_in t) made ++ map (link_in t) (drop from older))
   all_sorted = subst AreSorted (sym whole) (sorted_all (map (link_in t0) older) (map (link_in other) (take at newer)) sorted)
 

@@ -3,7 +3,7 @@ use Rattle.std.proofs.Common.{◌≡◌, true, false, ◌||◌, ◌&&◌, Option
 use Rattle.mg_revtree.specs.Revision.{Revision, same_revision}
 use Rattle.std.specs.Option.{option_or}
 use Rattle.mg_revtree.specs.History.{Link, Paths, agrees, gives, is_known, parent_of, has_child, is_this, links, all_links}
-use Rattle.mg_revtree.specs.Tree.{node}
+use Rattle.mg_revtree.specs.Tree.{known_parent}
 use Rattle.mg_revtree.specs.Steps.{agrees_found, known_found, put}
 use Rattle.mg_revtree.proofs.Same.{two, same_is}
 
@@ -42,9 +42,9 @@ or_none : {A : Type 0} (a : Option A) → a ≡ option_or a None
 or_none None = refl
 or_none (Some x) = refl
 
--- a node after one more link before others, where none of those is of its revision
-pub node-put-before : (r : Revision) (ls ms : List Link) (l : Link) → is_known l.rev ms ≡ false → put l r (node r (ls ++ ms)) ≡ node r (ls ++ l ∷ ms)
-node-put-before r ls ms l new = rw (known-append r ls ms, parent-append r ls ms, known-append r ls (l ∷ ms), parent-append r ls (l ∷ ms)) (elim (two (same_revision r l.rev)) [
+-- the known parent after one more link, which stands before links that do not have its revision
+pub known_parent-put-before : (r : Revision) (ls ms : List Link) (l : Link) → is_known l.rev ms ≡ false → put l r (known_parent r (ls ++ ms)) ≡ known_parent r (ls ++ l ∷ ms)
+known_parent-put-before r ls ms l new = rw (known-append r ls ms, parent-append r ls ms, known-append r ls (l ∷ ms), parent-append r ls (l ∷ ms)) (elim (two (same_revision r l.rev)) [
   | inl t ↦
       let u : is_known r ms ≡ false = ap (λ x. is_known x ms) (same_is r l.rev t) ∙ new in
       elim (two (is_known r ls)) [
@@ -59,16 +59,16 @@ node-put-before r ls ms l new = rw (known-append r ls ms, parent-append r ls ms,
     rest None (Some y) = refl
     rest (Some x) b = refl
 
--- a kept node's parent is the known one
-pub agrees_node : (r : Revision) (ls : List Link) (q : Option Revision) → agrees_found (node r ls) q ≡ agrees (parent_of r ls) q
-agrees_node r ls q = elim (two (is_known r ls)) [
+-- a given parent agrees with the looked-up one exactly if it agrees with the known one
+pub agrees_known_parent : (r : Revision) (ls : List Link) (q : Option Revision) → agrees_found (known_parent r ls) q ≡ agrees (parent_of r ls) q
+agrees_known_parent r ls q = elim (two (is_known r ls)) [
   | inl k ↦ rw k refl
   | inr k ↦ rw (k, unknown_parent r ls k) refl
 ]
 
--- a kept node is held where the known revision is
-pub held_node : (r : Revision) (ls : List Link) (q : Option Revision) → known_found (node r ls) q ≡ is_known r ls && gives (parent_of r ls) q
-held_node r ls q = elim (two (is_known r ls)) [
+-- a looked-up revision is known with a parent exactly if the revision is known and the parent is the known one
+pub held_known_parent : (r : Revision) (ls : List Link) (q : Option Revision) → known_found (known_parent r ls) q ≡ is_known r ls && gives (parent_of r ls) q
+held_known_parent r ls q = elim (two (is_known r ls)) [
   | inl k ↦ rw k refl
   | inr k ↦ rw k refl
 ]

@@ -6,15 +6,15 @@ use Rattle.std.specs.declared.cmp.Ordering.TheVariants.{Less, Equal, Greater}
 use Rattle.std.specs.Option.{option_flatten, option_or}
 use Rattle.mg_revtree.specs.Revision.{Revision, revision_order, same_revision}
 use Rattle.mg_revtree.specs.History.{Link, is_known, parent_of}
-use Rattle.mg_revtree.specs.Tree.{AreNodes, AreSorted, IsBelow, find, node}
-use Rattle.mg_revtree.specs.Steps.{IsGap, IsLinkAt, joined_found, put}
+use Rattle.mg_revtree.specs.Tree.{AreKnownLinks, AreSorted, IsBelow, find, known_parent}
+use Rattle.mg_revtree.specs.Steps.{BelongsAt, IsLinkAt, joined_found, put}
 use Rattle.mg_revtree.specs.Known.{AreBelow, parent_below, with_link, with_links}
 use Rattle.mg_revtree.proofs.Same.{two, same_is, apart, revision_total}
 use Rattle.mg_revtree.proofs.Find.{below_none}
 use Rattle.mg_revtree.proofs.Joins.{known-append, or_else_assoc, parent-append, unknown_parent}
 use Rattle.mg_revtree.proofs.Rooms.{sorted_front}
 
--- what is kept of a revision, given what older links keep of it and what newer ones do
+-- what both lists say of a revision, from what the older one says and what the newer one says
 abbrev kept_by_both : Option (Option Revision) → Option (Option Revision) → Option (Option Revision)
 kept_by_both o None = o
 kept_by_both o (Some q) = joined_found o q
@@ -24,15 +24,15 @@ reversed a b h = revision_total.antisymm b a ∙ ap ordering_reverse h
 
 -- ---- one more link
 
--- put where it goes
-pub gap_with : (l : Link) (ls : List Link) (i : ℕ) → IsGap l.rev ls i → take i ls ++ l ∷ drop i ls ≡ with_link l ls
+-- a link that is inserted at its gap
+pub gap_with : (l : Link) (ls : List Link) (i : ℕ) → BelongsAt l.rev ls i → take i ls ++ l ∷ drop i ls ≡ with_link l ls
 gap_with l [] zero h = refl
 gap_with l (m ∷ ms) zero h = let e : revision_order l.rev m.rev ≡ Less = h.0 in rw e refl
 gap_with l [] (suc i) h = absurd h
 gap_with l (m ∷ ms) (suc i) h = let e : revision_order l.rev m.rev ≡ Greater = reversed m.rev l.rev h.0 in rw e (ap (λ xs. m ∷ xs) (gap_with l ms i h.1))
 
 -- those before it are below it
-pub gap_above : (r : Revision) (ls : List Link) (i : ℕ) → IsGap r ls i → AreBelow r (take i ls)
+pub gap_above : (r : Revision) (ls : List Link) (i : ℕ) → BelongsAt r ls i → AreBelow r (take i ls)
 gap_above r [] zero h = tt
 gap_above r (l ∷ ls) zero h = tt
 gap_above r [] (suc i) h = absurd h
@@ -52,7 +52,7 @@ same_equal a b h = go (revision_order a b) refl
     go Equal e = refl
     go Greater e = absurd (let f : is_eq (revision_order a b) ≡ false = ap is_eq e in cc)
 
--- joined to the one of its revision
+-- a link that is joined to the link of its revision
 pub place_with : (l x : Link) (ls : List Link) (i : ℕ) → AreSorted ls → IsLinkAt l.rev ls i → x ≡ get_or ls i x → take i ls ++ record x { parent = option_or x.parent l.parent } ∷ drop (suc i) ls ≡ with_link l ls
 place_with l x [] i s place is = absurd place
 place_with l x (m ∷ ms) zero s place is =
@@ -104,7 +104,7 @@ sorted_with l (m ∷ ms) s = go (revision_order l.rev m.rev) refl (sorted_with l
     go Equal e more = s
     go Greater e more = (below_with m.rev l ms (revision_total.antisymm m.rev l.rev ∙ ap ordering_reverse e) s.0, more)
 
--- what is kept of each revision
+-- what is found of each revision after one more link
 find_with : (l : Link) (ls : List Link) → AreSorted ls → (r : Revision) → find r (with_link l ls) ≡ put l r (find r ls)
 find_with l [] s r = elim (two (same_revision r l.rev)) [ inl t ↦ rw t refl | inr f ↦ rw f refl ]
 find_with l (m ∷ ms) s r = go (revision_order l.rev m.rev) refl (find_with l ms s.1 r)
@@ -144,7 +144,7 @@ find_all older (l ∷ newer) s n r =
       | inr f ↦ rw f refl
     ]
 
--- one more of them
+-- one more of the newer links
 pub with_more : (older newer : List Link) (l : Link) → with_link l (with_links older newer) ≡ with_links older (newer ++ l ∷ [])
 with_more older [] l = refl
 with_more older (m ∷ newer) l = with_more (with_link m older) newer l
@@ -167,7 +167,7 @@ with_after ls (l ∷ newer) s =
     let t : AreSorted ((ls ++ l ∷ []) ++ newer) = subst AreSorted (sym one) s in
     ap (λ xs. with_links xs newer) (with_last l ls (sorted_front (ls ++ l ∷ []) newer t)) ∙ with_after (ls ++ l ∷ []) newer t ∙ one
 
--- links in order, to none
+-- links in order, joined to the empty list
 with_none : (newer : List Link) → AreSorted newer → newer ≡ with_links [] newer
 with_none newer s = sym (with_after [] newer s)
 
@@ -185,7 +185,7 @@ or_none : {A : Type 0} (a : Option A) → a ≡ option_or a None
 or_none None = refl
 or_none (Some x) = refl
 
-self_same : (ls : List Link) → AreSorted ls → (r : Revision) → find r ls ≡ node r ls
+self_same : (ls : List Link) → AreSorted ls → (r : Revision) → find r ls ≡ known_parent r ls
 self_same [] s r = refl
 self_same (l ∷ ls) s r = elim (two (same_revision r l.rev)) [
   | inl t ↦
@@ -194,13 +194,13 @@ self_same (l ∷ ls) s r = elim (two (same_revision r l.rev)) [
   | inr f ↦ rw f (self_same ls s.1 r)
 ]
 
-pub nodes_self : (ls : List Link) → AreSorted ls → AreNodes ls ls
-nodes_self ls s = record { same = self_same ls s; sorted = s }
+pub known_links_self : (ls : List Link) → AreSorted ls → AreKnownLinks ls ls
+known_links_self ls s = record { same = self_same ls s; sorted = s }
 
 -- ---- two lists
 
-node-append : (r : Revision) (ls ms : List Link) → kept_by_both (node r ls) (node r ms) ≡ node r (ls ++ ms)
-node-append r ls ms = rw (known-append r ls ms, parent-append r ls ms) (elim (two (is_known r ls)) [
+known_parent-append : (r : Revision) (ls ms : List Link) → kept_by_both (known_parent r ls) (known_parent r ms) ≡ known_parent r (ls ++ ms)
+known_parent-append r ls ms = rw (known-append r ls ms, parent-append r ls ms) (elim (two (is_known r ls)) [
   | inl k ↦ elim (two (is_known r ms)) [
     | inl j ↦ rw (k, j) refl
     | inr j ↦ rw (k, j, unknown_parent r ms j) (ap Some (or_none (parent_of r ls)))
@@ -245,19 +245,19 @@ module _ (older newer all : List Link) (s : AreSorted older) (n : AreSorted newe
       some None = refl
       some (Some q) = refl
 
--- what is kept of a revision without a parent in the older list
+-- the parent of a flattened look-up is the flattened parent
 pub parent_flat : (n : ℕ) (o : Option (Option (Bor (List ℕ)))) → parent_below n (option_copied (option_flatten o)) ≡ option_flatten (option_map (λ p. parent_below n (option_copied p)) o)
 parent_flat n None = refl
 parent_flat n (Some p) = refl
 
--- a run joined to the newer ones
-pub nodes_newer : (older newer more ls run : List Link) → AreSorted older → AreSorted newer → AreNodes more (newer ++ run) → AreNodes (with_links older newer) ls → AreNodes (with_links older more) (ls ++ run)
-nodes_newer older newer more ls run s n m nodes = record {
+-- a run joined to the newer links is joined to all known revisions
+pub known_links_newer : (older newer more ls run : List Link) → AreSorted older → AreSorted newer → AreKnownLinks more (newer ++ run) → AreKnownLinks (with_links older newer) ls → AreKnownLinks (with_links older more) (ls ++ run)
+known_links_newer older newer more ls run s n m nodes = record {
   same = λ r.
       find_all older more s m.sorted r
-      ∙ ap (kept_by_both (find r older)) (m.same r ∙ sym (node-append r newer run) ∙ ap (λ o. kept_by_both o (node r run)) (sym (self_same newer n r)))
-      ∙ both_assoc (find r older) (find r newer) (node r run)
-      ∙ ap (λ o. kept_by_both o (node r run)) (sym (find_all older newer s n r) ∙ nodes.same r)
-      ∙ node-append r ls run;
+      ∙ ap (kept_by_both (find r older)) (m.same r ∙ sym (known_parent-append r newer run) ∙ ap (λ o. kept_by_both o (known_parent r run)) (sym (self_same newer n r)))
+      ∙ both_assoc (find r older) (find r newer) (known_parent r run)
+      ∙ ap (λ o. kept_by_both o (known_parent r run)) (sym (find_all older newer s n r) ∙ nodes.same r)
+      ∙ known_parent-append r ls run;
   sorted = sorted_all older more s;
 }

@@ -65,7 +65,7 @@ no_top h none r known f = leaf (marked r h) refl (leaf_marked r h known f)
     leaf None e s = let k : false ≡ true = sym (ap is_some e) ∙ s in cc
     leaf (Some m) e s = no_winner_leaf h (record { rev = r; deleted = m.0; body = m.1 }) none (rw (f, e) refl)
 
--- from a known revision up to one that is nobody's parent
+-- a climb from a known revision to its children ends at one that is nobody's parent
 climbs : (h : Paths) → AllFall h → winner_of h ≡ None → (fuel : ℕ) (r : Revision) → is_known r (all_links h) ≡ true → top (all_links h) ≤ r.0 + fuel → ⊥
 climbs h fall none zero r known le = elim (two (has_child r (all_links h))) [
   | inr f ↦ no_top h none r known f

@@ -48,7 +48,7 @@ leaf_in-with l (y ∷ ls) none r =
 
 -- ---- leaves of different revisions
 
--- fewer leaves have no more revisions
+-- a revision that is not among some leaves is not among fewer of them
 pub none-filter : (p : Leaf → Bool) (r : Revision) (ls : List Leaf) → leaf_in r ls ≡ None → leaf_in r (filter p ls) ≡ None
 none-filter p r [] e = refl
 none-filter p r (l ∷ ls) e = elim (two (same_revision r l.rev)) [
@@ -83,7 +83,7 @@ apart-with l (m ∷ ls) h none =
     go Equal e f first rest = absurd (untied l m f e)
     go Greater e f first rest = rw e (none, h)
 
--- what is looked up among the leaves that a test keeps, where all are of different revisions
+-- among the leaves that a test keeps, a look-up finds what it finds among all, if that passes the test
 pub leaf_in-kept : (p : Leaf → Bool) (r : Revision) (ls : List Leaf) → AreApart ls → leaf_in r (filter p ls) ≡ option_and_then (λ m. if p (record { rev = r; deleted = m.0; body = m.1 }) then Some m else None) (leaf_in r ls)
 leaf_in-kept p r [] h = refl
 leaf_in-kept p r (l ∷ ls) h = elim (two (same_revision r l.rev)) [

@@ -61,7 +61,7 @@ same_list (x ∷ xs) (y ∷ ys) h k there back =
     let rest : xs ≡ ys = same_list xs ys h.1 k.1 (λ l a. inside x y l xs ys e h.0 a (there l (inr a))) (λ l a. inside y x l ys xs (sym e) k.0 a (back l (inr a))) in
     ap (λ z. z ∷ xs) e ∙ ap (λ zs. y ∷ zs) rest
 
--- what lists say of each revision decides them
+-- two ranked lists are equal if they say the same of each revision
 pub decided : (xs ys : List Leaf) → AreApart xs → AreApart ys → AreRanked xs → AreRanked ys → ((r : Revision) → leaf_in r xs ≡ leaf_in r ys) → xs ≡ ys
 decided xs ys a b h k same = same_list xs ys h k
     (λ l i. is_in l ys (sym (same l.rev) ∙ of_apart l xs a i))
@@ -147,7 +147,7 @@ are_leaves h =
 pub leaves_list : (h : Paths) (ls : List Leaf) → AreLeaves h ls → ls ≡ leaves_of h
 leaves_list h ls is = let has = are_leaves h in decided ls (leaves_of h) is.apart has.apart is.ranked has.ranked (λ r. is.same r ∙ sym (has.same r))
 
--- a leaf that is kept stands among those that are kept
+-- if a test keeps a leaf of a list, the kept leaves are not empty
 pub kept_somewhere : (keep : Leaf → Bool) (ls : List Leaf) (i : ℕ) (l : Leaf) → i < length ls → keep l ≡ true → l ≡ get_or ls i l → filter keep ls ≡ [] → ⊥
 kept_somewhere keep [] i l lt holds is none = omega (arith, lt)
 kept_somewhere keep (m ∷ ms) zero l lt holds is none = let t : keep m ≡ true = ap keep (sym is) ∙ holds in let f : m ∷ filter keep ms ≡ [] = rw t at none in cc

@@ -28,7 +28,7 @@ ranked_at (x ∷ ls) i zero d lt within h = absurd (omega arith)
 ranked_at (x ∷ ls) zero (suc j) d lt within h = before_at x ls j d (omega arith) h.0
 ranked_at (x ∷ ls) (suc i) (suc j) d lt within h = ranked_at ls i j d (omega arith) (omega arith) h.1
 
--- where b is worse than a, k compares with it no lower
+-- if b is worse than a, the order of k against b is not less than that against a
 rises : (k a b : Leaf) → leaf_order b a ≡ Less → ordering_index (leaf_order k a) ≤ ordering_index (leaf_order k b)
 rises k a b lt = go (leaf_order k a) refl
   where
@@ -63,14 +63,14 @@ between_found k [] (suc i) le h = absurd (omega arith)
 between_found k (x ∷ ls) (suc i) le h =
     (h.0 0 x (omega arith) (omega arith), between_found k ls i (omega arith) (λ j d lo hi. h.0 (suc j) d (omega arith) (omega arith), λ j d lo hi. h.1 (suc j) d (omega arith) (omega arith)))
 
--- what a binary search answers
+-- a binary search finds the place of a leaf that ties with k, or the place where k goes
 pub sought : (k : Leaf) (ls : List Leaf) (o : Result ℕ ℕ) → IsSearchInRange o (length ls) → IsBinarySearchResult (λ (x : Leaf). leaf_order k x) ls o → IfOk o (λ i. (i < length ls) × IsTied k ls i) × IfErr o (λ i. (i ≤ length ls) × (AreRanked ls → IsBetween k ls i))
 sought k ls (Ok i) bound by = ((bound, tied_found k ls i bound by), tt)
 sought k ls (Err i) bound by = (tt, (bound, λ h. between_found k ls i bound (by (rising k ls h))))
 
 -- ---- the leaf of a revision
 
--- one that ties is of the same revision
+-- a leaf that ties with k has the revision of k
 pub tied_at : (k : Leaf) (ls : List Leaf) (i : ℕ) → IsTied k ls i → IsLeafAt k.rev ls i
 tied_at k [] i h = absurd h
 tied_at k (l ∷ ls) zero h = tied_same k l h
@@ -89,7 +89,7 @@ no_tie : (k l : Leaf) (ls : List Leaf) (i : ℕ) → IsBetween k (l ∷ ls) i �
 no_tie k l ls zero h e = let g : leaf_order k l ≡ Greater = leaf_total.antisymm k l ∙ ap ordering_reverse h.0 in cc
 no_tie k l ls (suc i) h e = let g : leaf_order k l ≡ Less = h.0 in cc
 
--- the place among the rest
+-- a leaf that goes into a list goes into its rest
 rest_between : (k l : Leaf) (ls : List Leaf) (i : ℕ) → IsBetween k (l ∷ ls) i → (j : ℕ) × IsBetween k ls j
 rest_between k l ls zero h = (zero, h.1)
 rest_between k l ls (suc i) h = (i, h.1)
@@ -116,7 +116,7 @@ at_some r (l ∷ ls) (suc i) h = elim (two (same_revision r l.rev)) [ inl t ↦ 
 
 -- ---- a leaf taken away
 
--- leaves of other revisions
+-- without a leaf of r, all leaves have other revisions
 pub others_kept : (r : Revision) (ls : List Leaf) → leaf_in r ls ≡ None → ls ≡ filter (λ l. not (same_revision l.rev r)) ls
 others_kept r [] none = refl
 others_kept r (l ∷ ls) none = elim (two (same_revision r l.rev)) [
@@ -146,7 +146,7 @@ taken_away r (l ∷ ls) (suc i) h apart = elim (two (same_revision l.rev r)) [
 
 -- ---- the parents of a run taken away
 
--- the first parent, and then those of the rest
+-- to remove the parents of a run is to remove its first parent, and then those of the rest
 parents_of : (n : ℕ) (a b : List ℕ) (ids : List (List ℕ)) (ls : List Leaf) → filter (λ l. not (has_child l.rev (links (run_from n (a ∷ b ∷ ids))))) ls ≡ filter (λ l. not (has_child l.rev (links (run_from (n - 1) (b ∷ ids))))) (filter (λ l. not (same_revision l.rev (n - 1, b))) ls)
 parents_of n a b ids [] = refl
 parents_of n a b ids (l ∷ ls) = elim (two (same_revision l.rev (n - 1, b))) [
@@ -189,7 +189,7 @@ put_between l (m ∷ ls) zero h = let g : leaf_order l m ≡ Greater = leaf_tota
 put_between l [] (suc i) h = absurd h
 put_between l (m ∷ ls) (suc i) h = rw h.0 (ap (λ xs. m ∷ xs) (put_between l ls i h.1))
 
--- an optional place of a revision's leaf is there exactly where the revision is a leaf
+-- a search for a revision's leaf finds a place exactly if the revision is a leaf
 pub found_if_leaf : (r : Revision) (ls : List Leaf) (o : Option ℕ) → IfSome o (λ i. (i < length ls) × IsLeafAt r ls i) → IfNone o (AreRanked ls → leaf_in r ls ≡ None) → AreRanked ls → is_some o ≡ is_some (leaf_in r ls)
 found_if_leaf r ls None found absent h = sym (ap is_some (absent h))
 found_if_leaf r ls (Some i) found absent h = sym (at_some r ls i found.1)

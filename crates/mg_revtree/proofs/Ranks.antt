@@ -74,7 +74,7 @@ pub unpair : (a c : Bool) (b d : Value) → ◌≡◌ {A = Option (Bool × Value
 unfolding mark_part
 unpair a c b d h = ap mark_part h
 
--- a leaf in a list is less than what is before the list
+-- a leaf in a list is worse than a leaf that goes before the whole list
 pub in_less : (l m : Leaf) (ls : List Leaf) → BeforeAll l ls → leaf_in m.rev ls ≡ Some (m.deleted, m.body) → leaf_order m l ≡ Less
 in_less l m [] h e = cc
 in_less l m (x ∷ ls) h e = elim (two (same_revision m.rev x.rev)) [

@@ -107,7 +107,7 @@ same_parent r h g s one = go (parent_of r (all_links h)) (parent_of r (all_links
 abbrev mark_in : Path → Bool × Value
 mark_in p = (p.deleted, p.body)
 
--- a mark is that of a path
+-- the mark of a revision is that of some path
 marked_among : (r : Revision) (h : Paths) → is_some (marked r h) ≡ true → (p : Path) × Among p h × (is_this r (newest_of p.revs) ≡ true) × (marked r h ≡ Some (mark_in p))
 marked_among r [] e = cc
 marked_among r (q ∷ h) e = elim (two (is_this r (newest_of q.revs))) [
@@ -266,9 +266,9 @@ pub whole_stands : (t : Tree) (h : Paths) (rs : List Revision) (d : Bool) (b : V
 whole_stands t h rs d b e s =
     let same = known_changes_nothing h (path_of rs d b) e in
     record {
-      nodes = record {
-        same = λ r. s.nodes.same r ∙ sym (ap (λ k. if k then Some (parent_of r (all_links h)) else None) (same.known r)) ∙ sym (ap (λ p. if is_known r (all_links (with_path h (path_of rs d b))) then Some p else None) (same.parents r));
-        sorted = s.nodes.sorted;
+      known = record {
+        same = λ r. s.known.same r ∙ sym (ap (λ k. if k then Some (parent_of r (all_links h)) else None) (same.known r)) ∙ sym (ap (λ p. if is_known r (all_links (with_path h (path_of rs d b))) then Some p else None) (same.parents r));
+        sorted = s.known.sorted;
       };
       leaves = record {
         same = λ r. s.leaves.same r ∙ sym (same.leaves r);

@@ -11,14 +11,14 @@ use Rattle.std.proofs.lemmas.Bool.Decides.{nat_tests}
 use Rattle.mg_revtree.specs.Revision.{Revision, revision_order, run_from}
 use Rattle.std.specs.Option.{option_or}
 use Rattle.mg_revtree.specs.History.{Link, links, newest_of}
-use Rattle.mg_revtree.specs.Tree.{AreNodes, AreSorted, IsBelow, find, node}
-use Rattle.mg_revtree.specs.Steps.{IsGap, IsLinkAt, put}
-use Rattle.mg_revtree.specs.Nodes.{AreWithin, LiesWithin, NodeWithin, ParentWithin, PartsWithin, link_in, links_in, text_of_part}
+use Rattle.mg_revtree.specs.Tree.{AreKnownLinks, AreSorted, IsBelow, find, known_parent}
+use Rattle.mg_revtree.specs.Steps.{BelongsAt, IsLinkAt, put}
+use Rattle.mg_revtree.specs.Nodes.{NodesWithin, LiesWithin, NodeWithin, ParentWithin, PartsWithin, link_in, links_in, text_of_part}
 use Rattle.mg_revtree.specs.Room.{AreFrom, Joins, used}
 use Rattle.mg_revtree.specs.declared.links.node.Node.{Node}
 use Rattle.mg_revtree.specs.declared.links.node.IdPart.{IdPart}
 use Rattle.mg_revtree.proofs.Find.{find-insert, gap_none, sorted-insert}
-use Rattle.mg_revtree.proofs.Joins.{node-put-before}
+use Rattle.mg_revtree.proofs.Joins.{known_parent-put-before}
 use Rattle.mg_revtree.proofs.Texts.{find-joined, map-insert, part-within, sorted-joined, within-joined}
 
 -- ---- a node put into a room
@@ -94,19 +94,19 @@ below_append : (r : Revision) (ls ms : List Link) → IsBelow r ls → IsBelow r
 below_append r [] ms h k = k
 below_append r (l ∷ ls) ms h k = (h.0, below_append r ls ms h.1 k)
 
--- the place where a revision would go among the first links is that among all, if the revision is below the others
-pub gap_append : (r : Revision) (ls ms : List Link) (i : ℕ) → IsGap r ls i → IsBelow r ms → IsGap r (ls ++ ms) i
+-- if a revision is below the last links, it goes to the same place among all links as among the first ones
+pub gap_append : (r : Revision) (ls ms : List Link) (i : ℕ) → BelongsAt r ls i → IsBelow r ms → BelongsAt r (ls ++ ms) i
 gap_append r ls ms zero h k = below_append r ls ms h k
 gap_append r [] ms (suc i) h k = absurd h
 gap_append r (l ∷ ls) ms (suc i) h k = (h.0, gap_append r ls ms i h.1 k)
 
-gap_below : (r : Revision) (ls : List Link) (i : ℕ) → IsGap r ls i → IsBelow r (drop i ls)
+gap_below : (r : Revision) (ls : List Link) (i : ℕ) → BelongsAt r ls i → IsBelow r (drop i ls)
 gap_below r ls zero h = h
 gap_below r [] (suc i) h = absurd h
 gap_below r (l ∷ ls) (suc i) h = gap_below r ls i h.1
 
--- what goes after a revision is at its position or above
-pub gap_from : (r : Revision) (ls : List Link) (i : ℕ) → IsGap r ls i → AreFrom r.0 (drop i ls)
+-- the links after the gap of a revision are at its position or above
+pub gap_from : (r : Revision) (ls : List Link) (i : ℕ) → BelongsAt r ls i → AreFrom r.0 (drop i ls)
 gap_from r ls i h = below_from r (drop i ls) (gap_below r ls i h)
 
 -- the first links of sorted ones are sorted
@@ -125,13 +125,13 @@ sorted_back (l ∷ ls) ms h = sorted_back ls ms h.1
 
 -- ---- one more link
 
--- what is kept after one more link
-pub node-put : (r : Revision) (ls : List Link) (l : Link) → put l r (node r ls) ≡ node r (ls ++ l ∷ [])
-node-put r ls l = subst (λ (ks : List Link). put l r (node r ks) ≡ node r (ls ++ l ∷ [])) (append-nil ls) (node-put-before r ls [] l refl)
+-- the known parent after one more link
+pub known_parent-put : (r : Revision) (ls : List Link) (l : Link) → put l r (known_parent r ls) ≡ known_parent r (ls ++ l ∷ [])
+known_parent-put r ls l = subst (λ (ks : List Link). put l r (known_parent r ks) ≡ known_parent r (ls ++ l ∷ [])) (append-nil ls) (known_parent-put-before r ls [] l refl)
 
-pub nodes-put : (l : Link) (old new ls : List Link) → AreNodes old ls → ((r : Revision) → find r new ≡ put l r (find r old)) → AreSorted new → AreNodes new (ls ++ l ∷ [])
-nodes-put l old new ls nodes puts sorted = record {
-  same = λ r. puts r ∙ ap (put l r) (nodes.same r) ∙ node-put r ls l;
+pub known_links-put : (l : Link) (old new ls : List Link) → AreKnownLinks old ls → ((r : Revision) → find r new ≡ put l r (find r old)) → AreSorted new → AreKnownLinks new (ls ++ l ∷ [])
+known_links-put l old new ls nodes puts sorted = record {
+  same = λ r. puts r ∙ ap (put l r) (nodes.same r) ∙ known_parent-put r ls l;
   sorted = sorted;
 }
 
@@ -142,12 +142,12 @@ module _ (t : List ℕ) (x : Node) (ns : List Node) (till from : ℕ) where
   links_used = map-append (link_in t) (take till ns) (drop from ns)
 
   -- put where it goes
-  pub joins_put : (at : ℕ) (new after : List Node) → (AreSorted (map (link_in t) (take till ns)) → IsGap (link_in t x).rev (map (link_in t) (take till ns)) at) → new ≡ insert (used ns till from) at x → after ≡ x ∷ drop at (used ns till from) → AreSorted (map (link_in t) (used ns till from)) → AreFrom (x.pos + 1) (map (link_in t) (drop from ns)) → Joins t x (used ns till from) new after
+  pub joins_put : (at : ℕ) (new after : List Node) → (AreSorted (map (link_in t) (take till ns)) → BelongsAt (link_in t x).rev (map (link_in t) (take till ns)) at) → new ≡ insert (used ns till from) at x → after ≡ x ∷ drop at (used ns till from) → AreSorted (map (link_in t) (used ns till from)) → AreFrom (x.pos + 1) (map (link_in t) (drop from ns)) → Joins t x (used ns till from) new after
   joins_put at new after gaps is after_is sorted above =
       let ls = map (link_in t) (take till ns) in
       let ms = map (link_in t) (drop from ns) in
       let front : AreSorted ls = sorted_front ls ms (subst AreSorted links_used sorted) in
-      let gap : IsGap (link_in t x).rev (map (link_in t) (used ns till from)) at = subst (λ (ks : List Link). IsGap (link_in t x).rev ks at) (sym links_used) (gap_append (link_in t x).rev ls ms at (gaps front) (from_above x.pos (text_of_part t x.id) ms above)) in
+      let gap : BelongsAt (link_in t x).rev (map (link_in t) (used ns till from)) at = subst (λ (ks : List Link). BelongsAt (link_in t x).rev ks at) (sym links_used) (gap_append (link_in t x).rev ls ms at (gaps front) (from_above x.pos (text_of_part t x.id) ms above)) in
       let all = map (link_in t) (used ns till from) in
       let place : map (link_in t) new ≡ insert all at (link_in t x) = ap (map (link_in t)) is ∙ map-insert (link_in t) (used ns till from) at x in
       record {
@@ -193,25 +193,25 @@ module _ (t : List ℕ) (x : Node) (ns : List Node) (till from : ℕ) where
           above = subst (λ (ys : List Node). AreFrom x.pos (map (link_in t) ys)) (sym (drop-set-lt from ns at now (omega (arith, below_till)))) (from_less x.pos ms above);
         }
 
-    pub within_known : (n : ℕ) → AreWithin n (used ns till from) → NodeWithin n x → AreWithin n (used (set ns at now) till from)
-    within_known n h w = subst (AreWithin n) (sym used_set) (within-joined t x kept now (used ns till from) at below_used kept_used now_is n h w)
+    pub within_known : (n : ℕ) → NodesWithin n (used ns till from) → NodeWithin n x → NodesWithin n (used (set ns at now) till from)
+    within_known n h w = subst (NodesWithin n) (sym used_set) (within-joined t x kept now (used ns till from) at below_used kept_used now_is n h w)
 
 -- ---- a run joined, newest first
 
 -- the links so far, which the nodes stand for, and what is left of the run
 pub record Goes (t : List ℕ) (start : ℕ) (ps : List IdPart) (i pos : ℕ) (now after : List Node) (ls : List Link) : Type 0 where
   pub so_far : List Link
-  pub nodes : AreNodes (links_in t now) so_far
+  pub nodes : AreKnownLinks (links_in t now) so_far
   pub rest : ls ++ links (run_from start (map (text_of_part t) ps)) ≡ so_far ++ links (run_from pos (map (text_of_part t) (drop i ps)))
   pub above : AreFrom (start + 1 - i) (links_in t after)
 
 module _ (t : List ℕ) (start : ℕ) (ps : List IdPart) where
-  pub goes_first : (ns : List Node) (known : ℕ) (ls : List Link) → AreNodes (links_in t (take known ns)) ls → Goes t start ps 0 start (used ns known (length ns)) (drop (length ns) ns) ls
+  pub goes_first : (ns : List Node) (known : ℕ) (ls : List Link) → AreKnownLinks (links_in t (take known ns)) ls → Goes t start ps 0 start (used ns known (length ns)) (drop (length ns) ns) ls
   goes_first ns known ls nodes =
       let none : drop (length ns) ns ≡ [] = drop_all (length ns) ns (omega arith) in
       record {
         so_far = ls;
-        nodes = rw none (subst (λ (ks : List Node). AreNodes (links_in t ks) ls) (sym (append-nil (take known ns))) nodes);
+        nodes = rw none (subst (λ (ks : List Node). AreKnownLinks (links_in t ks) ls) (sym (append-nil (take known ns))) nodes);
         rest = refl;
         above = rw none tt;
       }
@@ -231,23 +231,23 @@ module _ (t : List ℕ) (start : ℕ) (ps : List IdPart) where
       ap (λ (qs : List IdPart). links (run_from pos (map (text_of_part t) qs))) (drop_more ps i x.id lt) ∙ ap (λ (l : Link). l ∷ links rest) head in
       record {
         so_far = g.so_far ++ link_in t x ∷ [];
-        nodes = nodes-put (link_in t x) (links_in t now) (links_in t new) g.so_far g.nodes j.kept j.sorted;
+        nodes = known_links-put (link_in t x) (links_in t now) (links_in t new) g.so_far g.nodes j.kept j.sorted;
         rest = g.rest ∙ ap (λ ks. g.so_far ++ ks) split ∙ sym (append_assoc g.so_far (link_in t x ∷ []) (links rest));
         above = subst (λ (n : ℕ). AreFrom n (links_in t later)) down j.above;
       }
 
-  pub goes_last : (i pos : ℕ) (now after : List Node) (ls : List Link) → Goes t start ps i pos now after ls → length ps ≤ i → AreNodes (links_in t now) (ls ++ links (run_from start (map (text_of_part t) ps)))
+  pub goes_last : (i pos : ℕ) (now after : List Node) (ls : List Link) → Goes t start ps i pos now after ls → length ps ≤ i → AreKnownLinks (links_in t now) (ls ++ links (run_from start (map (text_of_part t) ps)))
   goes_last i pos now after ls g past =
       let none : drop i ps ≡ [] = drop_all i ps past in
       let all : ls ++ links (run_from start (map (text_of_part t) ps)) ≡ g.so_far = g.rest ∙ ap (λ (qs : List IdPart). g.so_far ++ links (run_from pos (map (text_of_part t) qs))) none ∙ append-nil g.so_far in
-      subst (AreNodes (links_in t now)) (sym all) g.nodes
+      subst (AreKnownLinks (links_in t now)) (sym all) g.nodes
 
--- the parent that is read of a run is within its parts
+-- the part that is read at place i ends within n bytes, as all parts do
 pub got_within : (n : ℕ) (ps : List IdPart) (i : ℕ) (r : Option (Bor IdPart)) → MatchOption r (length ps ≤ i) (λ x. (i < length ps) × HoldsAt (λ y. x.now ≡ y) ps i) → PartsWithin n ps → ParentWithin n (option_copied r)
 got_within n ps i None h w = tt
 got_within n ps i (Some x) h w = subst (LiesWithin n) (sym (h.1 x.now)) (part-within n ps i x.now h.0 w)
 
--- the first items of a vector that was made longer
+-- a vector that was made longer keeps its first items
 pub resized : {A E : Type 0} (xs : List A) (known n : ℕ) (more ys : List A) (r : Result (Unit {0}) E) → known ≡ length xs → known ≤ n → ys ≡ (if is_ok r then take n xs ++ more else xs) → take known ys ≡ xs
 resized xs known n more ys (Ok u) e le is =
     let all : take n xs ≡ xs = take_all n xs (omega (arith, e)) in

@@ -50,7 +50,7 @@ no_child n (a ∷ b ∷ ids) r le fits = elim (two (same_revision r (n - 1, b)))
   | inr f ↦ rw f (no_child (n - 1) (b ∷ ids) r (omega arith) (omega arith))
 ]
 
--- the parent at a revision's position is the only one that can be it
+-- a revision is a parent in a run exactly if it is the parent that the run has at its position
 pub child_at : (n : ℕ) (ids : List (List ℕ)) (r : Revision) (k : ℕ) (d : List ℕ) → r.0 + k + 1 ≡ n → k + 1 < length ids → length ids ≤ n + 1 → has_child r (links (run_from n ids)) ≡ same_revision r (r.0, get_or ids (suc k) d)
 child_at n [] r k d at lt fits = absurd (omega arith)
 child_at n (a ∷ []) r k d at lt fits = absurd (omega arith)
@@ -105,12 +105,12 @@ pub newest_is : {X : Type 0} (f : X → List ℕ) (n : ℕ) (xs : List X) (x : X
 newest_is f n [] x lt is = absurd (omega arith)
 newest_is f n (y ∷ xs) x lt is = ap (λ (z : _). Some (n, f z)) (sym is)
 
--- what is read after place i is the newest of the rest
+-- the item that is read at place i is the newest of the rest of the run
 pub newest_got : {X : Type 0} (f : X → List ℕ) (n : ℕ) (xs : List X) (i : ℕ) (r : Option (Bor X)) → MatchOption r (length xs ≤ i) (λ x. (i < length xs) × HoldsAt (λ y. x.now ≡ y) xs i) → option_map {U = Revision} (λ p. (n, f p)) (option_copied r) ≡ newest_of (run_from n (map f (drop i xs)))
 newest_got f n xs i None le = rw (drop_all i xs le) refl
 newest_got f n xs i (Some x) h = rw (drop_more xs i x.now h.0) (ap (λ (s : List ℕ). (let q : Option Revision = Some (n, s) in q)) (ap f (h.1 x.now)))
 
--- a test of each link of a run that holds of the first is the test of the rest
+-- a test of all links from place i on is that of the link at place i and that of the rest
 pub all-next : {X : Type 0} (P : Link → Bool) (f : X → List ℕ) (n : ℕ) (xs : List X) (i : ℕ) (x : X) (o : Option Revision) → i < length xs → x ≡ get_or xs i x → o ≡ newest_of (run_from (n - 1) (map f (drop (i + 1) xs))) → (b : Bool) → P (record { rev = (n, f x); parent = o }) ≡ b → list_all P (links (run_from n (map f (drop i xs)))) ≡ b && list_all P (links (run_from (n - 1) (map f (drop (i + 1) xs))))
 all-next {X} P f n xs i x o lt is newest b holds =
     let rest = run_from (n - 1) (map f (drop (i + 1) xs)) in

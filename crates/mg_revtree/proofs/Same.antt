@@ -36,14 +36,14 @@ same_is a b h =
 pub same_refl : (a : Revision) → same_revision a a ≡ true
 same_refl a = rw (nat_equal_refl a.0) (is_eq-slice_cmp a.1 a.1 ∙ (bytes_eq-Decides a.1 a.1).1 refl)
 
--- two revisions at one position are the same where their ids are
+-- two revisions at one position are the same exactly if their ids are
 pub same_at : (r : Revision) (s : List ℕ) → same_revision r (r.0, s) ≡ is_eq (slice_cmp nat_cmp r.1 s)
 same_at r s = rw (nat_equal_refl r.0) refl
 
 pub revision_total : IsTotalOrder revision_order
 revision_total = then_total (on_total (λ (r : Revision). r.0) nat_cmp_total) (on_total (λ (r : Revision). r.1) nat_list_cmp_total)
 
--- a revision that is less is another
+-- a revision that is less than r is not r
 pub less_apart : (a r : Revision) → revision_order a r ≡ Less → same_revision r a ≡ false
 less_apart a r h = ap is_eq (revision_total.antisymm r a ∙ ap ordering_reverse h)
 

@@ -4,7 +4,7 @@ use Rattle.mg_value.specs.Value.{Value}
 use Rattle.mg_revtree.specs.Revision.{Revision, same_revision}
 use Rattle.std.specs.Option.{option_or}
 use Rattle.mg_revtree.specs.History.{Link, Leaf, Path, Paths, is_known, has_child, is_this, newest_of, links, all_links, marked, leaf_at, ranked_with}
-use Rattle.mg_revtree.specs.Tree.{StandsFor, AreNodes, node, find, leaf_in}
+use Rattle.mg_revtree.specs.Tree.{StandsFor, AreKnownLinks, known_parent, find, leaf_in}
 use Rattle.mg_revtree.specs.Changes.{path_of, with_path}
 use Rattle.mg_revtree.proofs.Same.{two, same_is}
 use Rattle.mg_revtree.proofs.Runs.{IsRun}
@@ -12,7 +12,7 @@ use Rattle.mg_revtree.proofs.Joins.{has_child-append, all_links-append}
 use Rattle.mg_revtree.proofs.Ranks.{are_ranked-filter, are_ranked-with}
 use Rattle.mg_revtree.proofs.Leaves.{apart-filter, apart-with, leaf_in-filter, leaf_in-with, child_known, unknown_unmarked, leaf_marked}
 
--- what the newest path says, if no other does
+-- the mark and body that a path gives a revision: its own, if the revision is its newest
 abbrev pub mark_of : Revision → Path → Option (Bool × Value)
 mark_of r p = if is_this r (newest_of p.revs) then Some (p.deleted, p.body) else None
 
@@ -60,7 +60,7 @@ module _ (h : Paths) (p : Path) (q : Revision) (newest : newest_of p.revs ≡ So
     ]
   ])
 
-  -- the newest was unknown: no leaf, and then one
+  -- the newest was unknown: it was not a leaf, and becomes one
   pub unknown_no_leaf : is_known q (all_links h) ≡ false → leaf_in q (filter (λ l. not (has_child l.rev (links p.revs))) ls) ≡ None
   unknown_no_leaf k = rw (kept_leaf q, unknown_unmarked q h k) (elim (two (has_child q (links p.revs))) [
     | inl t ↦ rw t refl
@@ -91,18 +91,18 @@ module _ (h : Paths) (p : Path) (q : Revision) (newest : newest_of p.revs ≡ So
 
 -- ---- a merge
 
-pub found_known : (q : Revision) (ls ks : List Link) → find q ks ≡ node q ls → is_some (find q ks) ≡ is_known q ls
+pub found_known : (q : Revision) (ls ks : List Link) → find q ks ≡ known_parent q ls → is_some (find q ks) ≡ is_known q ls
 found_known q ls ks e = rw e (elim (two (is_known q ls)) [ inl t ↦ rw t refl | inr f ↦ rw f refl ])
 
-module _ (h : Paths) (rs : List Revision) (d : Bool) (b : Value) (q : Revision) (kept nodes : List Link) (leaves left : List Leaf) (newest : newest_of rs ≡ Some q) (stands : StandsFor (record { links = kept; leaves = leaves }) h) (joined : AreNodes nodes (all_links h ++ links rs)) (unleafed : left ≡ filter (λ l. not (has_child l.rev (links rs))) leaves) where
-  nodes_next : AreNodes nodes (all_links (h ++ path_of rs d b ∷ []))
-  nodes_next = subst (λ (ls : List Link). AreNodes nodes ls) (sym (all_links-one h (path_of rs d b))) joined
+module _ (h : Paths) (rs : List Revision) (d : Bool) (b : Value) (q : Revision) (kept nodes : List Link) (leaves left : List Leaf) (newest : newest_of rs ≡ Some q) (stands : StandsFor (record { links = kept; leaves = leaves }) h) (joined : AreKnownLinks nodes (all_links h ++ links rs)) (unleafed : left ≡ filter (λ l. not (has_child l.rev (links rs))) leaves) where
+  known_links_next : AreKnownLinks nodes (all_links (h ++ path_of rs d b ∷ []))
+  known_links_next = subst (λ (ls : List Link). AreKnownLinks nodes ls) (sym (all_links-one h (path_of rs d b))) joined
 
   pub stands_known : is_some (find q kept) ≡ true → StandsFor (record { links = nodes; leaves = left }) (with_path h (path_of rs d b))
   stands_known k = record {
-    nodes = nodes_next;
+    known = known_links_next;
     leaves = record {
-      same = λ r. rw unleafed (leaves-known h (path_of rs d b) q newest leaves stands.leaves.same (sym (found_known q (all_links h) kept (stands.nodes.same q)) ∙ k) r);
+      same = λ r. rw unleafed (leaves-known h (path_of rs d b) q newest leaves stands.leaves.same (sym (found_known q (all_links h) kept (stands.known.same q)) ∙ k) r);
       apart = rw unleafed (apart-filter (λ l. not (has_child l.rev (links rs))) leaves stands.leaves.apart);
       ranked = rw unleafed (are_ranked-filter (λ l. not (has_child l.rev (links rs))) leaves stands.leaves.ranked);
     };
@@ -111,10 +111,10 @@ module _ (h : Paths) (rs : List Revision) (d : Bool) (b : Value) (q : Revision) 
   pub stands_new : is_some (find q kept) ≡ false → IsRun rs → (more : List Leaf) → more ≡ ranked_with (record { rev = q; deleted = d; body = b }) left → StandsFor (record { links = nodes; leaves = more }) (with_path h (path_of rs d b))
   stands_new k run more is_more =
       let l : Leaf = record { rev = q; deleted = d; body = b } in
-      let u : is_known q (all_links h) ≡ false = sym (found_known q (all_links h) kept (stands.nodes.same q)) ∙ k in
+      let u : is_known q (all_links h) ≡ false = sym (found_known q (all_links h) kept (stands.known.same q)) ∙ k in
       let none : leaf_in q left ≡ None = rw unleafed (unknown_no_leaf h (path_of rs d b) q newest leaves stands.leaves.same u) in
       record {
-        nodes = nodes_next;
+        known = known_links_next;
         leaves = record {
           same = λ r. rw is_more (leaf_in-with l left none r ∙ rw unleafed (leaves-new h (path_of rs d b) q newest leaves stands.leaves.same run u r));
           apart = rw is_more (apart-with l left (rw unleafed (apart-filter (λ x. not (has_child x.rev (links rs))) leaves stands.leaves.apart)) none);

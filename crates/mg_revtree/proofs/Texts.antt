@@ -5,7 +5,7 @@ use Rattle.std.proofs.lemmas.List.{map-set, get_or-map, take-append-le, drop-app
 use Rattle.mg_revtree.specs.Revision.{Revision}
 use Rattle.std.specs.Option.{option_or}
 use Rattle.mg_revtree.specs.Tree.{AreSorted, find}
-use Rattle.mg_revtree.specs.Nodes.{text_of_part, link_in, LiesWithin, ParentWithin, NodeWithin, AreWithin, PartsWithin, Grows}
+use Rattle.mg_revtree.specs.Nodes.{text_of_part, link_in, LiesWithin, ParentWithin, NodeWithin, NodesWithin, PartsWithin, IsExtendedBy}
 use Rattle.mg_revtree.specs.Steps.{put, IsLinkAt}
 use Rattle.mg_revtree.specs.Known.{parent_below}
 use Rattle.mg_revtree.specs.declared.links.node.IdPart.{IdPart}
@@ -25,7 +25,7 @@ module _ (xs ys : List ℕ) where
   pub link-grown : (x : Node) → NodeWithin (length xs) x → link_in (xs ++ ys) x ≡ link_in xs x
   link-grown x h = rw (part-grown x.id h.0, parent-grown x.pos x.parent h.1) refl
 
-  pub links-grown : (ns : List Node) → AreWithin (length xs) ns → map (link_in (xs ++ ys)) ns ≡ map (link_in xs) ns
+  pub links-grown : (ns : List Node) → NodesWithin (length xs) ns → map (link_in (xs ++ ys)) ns ≡ map (link_in xs) ns
   links-grown [] h = refl
   links-grown (x ∷ ns) h = rw (link-grown x h.0, links-grown ns h.1) refl
 
@@ -40,7 +40,7 @@ module _ (m n : ℕ) (le : m ≤ n) where
   parent-more None h = tt
   parent-more (Some p) h = omega arith
 
-  pub within-more : (ns : List Node) → AreWithin m ns → AreWithin n ns
+  pub within-more : (ns : List Node) → NodesWithin m ns → NodesWithin n ns
   within-more [] h = tt
   within-more (x ∷ ns) h = ((omega (arith, h.0.0), parent-more x.parent h.0.1), within-more ns h.1)
 
@@ -57,17 +57,17 @@ part-within n [] i d lt h = absurd (omega arith)
 part-within n (p ∷ ps) zero d lt h = h.0
 part-within n (p ∷ ps) (suc i) d lt h = part-within n ps i d (omega arith) h.1
 
-pub node-within : (n : ℕ) (ns : List Node) (i : ℕ) (d : Node) → i < length ns → AreWithin n ns → NodeWithin n (get_or ns i d)
+pub node-within : (n : ℕ) (ns : List Node) (i : ℕ) (d : Node) → i < length ns → NodesWithin n ns → NodeWithin n (get_or ns i d)
 node-within n [] i d lt h = absurd (omega arith)
 node-within n (x ∷ ns) zero d lt h = h.0
 node-within n (x ∷ ns) (suc i) d lt h = node-within n ns i d (omega arith) h.1
 
-pub within-set : (n : ℕ) (ns : List Node) (i : ℕ) (x : Node) → NodeWithin n x → AreWithin n ns → AreWithin n (set ns i x)
+pub within-set : (n : ℕ) (ns : List Node) (i : ℕ) (x : Node) → NodeWithin n x → NodesWithin n ns → NodesWithin n (set ns i x)
 within-set n [] i x w h = tt
 within-set n (y ∷ ns) zero x w h = (w, h.1)
 within-set n (y ∷ ns) (suc i) x w h = (h.0, within-set n ns i x w h.1)
 
-pub within-insert : (n : ℕ) (ns : List Node) (i : ℕ) (x : Node) → NodeWithin n x → AreWithin n ns → AreWithin n (insert ns i x)
+pub within-insert : (n : ℕ) (ns : List Node) (i : ℕ) (x : Node) → NodeWithin n x → NodesWithin n ns → NodesWithin n (insert ns i x)
 within-insert n ns zero x w h = (w, h)
 within-insert n [] (suc i) x w h = (w, tt)
 within-insert n (y ∷ ns) (suc i) x w h = (h.0, within-insert n ns i x w h.1)
@@ -103,7 +103,7 @@ module _ (t : List ℕ) where
     pub sorted-joined : AreSorted (map (link_in t) ns) → AreSorted (map (link_in t) (set ns i now))
     sorted-joined h = rw (map-set (link_in t) ns i now) (sorted-set (link_in t kept) (link_in t now) (map (link_in t) ns) i kept_at (ap (λ x. (link_in t x).rev) joined) h)
 
-    pub within-joined : (n : ℕ) → AreWithin n ns → NodeWithin n given → AreWithin n (set ns i now)
+    pub within-joined : (n : ℕ) → NodesWithin n ns → NodeWithin n given → NodesWithin n (set ns i now)
     within-joined n h w =
         let k : NodeWithin n kept = subst (NodeWithin n) (sym is) (node-within n ns i kept lt h) in
         within-set n ns i now (subst (NodeWithin n) (sym joined) (k.0, or_within n kept.parent given.parent k.1 w.1)) h
@@ -118,7 +118,7 @@ module _ (t : List ℕ) where
       pub find-joined : (r : Revision) → find r (map (link_in t) (set ns i now)) ≡ put (link_in t given) r (find r (map (link_in t) ns))
       find-joined = rw (map-set (link_in t) ns i now) (find-set (link_in t given) (link_in t kept) (link_in t now) (map (link_in t) ns) i place kept_at now_is)
 
-  -- ---- what is kept of a revision
+  -- ---- what is found of a revision
 
   -- what is looked up for a revision is the parent of the node at its place
   pub kept-at : (pos : ℕ) (id : List ℕ) (ns : List Node) (i : ℕ) (x : Node) (o : Option (List ℕ)) → i < length ns → IsLinkAt (pos, id) (map (link_in t) ns) i → x ≡ get_or ns i x → parent_below x.pos o ≡ (link_in t x).parent → Some (parent_below pos o) ≡ find (pos, id) (map (link_in t) ns)
@@ -129,11 +129,11 @@ module _ (t : List ℕ) where
 
 -- ---- a text that grew
 
-module _ (xs ys : List ℕ) (g : Grows xs ys) where
+module _ (xs ys : List ℕ) (g : IsExtendedBy xs ys) where
   pub grown-length : length xs ≤ length ys
   grown-length = omega (arith, ap length g.is, length-append xs g.more)
 
-  pub grown-links : (ns : List Node) → AreWithin (length xs) ns → map (link_in ys) ns ≡ map (link_in xs) ns
+  pub grown-links : (ns : List Node) → NodesWithin (length xs) ns → map (link_in ys) ns ≡ map (link_in xs) ns
   grown-links ns h = rw (g.is) (links-grown xs g.more ns h)
 
   pub grown-part : (p : IdPart) → LiesWithin (length xs) p → text_of_part ys p ≡ text_of_part xs p
@@ -142,13 +142,13 @@ module _ (xs ys : List ℕ) (g : Grows xs ys) where
   pub grown-parts : (ps : List IdPart) → PartsWithin (length xs) ps → map (text_of_part ys) ps ≡ map (text_of_part xs) ps
   grown-parts ps h = rw (g.is) (parts-grown xs g.more ps h)
 
-pub grown-grown : (xs ys zs : List ℕ) → Grows xs ys → Grows ys zs → Grows xs zs
+pub grown-grown : (xs ys zs : List ℕ) → IsExtendedBy xs ys → IsExtendedBy ys zs → IsExtendedBy xs zs
 grown-grown xs ys zs g k = record {
   more = g.more ++ k.more;
   is = k.is ∙ ap (λ x. x ++ k.more) g.is ∙ append_assoc xs g.more k.more;
 }
 
 -- one more part
-pub parts-step : {X : Type 0} (f : X → List ℕ) (t t' : List ℕ) (k : Grows t t') (ps : List IdPart) (p : IdPart) (xs : List X) (i : ℕ) (x : X) → PartsWithin (length t) ps → map (text_of_part t) ps ≡ map f (take i xs) → text_of_part t' p ≡ f x → i < length xs → x ≡ get_or xs i x → map (text_of_part t') (ps ++ p ∷ []) ≡ map f (take (i + 1) xs)
+pub parts-step : {X : Type 0} (f : X → List ℕ) (t t' : List ℕ) (k : IsExtendedBy t t') (ps : List IdPart) (p : IdPart) (xs : List X) (i : ℕ) (x : X) → PartsWithin (length t) ps → map (text_of_part t) ps ≡ map f (take i xs) → text_of_part t' p ≡ f x → i < length xs → x ≡ get_or xs i x → map (text_of_part t') (ps ++ p ∷ []) ≡ map f (take (i + 1) xs)
 parts-step f t t' k ps p xs i x within done new lt is =
     map_push (text_of_part t') ps p ∙ ap (λ ss. ss ++ text_of_part t' p ∷ []) (grown-parts t t' k ps within ∙ done) ∙ ap (λ s. map f (take i xs) ++ s ∷ []) (new ∙ ap f is) ∙ sym (map_more f xs i x lt)

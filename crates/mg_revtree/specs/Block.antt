@@ -1,4 +1,4 @@
--- For private clauses: a body in a block of its own, in that of a form, or in none.
+-- For private clauses: how a body is kept, in a block of its own, in the block of a form, or without a block.
 use Rattle.std.specs.Prelude.{⊤}
 use Rattle.mg_value.specs.Value.{Value, object, no_members}
 use Rattle.mg_revtree.specs.Body.{IsFormOf, bare}
@@ -11,7 +11,7 @@ block_value Empty = object no_members
 block_value (Own body) = body
 block_value (Served form) = bare form
 
--- a form in a block is the form of some body, which is the form without its id and its revision
+-- if the block is that of a form, the form is its bare body with some id and some revision
 abbrev pub IsFormIfServed : Block → Type 0
 IsFormIfServed Empty = ⊤
 IsFormIfServed (Own body) = ⊤

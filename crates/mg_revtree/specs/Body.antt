@@ -1,8 +1,9 @@
--- The form in which a document is served: the body of its winner with the document's id and the winner's revision.
+-- The form in which a document is served, after CouchDB's `GET` of a document: the body of its winner with the document's id and the
+-- winner's revision.
 use Rattle.std.specs.Prelude.{◌≡◌, codes, None}
 use Rattle.mg_value.specs.Value.{Value, member_of, with_member, without_member}
 
--- a body with an id and a revision
+-- the form of a body, with this id as `_id` and this revision as `_rev`; a body that is not an object is its own form
 abbrev pub as_form : Value → Value → Value → Value
 as_form id rev body = with_member (codes "_id") id (with_member (codes "_rev") rev body)
 

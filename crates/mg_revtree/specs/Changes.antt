@@ -31,26 +31,26 @@ found_of h rs = if knows h (newest_of rs) then Known_already else New
 
 -- ---- a new revision
 
--- whether a new revision may be made: over a leaf, or without a parent if there is no leaf
+-- whether a new revision may be made over this base, which has to be a leaf, or without a base, if there is no leaf
 abbrev pub may_extend : Paths → Option Revision → Bool
 may_extend h None = is_none (winner_of h)
 may_extend h (Some r) = is_some (leaf_at r h)
 
--- the position below a new revision
+-- the position below a new revision: that of its base, or 0 without a base
 abbrev pub position_below : Option Revision → ℕ
 position_below None = 0
 position_below (Some r) = r.0
 
--- the revision made over a base, or the first of a document
+-- the revision of this id that is made over a base; without a base, the first revision of a document, at position 1
 abbrev pub next_revision : Option Revision → List ℕ → Revision
 next_revision base id = (position_below base + 1, id)
 
--- a new revision, and after it the leaf over which it is made
+-- the run of a new revision: the revision, and after it the leaf that it extends, if there is one
 abbrev pub run_over : Revision → Option Revision → List Revision
 run_over r None = r ∷ []
 run_over r (Some q) = r ∷ q ∷ []
 
--- the path of a new revision over a leaf
+-- the path of a new revision, made over a base or as the first of a document, with its mark and body
 abbrev pub extension : Option Revision → List ℕ → Bool → Value → Path
 extension base id d b = path_of (run_over (next_revision base id) base) d b
 
@@ -60,7 +60,8 @@ next_position h base =
     if not (may_extend h base) then Err NotLeaf
     else (if position_below base == 4294967295 then Err Full else Ok (position_below base + 1))
 
--- why a new revision is refused, if it is: there is no such leaf, its parent has the last position, or it is already known
+-- why a new revision is refused, if it is: it may not be made over this base, the base has the last position, or the revision is already
+-- known
 abbrev pub refusal_of : Paths → Option Revision → List ℕ → Option TreeRefusal
 refusal_of h base id =
     if not (may_extend h base) then Some NotLeaf

@@ -1,4 +1,4 @@
--- For private clauses: how far a tree has grown.
+-- For private clauses: the trees that the cases of `Growth` keep.
 use Rattle.std.specs.Prelude.{List, [], ◌∷◌, Bool, false, true, Option, None, Some}
 use Rattle.mg_revtree.specs.Revision.{Revision, same_revision}
 use Rattle.mg_revtree.specs.History.{Leaf, Link}
@@ -10,7 +10,7 @@ use Rattle.mg_revtree.specs.declared.growth.Growth.TheVariants.{Empty, First, Pa
 abbrev pub empty_tree : Tree
 empty_tree = record { links = []; leaves = [] }
 
--- the tree of one revision, which has no parent
+-- the tree of one revision, whose parent is not known
 abbrev pub first_tree : Leaf → Tree
 first_tree leaf = record { links = record { rev = leaf.rev; parent = None } ∷ []; leaves = leaf ∷ [] }
 
@@ -40,7 +40,7 @@ is_run_of q [] = false
 is_run_of q (r ∷ []) = same_revision r q
 is_run_of q (r ∷ s ∷ rs) = false
 
--- the tree after a line has accepted a run: that of the lists that replace the line, or else of the line itself
+-- the tree after a line has accepted a run: the tree that replaces the line, if there is one; else the tree of the line
 abbrev pub after_line : Option Tree → List Link → Leaf → Tree
 after_line None known leaf = line_tree known leaf
 after_line (Some grown) known leaf = grown

@@ -19,7 +19,7 @@ Paths = List Path
 
 -- ---- known revisions and their parents
 
--- a revision with the one after it in a path
+-- a revision with its parent: the revision after it in a path, if there is one
 pub record Link : Type 0 where
   pub rev : Revision
   pub parent : Option Revision
@@ -29,7 +29,7 @@ abbrev pub newest_of : List Revision → Option Revision
 newest_of [] = None
 newest_of (r ∷ rs) = Some r
 
--- each revision of a run with the one after it
+-- the links of a run: each revision with the one after it
 abbrev pub links : List Revision → List Link
 links [] = []
 links (r ∷ rs) = record { rev = r; parent = newest_of rs } ∷ links rs
@@ -38,11 +38,11 @@ links (r ∷ rs) = record { rev = r; parent = newest_of rs } ∷ links rs
 abbrev pub all_links : Paths → List Link
 all_links = flat_map (λ p. links p.revs)
 
--- whether a revision is in some path
+-- whether a revision is known: one of these links is that of the revision
 abbrev pub is_known : Revision → List Link → Bool
 is_known r = list_any (λ l. same_revision r l.rev)
 
--- the parent of a revision: what comes after it in the first path in which something comes after it
+-- the parent of a revision: the first one that these links give it; `None` if they give it no parent
 abbrev pub parent_of : Revision → List Link → Option Revision
 parent_of r [] = None
 parent_of r (l ∷ ls) = if same_revision r l.rev then option_or l.parent (parent_of r ls) else parent_of r ls
@@ -64,12 +64,12 @@ pub record Leaf : Type 0 where
   pub deleted : Bool
   pub body : Value
 
--- the mark and body of the first path of which r is the newest
+-- the mark and body of the first path whose newest revision is r, if there is such a path
 abbrev pub marked : Revision → Paths → Option (Bool × Value)
 marked r [] = None
 marked r (p ∷ h) = if is_this r (newest_of p.revs) then Some (p.deleted, p.body) else marked r h
 
--- the mark and body of a leaf: a known revision that is nobody's parent
+-- the mark and body of a leaf, which is a known revision that is the parent of no other; `None` if the revision is not a leaf
 abbrev pub leaf_at : Revision → Paths → Option (Bool × Value)
 leaf_at r h = if has_child r (all_links h) then None else marked r h
 
@@ -89,12 +89,12 @@ leaf_order = then_cmp (on (λ l. not l.deleted) bool_cmp) (on (λ l. l.rev) revi
 abbrev pub tip_of : Paths → Path → Option Leaf
 tip_of h p = option_and_then (leaf_of h) (newest_of p.revs)
 
--- leaves, best first, with one more; if it ties with one of them, it is that leaf and is not added again
+-- leaves, best first, with one more; if it ties with one of them, it is not added: leaves of one history that tie are the same leaf
 abbrev pub ranked_with : Leaf → List Leaf → List Leaf
 ranked_with l [] = l ∷ []
 ranked_with l (m ∷ ms) = match_ordering (leaf_order l m) (m ∷ ranked_with l ms) (m ∷ ms) (l ∷ m ∷ ms)
 
--- leaves best first, each once
+-- these leaves, best first, each once
 abbrev pub ranked : List Leaf → List Leaf
 ranked [] = []
 ranked (l ∷ ls) = ranked_with l (ranked ls)
@@ -103,28 +103,28 @@ ranked (l ∷ ls) = ranked_with l (ranked ls)
 abbrev pub leaves_of : Paths → List Leaf
 leaves_of h = ranked (filter_map (tip_of h) h)
 
--- the first of some leaves
+-- the first of these leaves, if there is one
 abbrev pub first_of : List Leaf → Option Leaf
 first_of [] = None
 first_of (l ∷ ls) = Some l
 
--- the winner is the first of the leaves
+-- the winner: the first of the leaves, if there is one
 abbrev pub winner_of : Paths → Option Leaf
 winner_of h = first_of (leaves_of h)
 
 -- ---- when a path is accepted
 
--- whether a given parent does not contradict the known one
+-- whether a known parent is the given one; true also if either is missing
 abbrev pub agrees : Option Revision → Option Revision → Bool
 agrees None q = true
 agrees (Some p) None = true
 agrees (Some p) (Some q) = same_revision p q
 
--- whether links give no known revision another parent
+-- whether links give no known revision a parent other than the known one
 abbrev pub fit : List Link → List Link → Bool
 fit known ls = list_all (λ l. agrees (parent_of l.rev known) l.parent) ls
 
--- whether a path of these revisions contradicts no known parent
+-- whether a path of these revisions fits: it gives no known revision a parent other than the known one
 abbrev pub fits : Paths → List Revision → Bool
 fits h rs = fit (all_links h) (links rs)
 

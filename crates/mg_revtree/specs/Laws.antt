@@ -10,7 +10,7 @@ use Rattle.std.specs.declared.cmp.Ordering.TheVariants.{Less}
 
 -- ---- replicas agree
 
--- the path is one of the history
+-- the path is in the history
 abbrev pub Among : Path → Paths → Type 0
 Among p [] = ⊥
 Among p (q ∷ h) = (p ≡ q) ⊎ Among p h
@@ -40,7 +40,8 @@ pub record Agree (h g : Paths) : Type 0 where
   pub leaves : (r : Revision) → leaf_at r h ≡ leaf_at r g
   pub winners : winner_of h ≡ winner_of g
 
--- replicas that have exchanged all their paths agree
+-- replicas that have the same paths agree, if paths with the same newest revision have the same mark and body, and no revision is
+-- given two parents
 abbrev pub ReplicasAgree : Type 0
 ReplicasAgree = (h g : Paths) → SamePaths h g → SameMarks g → OneParent (all_links g) → Agree h g
 
@@ -51,7 +52,7 @@ abbrev pub AllFit : Paths → List Path → Type 0
 AllFit h [] = Unit {0}
 AllFit h (p ∷ ps) = (fits h p.revs ≡ true) × AllFit (with_path h p) ps
 
--- where no revision is given two parents, paths are accepted in every order
+-- if no revision is given two parents, the paths are accepted in every order
 abbrev pub AcceptedInEveryOrder : Type 0
 AcceptedInEveryOrder = (h ps : List Path) → OneParent (all_links (h ++ ps)) → AllFit h ps
 
@@ -61,12 +62,12 @@ AcceptedInEveryOrder = (h ps : List Path) → OneParent (all_links (h ++ ps)) �
 abbrev pub KnownChangesNothing : Type 0
 KnownChangesNothing = (h : Paths) (p : Path) → is_known_whole h p.revs ≡ true → Agree (with_path h p) h
 
--- each known revision of h is known in g, and each known parent is the same
+-- each known revision of h is known in g, and each known parent of h is the parent in g
 pub record Keeps (h g : Paths) : Type 0 where
   pub revisions : (r : Revision) → is_known r (all_links h) ≡ true → is_known r (all_links g) ≡ true
   pub parents : (r q : Revision) → parent_of r (all_links h) ≡ Some q → parent_of r (all_links g) ≡ Some q
 
--- known revisions stay known and known parents stay the same, whatever is accepted later
+-- known revisions stay known, and known parents stay their parents, whatever is accepted later
 abbrev pub NothingIsLost : Type 0
 NothingIsLost = (h : Paths) (ps : List Path) → Keeps h (h ++ ps)
 
@@ -76,7 +77,7 @@ NothingIsLost = (h : Paths) (ps : List Path) → Keeps h (h ++ ps)
 abbrev pub WinnerIsBest : Type 0
 WinnerIsBest = (h : Paths) (w : Leaf) → winner_of h ≡ Some w → IsLeaf h w × ((l : Leaf) → IsLeaf h l → leaf_order w l ≡ Less → ⊥)
 
--- no deleted leaf wins while another is not deleted
+-- no deleted leaf wins while another leaf is not deleted
 abbrev pub DeletedDoNotWin : Type 0
 DeletedDoNotWin = (h : Paths) (w l : Leaf) → winner_of h ≡ Some w → IsLeaf h l → l.deleted ≡ false → w.deleted ≡ false
 
@@ -107,6 +108,6 @@ abbrev pub AllFall : Paths → Type 0
 AllFall [] = Unit {0}
 AllFall (p ∷ h) = Falls p.revs × AllFall h
 
--- where there is no winner, no revision is known
+-- if the positions fall in all paths of a history, and the history has no winner, no revision is known
 abbrev pub NoWinnerNothingKnown : Type 0
 NoWinnerNothingKnown = (h : Paths) → AllFall h → winner_of h ≡ None → (r : Revision) → is_known r (all_links h) ≡ false

@@ -3,6 +3,6 @@ use Rattle.std.specs.Prelude.{List, not, drop}
 use Rattle.std.specs.List.{filter}
 use Rattle.mg_revtree.specs.History.{Paths, Leaf, leaves_of}
 
--- the leaves that are neither the first, which wins, nor deleted, best first
+-- the leaves after the first, which is the winner, that are not deleted, best first
 abbrev pub losers_of : Paths → List Leaf
 losers_of h = filter (λ l. not l.deleted) (drop 1 (leaves_of h))

@@ -12,7 +12,7 @@ use Rattle.std.specs.declared.cmp.Ordering.{Ordering}
 abbrev pub Revision : Type 0
 Revision = ℕ × List ℕ
 
--- orders by the position, then by the bytes of the id
+-- the order of revisions: by the position, then by the bytes of the id
 abbrev pub revision_order : Revision → Revision → Ordering
 revision_order = then_cmp (on (λ r. r.0) nat_cmp) (on (λ r. r.1) (slice_cmp nat_cmp))
 
@@ -28,13 +28,13 @@ is_id_byte b = nat_le 33 b && nat_le b 126
 abbrev pub is_revision_id : List ℕ → Bool
 is_revision_id s = nat_lt 0 (length s) && list_all is_id_byte s
 
--- the number of a position: from 1 to 4,294,967,295 in decimal digits with no leading zero
+-- the position that a text gives: from 1 to 4,294,967,295 in decimal digits with no leading zero; `None` for any other text
 abbrev pub position_of : List ℕ → Option ℕ
 position_of s =
     if list_all is_ascii_digit s && (nat_lt 0 (digits_value 10 s) && (nat_le (digits_value 10 s) 4294967295 && bytes_eq (decimal (digits_value 10 s)) s))
     then Some (digits_value 10 s) else None
 
--- the revision that a text names, cut at its first hyphen
+-- the revision that a text names: the position before its first hyphen, and the id after it; `None` if either is missing or invalid
 abbrev pub revision_of : List ℕ → Option Revision
 revision_of s =
     if list_any (λ b. b == 45) s && is_revision_id (after_first (λ b. b == 45) s)
@@ -45,12 +45,12 @@ revision_of s =
 abbrev pub revision_text : Revision → List ℕ
 revision_text r = decimal r.0 ++ codes "-" ++ r.1
 
--- the revisions of a path that starts at a position, newest first
+-- the run of these ids, newest first; the newest revision is at this position, and each other one is a position below the one before it
 abbrev pub run_from : ℕ → List (List ℕ) → List Revision
 run_from n [] = []
 run_from n (id ∷ ids) = (n, id) ∷ run_from (n - 1) ids
 
--- the run that a replica gives by its start and its ids: 1 to n ids, each the id of a revision
+-- the run that a replica gives by its start and its ids: 1 to n ids, each the id of a revision; `None` for any other ids
 abbrev pub run_of : ℕ → List (List ℕ) → Option (List Revision)
 run_of n ids =
     if nat_lt 0 (length ids) && (nat_le (length ids) n && list_all is_revision_id ids)

@@ -1,4 +1,4 @@
--- How nodes are kept while a run is joined to them: those before a room of unused places, and those after it.
+-- How nodes are kept while a run is joined to them: some before a room of unused places, the others after it.
 use Rattle.std.specs.Prelude.{◌≡◌, ℕ, ◌≤◌, List, [], ◌∷◌, ◌++◌, take, drop}
 use Rattle.mg_revtree.specs.Revision.{Revision}
 use Rattle.mg_revtree.specs.History.{Link}
@@ -11,12 +11,13 @@ use Rattle.mg_revtree.specs.declared.links.node.Node.{Node}
 abbrev pub used : List Node → ℕ → ℕ → List Node
 used ns till from = take till ns ++ drop from ns
 
--- links whose revisions are at a position or above it
+-- the revisions of the links are at position n or above
 abbrev pub AreFrom : ℕ → List Link → Type 0
 AreFrom n [] = Unit {0}
 AreFrom n (l ∷ ls) = (n ≤ l.rev.0) × AreFrom n ls
 
--- the nodes after a node is joined: sorted, they hold its link and the old links; those after the room are at its position or above
+-- the nodes `new` are the nodes `old` with node x joined: they are sorted, and hold the link of x and the old links; the nodes after the
+-- room are at the position of x or above
 pub record Joins (texts : List ℕ) (x : Node) (old new after : List Node) : Type 0 where
   pub kept : (r : Revision) → find r (links_in texts new) ≡ put (link_in texts x) r (find r (links_in texts old))
   pub sorted : AreSorted (links_in texts new)

@@ -21,8 +21,8 @@ pub(crate) enum Block {
     Served(Form),
 }
 
-/// The body of a revision, in one block of memory: a block of its own, or that of a form in which the document was served with
-/// this body. The object without members takes no block. Contracts see the body alone.
+/// The body of a revision, in at most one block of memory: a block of its own, or that of a form in which the document was served
+/// with this body. The object without members takes no block. Contracts see the body alone.
 #[derive(Drop)]
 pub struct Body {
     block: Block,
@@ -44,7 +44,8 @@ impl Model for Body {
 }
 
 impl Body {
-    // The body in this block. Takes no memory: the block of the object without members is freed, and any other body keeps its block.
+    // Makes a body of a packed value. Takes no memory: the block of the object without members is freed, and any other value keeps its
+    // block.
     pub(crate) fn of(packed: Packed) -> Body
         ensures { result ≡ packed }
     {
@@ -56,7 +57,7 @@ impl Body {
         Body { block }
     }
 
-    // The body that a form holds, in the form's block.
+    // Makes the body that a form holds. It stays in the form's block.
     fn within(form: Form) -> Body
         requires { IsFormOf (bare form) form }
         ensures { result ≡ bare form }
@@ -75,20 +76,21 @@ impl Body {
         copy_body(alloc, &self.block)
     }
 
-    /// The form of the body: the body with this id as `_id` and this revision as `_rev`, in one block. A body that is not an object
+    /// Makes the form of the body: the body with this id as `_id` and this revision as `_rev`, in one block. A body that is not an object
     /// is its own form.
     ///
-    /// Errors: `NoMemory` if an allocation fails, if a block would be longer than 4,294,967,295 bytes, or if there are too many references
-    /// to a shared block. Cost: three copies of the body's bytes, the text of the form, and a copy of the text. If the body is already in
-    /// the block of this form, the block is shared and nothing is copied. If it is in the block of another form, it is first copied out.
+    /// Errors: `NoMemory` if an allocation fails, if a block would be longer than 4,294,967,295 bytes, or if there are too many
+    /// references to a shared block. Cost: three copies of the body's bytes, the text of the form, and a copy of the text. If the body is
+    /// already in the block of this form, the block is shared and nothing is copied. If the body is in the block of another form, it is
+    /// first copied out as a `Json` and packed.
     pub fn form(&self, alloc: Global, id: &str, rev: &str) -> Result<Form, NoMemory>
         ensures { IfOk result (λ form. form ≡ as_form (string id.now) (string rev.now) self.now) }
     {
         form_of(alloc, &self.block, id, rev)
     }
 
-    // Moves the body into the block of its form, and frees its own block. A body stays where it is if it has `_id` or `_rev` as
-    // a member, since the form replaces these, or if it has no block of its own.
+    // Moves the body into the block of `form`, and frees the body's own block. A body stays where it is if it has `_id` or `_rev` as a
+    // member, since the form replaces these, or if it has no block of its own. Takes no memory.
     #[tactic(auto, using(crate::proofs::Bodies::shows))]
     pub(crate) fn move_into(&mut self, form: Form)
         requires { IsFormOf self.old form }
@@ -110,21 +112,22 @@ fn has_no_members(packed: &Packed) -> bool
     }
 }
 
+// Copies the body that a block holds. Errors: `NoMemory` if an allocation fails.
 fn copy_body(alloc: Global, block: &Block) -> Result<Json, NoMemory>
     ensures { IfOk result (λ value. view value ≡ block_value block.now) }
 {
     match block {
         Block::Empty => Ok(Json::empty_object(alloc)),
-        Block::Own(body) => body.part().copy(alloc),
+        Block::Own(body) => body.part().to_json(alloc),
         Block::Served(form) => copy_bare(alloc, form),
     }
 }
 
-// Copies the body out of a form: the form without `_id` and `_rev`.
+// Copies the body out of a form: the form without `_id` and `_rev`. Errors: `NoMemory` if an allocation fails.
 fn copy_bare(alloc: Global, form: &Form) -> Result<Json, NoMemory>
     ensures { IfOk result (λ value. view value ≡ bare form.now) }
 {
-    let mut body = form.written().part().copy(alloc)?;
+    let mut body = form.written().part().to_json(alloc)?;
     drop(body.take("_id"));
     drop(body.take("_rev"));
     Ok(body)
@@ -147,6 +150,7 @@ fn lacks(body: &Packed, name: &str) -> bool
     body.part().member(name).is_none()
 }
 
+// Makes, or shares, the form of the body that a block holds. Errors: those of `Body::form`.
 fn form_of(alloc: Global, block: &Block, id: &str, rev: &str) -> Result<Form, NoMemory>
     requires { IsFormIfServed block.now }
     ensures { IfOk result (λ form. form ≡ as_form (string id.now) (string rev.now) (block_value block.now)) }
@@ -158,7 +162,7 @@ fn form_of(alloc: Global, block: &Block, id: &str, rev: &str) -> Result<Form, No
     }
 }
 
-// Shares the form if it has this id and this revision; else makes the form of its body with them.
+// Shares the form if it has this id and this revision; else makes the form of its body with them. Errors: those of `Body::form`.
 #[tactic(auto, using(crate::proofs::Bodies::is_made))]
 fn share_or_make(alloc: Global, form: &Form, id: &str, rev: &str) -> Result<Form, NoMemory>
     requires { IsFormOf (bare form.now) form.now }
@@ -172,7 +176,7 @@ fn share_or_make(alloc: Global, form: &Form, id: &str, rev: &str) -> Result<Form
     make_form(alloc, &packed, id, rev)
 }
 
-// The form of the object without members.
+// Makes the form of the object without members. Errors: those of `Body::form`.
 fn form_of_empty(alloc: Global, id: &str, rev: &str) -> Result<Form, NoMemory>
     ensures { IfOk result (λ form. form ≡ as_form (string id.now) (string rev.now) (object no_members)) }
 {
@@ -180,6 +184,7 @@ fn form_of_empty(alloc: Global, id: &str, rev: &str) -> Result<Form, NoMemory>
     make_form(alloc, &packed, id, rev)
 }
 
+// Makes the form of a packed body. Errors: those of `Body::form`.
 fn make_form(alloc: Global, body: &Packed, id: &str, rev: &str) -> Result<Form, NoMemory>
     ensures { IfOk result (λ form. form ≡ as_form (string id.now) (string rev.now) body.now) }
 {
@@ -188,7 +193,7 @@ fn make_form(alloc: Global, body: &Packed, id: &str, rev: &str) -> Result<Form, 
     Form::of(alloc, &form)
 }
 
-// Whether the member with this name is this text.
+// Whether the form has a member of this name, and the member is this text.
 fn has_text(form: &Form, name: &str, text: &str) -> bool
     ensures { result ≡ true → member_of name.now form.now ≡ Some (string text.now) }
 {

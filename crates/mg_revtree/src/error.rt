@@ -26,19 +26,19 @@ impl From<NoMemory> for RevError {
 /// Whether a merge found the newest revision of its path new or known.
 #[derive(Clone, Copy, PartialEq, Eq, Debug, Drop)]
 pub enum Merged {
-    /// The tree did not know it.
+    /// The tree did not know the revision.
     New,
-    /// The tree knew it, and keeps its mark and body.
+    /// The tree knew the revision, and ignores the given mark and body.
     Known,
 }
 
 /// Why a path was not merged.
 #[derive(Clone, Copy, PartialEq, Eq, Debug, Drop, Error)]
 pub enum MergeError {
-    /// The path contradicts a known parent.
+    /// The path gives a known revision a parent other than the known one.
     #[error("revision history does not fit the document")]
     BadHistory,
-    /// An allocation failed.
+    /// An allocation failed, or a limit was reached: `RevTree::merge` lists the limits.
     #[error("out of memory")]
     NoMemory,
 }
@@ -69,7 +69,7 @@ pub enum TreeRefusal {
 #[derive(Clone, Copy, PartialEq, Eq, Debug, Drop, Error)]
 pub enum TreeError {
     /// The revision to extend is not a leaf; or no revision is named, but the tree has leaves.
-    #[error("the revision is no leaf")]
+    #[error("the revision is not a leaf")]
     NotLeaf,
     /// The revision to extend has the last position, 4,294,967,295.
     #[error("the revision has the last position")]
@@ -77,7 +77,7 @@ pub enum TreeError {
     /// The new revision is already known.
     #[error("the new revision is known")]
     Known,
-    /// An allocation failed.
+    /// An allocation failed, or a limit was reached: `RevTree::merge` lists the limits.
     #[error("out of memory")]
     NoMemory,
 }

@@ -4,8 +4,8 @@ use std::alloc::Global;
 use std::marker::Model;
 use std::sync::Arc;
 
-/// The form in which a document is served, with its text, in one block of memory. Several owners share the block, such as the document
-/// and the winner in its revision tree. Contracts see the form as a value.
+/// The form in which a document is served, with its text, in one block of memory. A second, small block counts the owners that share the
+/// form, such as a shard's document and the winner in the document's revision tree. Contracts see the form as a value.
 #[derive(Drop)]
 pub struct Form {
     block: Arc<Written>,
@@ -26,7 +26,7 @@ impl Model for Form {
 impl Form {
     ghost use Rattle.std.specs.Prelude.{◌≡◌, IfOk};
 
-    // Copies a form, with its text, into a block that others can share.
+    // Copies a form into a block that several owners can share, and writes its text there. Errors: `NoMemory` if an allocation fails.
     pub(crate) fn of(alloc: Global, form: &Packed) -> Result<Form, NoMemory>
         ensures { IfOk result (λ shared. shared ≡ form.now) }
     {
@@ -35,14 +35,14 @@ impl Form {
         })
     }
 
-    /// The block, with the form and its text. Takes no memory.
+    /// Returns the block, with the form and its text. Takes no memory.
     pub fn written(&self) -> &Written
         ensures { result.now ≡ self.now }
     {
         &self.block
     }
 
-    /// Another reference to the block. Takes no memory. Errors: `NoMemory` if there are too many references.
+    /// Makes another reference to the block. Takes no memory. Errors: `NoMemory` if there are too many references.
     pub fn share(&self) -> Result<Form, NoMemory>
         ensures { IfOk result (λ shared. shared ≡ self.now) }
     {

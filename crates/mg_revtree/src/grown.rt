@@ -1,11 +1,11 @@
-//! Trees as lists of known revisions and of leaves. A tree that has had several leaves is kept as lists; any other tree is put into
-//! lists while it accepts a run.
+//! Trees as lists of known revisions and of leaves. A tree that has had several leaves is kept as lists. Any other tree is put into
+//! lists while it accepts a run, unless the run is one revision and the tree had none.
 ghost use Rattle.std.specs.Prelude.{◌≡◌, ◌+◌, ◌<◌, ◌≤◌, [], ◌∷◌, IfOk, IfSome, OnErr, OnOk, length, map, string_bytes};
 ghost use Rattle.mg_revtree.specs.Revision.{run_from};
 ghost use Rattle.mg_revtree.specs.Body.{IsFormOf};
 ghost use Rattle.mg_revtree.specs.History.{Paths, first_of, links};
 ghost use Rattle.mg_revtree.specs.Growth.{first_tree, line_tree};
-ghost use Rattle.mg_revtree.specs.Tree.{AreNodes, StandsFor};
+ghost use Rattle.mg_revtree.specs.Tree.{AreKnownLinks, StandsFor};
 ghost use Rattle.mg_revtree.specs.Changes.{found_of, path_of, with_path};
 
 use crate::body::Body;
@@ -41,7 +41,7 @@ impl Model for Grown {
 }
 
 impl Grown {
-    /// Lists without revisions. Takes no memory.
+    /// Makes lists without revisions. Takes no memory.
     pub fn new(alloc: Global) -> Grown
         ensures { StandsFor result [] }
     {
@@ -51,7 +51,8 @@ impl Grown {
         }
     }
 
-    /// The lists of a tree of one revision.
+    /// Makes the lists of a tree of one revision. Errors: `NoMemory` if an allocation fails, if the id takes more than 4,294,967,295
+    /// bytes, or if there are too many references to the leaf.
     pub fn of_first(alloc: Global, first: &SharedLeaf) -> Result<Grown, NoMemory>
         ensures { IfOk result
             (λ grown. (h : Paths) → StandsFor (first_tree first.now) h → StandsFor grown h) }
@@ -61,7 +62,8 @@ impl Grown {
         Ok(Grown { links, leaves })
     }
 
-    /// The lists of a tree of one leaf with these known revisions.
+    /// Makes the lists of a tree of one leaf with these known revisions. Errors and cost: as for `KnownLinks::copy`; also `NoMemory` if
+    /// there are too many references to the leaf.
     pub fn of_line(alloc: Global, leaf: &SharedLeaf, known: &KnownLinks) -> Result<Grown, NoMemory>
         ensures { IfOk result (λ grown. grown ≡ line_tree known.now leaf.now) }
     {
@@ -71,7 +73,8 @@ impl Grown {
         })
     }
 
-    /// Lists of this leaf and no known revision, for `exchange` to complete.
+    /// Makes lists of this leaf and no known revision. `exchange` then gives them the known revisions. Errors: `NoMemory` if an
+    /// allocation fails, or if there are too many references to the leaf.
     pub fn without_links(alloc: Global, leaf: &SharedLeaf) -> Result<Grown, NoMemory>
         ensures { IfOk result (λ grown. grown ≡ line_tree [] leaf.now) }
     {
@@ -89,7 +92,8 @@ impl Grown {
         mem::swap(&mut self.links, known);
     }
 
-    /// Moves the winner's body into the block of its form, if no copy of the tree shares the winner. Takes no memory.
+    /// Moves the winner's body into the block of `form`, as `SharedLeaf::move_into` does. Changes nothing in lists without leaves. Takes
+    /// no memory.
     pub fn move_body_into(&mut self, form: Form)
         requires { IfSome (first_of self.old.leaves) (λ l. IsFormOf l.body form) }
         ensures { self.new ≡ self.old }
@@ -101,7 +105,7 @@ impl Grown {
         winner.move_into(form);
     }
 
-    /// A copy that shares the leaves with their bodies, and the older known revisions.
+    /// Makes a copy that shares the leaves, their bodies, and the older known revisions. Errors and cost: as for `RevTree::copy`.
     pub fn copy(&self, alloc: Global) -> Result<Grown, NoMemory>
         ensures { IfOk result (λ grown. grown ≡ self.now) }
     {
@@ -111,7 +115,9 @@ impl Grown {
         })
     }
 
-    /// Accepts a run that fits, given by its start and its ids, newest first. An error leaves the lists as they were.
+    /// Accepts a run that fits, given by its start and its ids, newest first. Returns whether the newest revision was new or known; if it
+    /// was known, `deleted` and `body` are ignored. Errors: `NoMemory` if an allocation fails, or as for `KnownLinks::join`; the lists
+    /// are then as they were.
     pub fn accept(
         &mut self,
         start: u32,
@@ -149,9 +155,9 @@ impl Grown {
     }
 }
 
-// The known revisions of a tree of this revision alone.
+// Makes the known revisions of a tree of this revision alone. Errors: `NoMemory` if an allocation fails, or as for `KnownLinks::join`.
 fn links_of_first(alloc: Global, rev: &Rev) -> Result<KnownLinks, NoMemory>
-    ensures { IfOk result (λ known. AreNodes known (links (rev.now ∷ []))) }
+    ensures { IfOk result (λ known. AreKnownLinks known (links (rev.now ∷ []))) }
 {
     let mut known = KnownLinks::new(alloc);
     let id = String::from_str(alloc, rev.id.as_str())?;
@@ -159,7 +165,8 @@ fn links_of_first(alloc: Global, rev: &Rev) -> Result<KnownLinks, NoMemory>
     Ok(known)
 }
 
-/// The list of this leaf alone, with capacity for one more.
+/// Makes the list of this leaf alone, with capacity for one more. Errors: `NoMemory` if an allocation fails, or if there are too many
+/// references to the leaf.
 pub(crate) fn list_of_leaf(alloc: Global, first: &SharedLeaf) -> Result<Vec<SharedLeaf>, NoMemory>
     ensures { IfOk result (λ leaves. leaves.items ≡ first.now ∷ []) }
 {
@@ -168,7 +175,7 @@ pub(crate) fn list_of_leaf(alloc: Global, first: &SharedLeaf) -> Result<Vec<Shar
     Ok(leaves)
 }
 
-/// The only leaf of these lists. Takes no memory.
+/// Takes the only leaf out of these lists, and frees the lists. Takes no memory.
 pub(crate) fn only_leaf(grown: Box<Grown>) -> SharedLeaf
     requires { length grown.value.leaves ≡ 1 }
     ensures { grown.value.leaves ≡ result ∷ [] }

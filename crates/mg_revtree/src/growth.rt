@@ -1,10 +1,10 @@
-//! How a revision tree is kept, by how far it has grown.
+//! The ways in which a revision tree is kept, from the smallest tree to the largest.
 ghost use Rattle.std.specs.Prelude.{◌≡◌, ◌<◌, ◌≤◌, ◌+◌, List, IfOk, IfSome, OnErr, OnOk, is_some, length, map, option_map, string_bytes};
 ghost use Rattle.mg_revtree.specs.Revision.{run_from};
 ghost use Rattle.mg_revtree.specs.Body.{IsFormOf};
 ghost use Rattle.mg_revtree.specs.History.{Paths, Link, are_known_whole, first_of, fit, links};
 ghost use Rattle.mg_revtree.specs.Growth.{after_line, first_tree, is_empty, is_run_of, line_tree, tree_in};
-ghost use Rattle.mg_revtree.specs.Tree.{AreNodes, AreSorted, StandsFor, find};
+ghost use Rattle.mg_revtree.specs.Tree.{AreKnownLinks, AreSorted, StandsFor, find};
 ghost use Rattle.mg_revtree.specs.Changes.{found_of, path_of, with_path};
 
 use crate::body::Body;
@@ -20,8 +20,8 @@ use mg_value::NoMemory;
 use std::alloc::Global;
 use std::slice;
 
-/// How a tree is kept. Most documents have one revision: their tree is its leaf alone. The tree of a document that was edited or
-/// deleted once is its leaf and the id of the leaf's parent, if that id has 32 bytes.
+/// How a tree is kept. Most documents have one revision, and their tree is one leaf. The tree of a document that was edited or deleted
+/// once is its leaf and the id of the leaf's parent, if that id has 32 bytes.
 #[derive(Drop)]
 pub(crate) enum Growth {
     // no revision
@@ -41,7 +41,7 @@ pub(crate) enum Growth {
 const _: () = prove!(size_of::<Growth>() == 48);
 
 impl Growth {
-    /// The leaves, best first. Takes no memory.
+    /// Returns the leaves, best first. Takes no memory.
     pub fn leaves(&self) -> &[SharedLeaf]
         ensures { result.now ≡ (tree_in self.now).leaves }
     {
@@ -54,7 +54,7 @@ impl Growth {
         }
     }
 
-    /// Whether a revision is known. Cost: the logarithm of the known revisions.
+    /// Whether a revision is known. Takes no memory. Cost: the logarithm of the known revisions.
     pub fn knows(&self, pos: u32, id: &String) -> bool
         ensures { AreSorted (tree_in self.now).links
             → result ≡ is_some (find (pos, string_bytes id.now) (tree_in self.now).links) }
@@ -68,10 +68,11 @@ impl Growth {
         }
     }
 
-    /// Whether a run, given by its start and its ids, newest first, gives no known revision a parent other than the known one. Every
-    /// run fits a tree of one revision, which has no parent. Cost: the length of the run times the logarithm of the known revisions.
+    /// Whether a run, given by its start and its ids, newest first, gives no known revision a parent other than the known one. Every run
+    /// fits a tree of one revision or none, since no parent is known there. Takes no memory. Cost: the length of the run times the
+    /// logarithm of the known revisions.
     pub fn fits(&self, start: u32, ids: &[String]) -> bool
-        ensures { (ls : List Link) → AreNodes (tree_in self.now).links ls
+        ensures { (ls : List Link) → AreKnownLinks (tree_in self.now).links ls
             → result ≡ fit ls (links (run_from start (map string_bytes ids.now))) }
     {
         match self {
@@ -87,7 +88,7 @@ impl Growth {
     /// gives them. Cost: as for `fits`.
     pub fn knows_whole(&self, start: u32, ids: &[String]) -> bool
         requires { 0 < length ids.now }
-        ensures { (ls : List Link) → AreNodes (tree_in self.now).links ls
+        ensures { (ls : List Link) → AreKnownLinks (tree_in self.now).links ls
             → result ≡ are_known_whole ls (links (run_from start (map string_bytes ids.now))) }
     {
         match self {
@@ -99,7 +100,8 @@ impl Growth {
         }
     }
 
-    /// Moves the winner's body into the block of its form, if no copy of the tree shares the winner. Takes no memory.
+    /// Moves the winner's body into the block of `form`, as `SharedLeaf::move_into` does. Changes nothing in an empty tree. Takes no
+    /// memory.
     pub fn move_body_into(&mut self, form: Form)
         requires { IfSome (first_of (tree_in self.old).leaves) (λ l. IsFormOf l.body form) }
         ensures { tree_in self.new ≡ tree_in self.old }
@@ -113,7 +115,7 @@ impl Growth {
         }
     }
 
-    /// A copy. It shares the leaves with their bodies, and the older known revisions.
+    /// Makes a copy that shares the leaves, their bodies, and the older known revisions. Errors and cost: as for `RevTree::copy`.
     pub fn copy(&self, alloc: Global) -> Result<Growth, NoMemory>
         ensures { IfOk result (λ made. tree_in made ≡ tree_in self.now) }
     {
@@ -136,7 +138,7 @@ impl Growth {
         }
     }
 
-    /// The tree of this revision alone, which has no parent.
+    /// Makes a tree whose only revision is this one, without a parent. Errors: `NoMemory` if an allocation fails.
     pub fn first(alloc: Global, rev: Rev, deleted: bool, body: Packed) -> Result<Growth, NoMemory>
         ensures { IfOk result
             (λ made. tree_in made ≡ first_tree
@@ -148,7 +150,8 @@ impl Growth {
     }
 
     /// Accepts a run that fits, given by its start and its ids, newest first. The tree is then a pair or a line if it has one leaf and
-    /// never had more; otherwise it has lists. An error leaves it as it was.
+    /// never had more; otherwise it is `Grown`. Returns whether the newest revision of the run was new or known. Errors: `NoMemory`, as
+    /// for `RevTree::merge`; the tree is then as it was.
     pub fn accept(
         &mut self,
         alloc: Global,
@@ -187,7 +190,7 @@ impl Growth {
         }
     }
 
-    // A copy that has accepted a run.
+    // Makes a copy that has accepted a run, and returns what `accept` does. Errors: `NoMemory`, as for `RevTree::merge`.
     fn accept_in_copy(
         &self,
         alloc: Global,
@@ -210,7 +213,8 @@ impl Growth {
         Ok((growth, merged))
     }
 
-    // A copy as lists, in which any tree can be kept.
+    // Copies the tree into lists, in which any tree can be kept. Errors: `NoMemory` if an allocation fails, if the ids take more than
+    // 4,294,967,295 bytes, or if there are too many references to what is shared.
     fn in_lists(&self, alloc: Global) -> Result<Grown, NoMemory>
         ensures { IfOk result (λ grown. (h : Paths) → StandsFor (tree_in self.now) h → StandsFor grown h) }
     {
@@ -224,14 +228,15 @@ impl Growth {
     }
 }
 
-// A copy of known revisions.
+// Copies known revisions into a box. Errors: `NoMemory` if an allocation fails, or as for `KnownLinks::copy`.
 fn copy_boxed(alloc: Global, known: &KnownLinks) -> Result<Box<KnownLinks>, NoMemory>
     ensures { IfOk result (λ copy. copy.value ≡ known.now) }
 {
     Ok(Box::new(alloc, known.copy(alloc)?)?)
 }
 
-// Keeps lists as a pair or a line if they have one leaf.
+// Keeps a tree of lists as a pair or a line if it has one leaf; else as `Grown`. Errors: `NoMemory` if an allocation fails, or if there
+// are too many references to the leaf.
 fn growth_of(alloc: Global, grown: Grown) -> Result<Growth, NoMemory>
     ensures { IfOk result (λ growth. tree_in growth ≡ grown) }
 {
@@ -247,7 +252,7 @@ fn growth_of(alloc: Global, grown: Grown) -> Result<Growth, NoMemory>
 }
 
 // Accepts a run on a line, which is given by its leaf and all known revisions. If there are then several leaves, also returns the lists
-// that replace the line. An error leaves the line as it was.
+// that replace the line; `known` is then empty. Errors: `NoMemory`, as for `RevTree::merge`; the line is then as it was.
 fn accept_on_line(
     alloc: Global,
     leaf: &mut SharedLeaf,

@@ -29,7 +29,7 @@ impl Model for History {
 }
 
 impl History {
-    /// The path whose newest revision has position `start` and the first id. `None` unless there are 1 to `start` ids, each the id
+    /// Makes the path whose newest revision has position `start` and the first id. `None` unless there are 1 to `start` ids, each the id
     /// of a revision. Takes no memory. Cost: the length of the ids. Source: `_revisions` of CouchDB's API reference.
     pub fn new(start: u32, ids: Vec<String>) -> Option<History>
         ensures { result ≡ run_of start (map string_bytes ids.items) }
@@ -40,7 +40,7 @@ impl History {
         Some(History { start, ids })
     }
 
-    /// A copy of the newest revision. Takes no memory if its id has 32 bytes. Errors: `NoMemory` if an allocation fails.
+    /// Copies the newest revision. Takes no memory if its id has 32 bytes. Errors: `NoMemory` if an allocation fails.
     pub fn newest(&self) -> Result<Rev, NoMemory>
         ensures { IfOk result (λ rev. newest_of self.now ≡ Some rev) }
     {
@@ -61,7 +61,7 @@ impl History {
         }
     }
 
-    /// A copy of the path. Errors: `NoMemory` if an allocation fails. Cost: the length of its ids.
+    /// Copies the path. Errors: `NoMemory` if an allocation fails. Cost: the length of its ids.
     pub fn copy(&self, alloc: Global) -> Result<History, NoMemory>
         ensures { IfOk result (λ path. path ≡ self.now) }
     {
@@ -72,7 +72,7 @@ impl History {
         })
     }
 
-    /// The position of the newest revision, and the ids, newest first.
+    /// Returns the position of the newest revision, and the ids, newest first.
     pub(crate) fn run(&self) -> (u32, &[String])
         ensures run { self.now ≡ run_from result.0 (map string_bytes result.1.now) }
         ensures some { 0 < length result.1.now }

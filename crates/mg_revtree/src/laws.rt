@@ -32,7 +32,7 @@ pub fn deleted_do_not_win()
     ensures { DeletedDoNotWin }
 {}
 
-/// `leaves_of` and `losers_of` list the leaves and the losers of a history, each once and best first. No other list does so.
+/// `leaves_of` and `losers_of` list the leaves and the losers of a history, each once and best first. Each is the only such list.
 pub fn leaves_are_listed()
     ensures { LeavesAreListed }
 {}
@@ -43,8 +43,8 @@ pub fn paths_fall()
     ensures { PathsFall }
 {}
 
-/// If in each path the positions fall by one, a document without a winner has no known revision. So a new revision without
-/// a parent is made only where no revision is known.
+/// A document without a winner has no known revision, if the positions fall by one in each of its paths. Therefore a new revision without
+/// a parent is made only if no revision is known.
 pub fn no_winner_nothing_known()
     ensures { NoWinnerNothingKnown }
 {}

@@ -44,7 +44,7 @@ impl Leaf {
             .then(self.rev.order(&other.rev))
     }
 
-    // Compares a leaf with the given mark and revision to this leaf.
+    // Compares two leaves: one that has the given mark and revision, and this one, in that order.
     pub(crate) fn against(&self, deleted: bool, pos: u32, id: &[u8]) -> Ordering
         ensures { result ≡ leaf_order (marked_as deleted (pos, id.now)) self.now }
     {
@@ -73,7 +73,7 @@ impl Model for SharedLeaf {
 }
 
 impl SharedLeaf {
-    /// Puts a leaf where the copies of a tree can share it.
+    /// Puts a leaf into a block that the copies of a tree can share. Errors: `NoMemory` if an allocation fails.
     pub fn new(alloc: Global, leaf: Leaf) -> Result<SharedLeaf, NoMemory>
         ensures { IfOk result (λ shared. shared ≡ leaf) }
     {
@@ -82,14 +82,15 @@ impl SharedLeaf {
         })
     }
 
-    /// The leaf.
+    /// Returns the leaf.
     pub fn leaf(&self) -> &Leaf
         ensures { result.now ≡ self.now }
     {
         &self.leaf
     }
 
-    /// Moves the leaf's body into the block of its form, if no copy of the tree shares the leaf. Takes no memory.
+    /// Moves the leaf's body into the block of `form`, as `Body::move_into` does. Changes nothing if a copy of the tree shares the leaf.
+    /// Takes no memory.
     pub fn move_into(&mut self, form: Form)
         requires { IsFormOf self.old.body form }
         ensures { self.new ≡ self.old }
@@ -99,7 +100,7 @@ impl SharedLeaf {
         }
     }
 
-    /// Another reference to the leaf. Takes no memory. Errors: `NoMemory` if there are too many references.
+    /// Makes another reference to the leaf. Takes no memory. Errors: `NoMemory` if there are too many references.
     pub fn share(&self) -> Result<SharedLeaf, NoMemory>
         ensures { IfOk result (λ shared. shared ≡ self.now) }
     {

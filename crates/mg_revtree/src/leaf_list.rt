@@ -9,7 +9,8 @@ use crate::leaf::{Leaf, SharedLeaf};
 use mg_value::NoMemory;
 use std::alloc::Global;
 
-// The place of the leaf with this mark and revision among leaves, best first, or the place where it would go.
+// Searches leaves, which are sorted best first, for one with this mark and revision: `Ok` with its place, or `Err` with the place where
+// it would go.
 fn place_of(leaves: &[SharedLeaf], deleted: bool, pos: u32, id: &[u8]) -> Result<usize, usize>
     ensures found { IfOk result
         (λ i. (i < length leaves.now) × IsTied (marked_as deleted (pos, id.now)) leaves.now i) }
@@ -20,7 +21,8 @@ fn place_of(leaves: &[SharedLeaf], deleted: bool, pos: u32, id: &[u8]) -> Result
     leaves.binary_search_by(|leaf| leaf.leaf().against(deleted, pos, id))
 }
 
-// The place of a revision's leaf. Its mark decides the place and is not given, so both marks are tried.
+// Finds the place of a revision's leaf; `None` if the revision is not a leaf. Leaves are ordered by their marks first, and the mark is
+// not given, so the search tries both marks.
 fn place_among(leaves: &[SharedLeaf], pos: u32, id: &[u8]) -> Option<usize>
     ensures found { IfSome result (λ i. (i < length leaves.now) × IsLeafAt (pos, id.now) leaves.now i) }
     ensures absent { IfNone result (AreRanked leaves.now → leaf_in (pos, id.now) leaves.now ≡ None) }
@@ -34,7 +36,7 @@ fn place_among(leaves: &[SharedLeaf], pos: u32, id: &[u8]) -> Option<usize>
     }
 }
 
-/// Whether a revision is a leaf. Cost: the logarithm of the leaves.
+/// Whether a revision is a leaf. Takes no memory. Cost: the logarithm of the leaves.
 pub fn is_leaf(leaves: &[SharedLeaf], pos: u32, id: &[u8]) -> bool
     ensures { AreRanked leaves.now → result ≡ is_some (leaf_in (pos, id.now) leaves.now) }
 {
@@ -53,8 +55,8 @@ fn take_away(leaves: &mut Vec<SharedLeaf>, pos: u32, id: &[u8])
     }
 }
 
-/// Removes the leaves that are parents in a run. Cost: for each revision of the run the logarithm of the leaves, and a
-/// move of one pointer for each leaf after a removed one.
+/// Removes the leaves that are parents in a run, given by its start and its ids, newest first. Cost: for each revision of the run the
+/// logarithm of the leaves, and a move of one pointer for each leaf after a removed one.
 pub fn unleaf(leaves: &mut Vec<SharedLeaf>, start: u32, ids: &[String])
     ensures kept { AreRanked leaves.old.items → AreApart leaves.old.items
         → leaves.new.items ≡ filter
@@ -69,7 +71,8 @@ pub fn unleaf(leaves: &mut Vec<SharedLeaf>, start: u32, ids: &[String])
     }
 }
 
-// The place of a leaf among leaves, best first, or the place where it would go.
+// Searches leaves, which are sorted best first, for one that ties with `leaf`: `Ok` with its place, or `Err` with the place where it
+// would go.
 fn place_for(leaves: &[SharedLeaf], leaf: &Leaf) -> Result<usize, usize>
     ensures found { IfOk result (λ i. (i < length leaves.now) × IsTied leaf.now leaves.now i) }
     ensures absent { IfErr result
@@ -78,7 +81,7 @@ fn place_for(leaves: &[SharedLeaf], leaf: &Leaf) -> Result<usize, usize>
     leaves.binary_search_by(|other| leaf.order(other.leaf()))
 }
 
-// The place for a leaf whose revision none of these leaves has.
+// Finds the place for a leaf whose revision none of these leaves has.
 fn rank(leaves: &[SharedLeaf], leaf: &Leaf) -> usize
     ensures within { result ≤ length leaves.now }
     ensures ranked { AreRanked leaves.now → leaf_in leaf.now.rev leaves.now ≡ None
@@ -101,7 +104,7 @@ pub fn add_leaf(leaves: &mut Vec<SharedLeaf>, leaf: SharedLeaf)
     drop(leaves.insert(at, leaf));
 }
 
-/// The leaves, lent. Cost: their number.
+/// Lists references to the leaves. Errors: `NoMemory` if an allocation fails. Cost: their number.
 pub fn lent_leaves(alloc: Global, leaves: &[SharedLeaf]) -> Result<Vec<&Leaf>, NoMemory>
     ensures { IfOk result (λ found. map (λ l. l.now) found.items ≡ leaves.now) }
 {
@@ -112,7 +115,8 @@ pub fn lent_leaves(alloc: Global, leaves: &[SharedLeaf]) -> Result<Vec<&Leaf>, N
     Ok(found)
 }
 
-/// The leaves that are not deleted. If there are none, no memory is needed.
+/// Lists references to the leaves that are not deleted. Errors: `NoMemory` if an allocation fails; without such a leaf, no memory is
+/// needed. Cost: the number of all leaves.
 pub fn undeleted_among(alloc: Global, leaves: &[SharedLeaf]) -> Result<Vec<&Leaf>, NoMemory>
     ensures kept { IfOk result
         (λ found. map (λ l. l.now) found.items ≡ filter (λ l. not l.deleted) leaves.now) }
@@ -128,7 +132,8 @@ pub fn undeleted_among(alloc: Global, leaves: &[SharedLeaf]) -> Result<Vec<&Leaf
     Ok(found)
 }
 
-/// A list that shares the same leaves, with capacity for one more, so that an edit of the copy does not reallocate it.
+/// Makes a list that shares these leaves, with capacity for one more, so that an edit of the copy does not reallocate the list. Errors:
+/// `NoMemory` if an allocation fails, or if there are too many references to a leaf. Cost: one reference count for each leaf.
 pub fn copy_leaves(alloc: Global, leaves: &[SharedLeaf]) -> Result<Vec<SharedLeaf>, NoMemory>
     ensures { IfOk result (λ made. made.items ≡ leaves.now) }
 {

@@ -5,7 +5,7 @@ ghost use Rattle.mg_revtree.specs.Body.{IsFormOf};
 ghost use Rattle.mg_revtree.specs.History.{Link, are_known_whole, first_of, fit, links};
 ghost use Rattle.mg_revtree.specs.Growth.{line_tree};
 ghost use Rattle.mg_revtree.specs.Pair.{pair_links};
-ghost use Rattle.mg_revtree.specs.Tree.{AreNodes, find};
+ghost use Rattle.mg_revtree.specs.Tree.{AreKnownLinks, find};
 
 use crate::form::Form;
 use crate::grown::{Grown, list_of_leaf};
@@ -18,9 +18,9 @@ use std::alloc::Global;
 use std::marker::Model;
 use std::slice;
 
-/// A leaf, and the id of its parent, which is at the position below and has no known parent: the tree of a document that was
-/// edited or deleted once. The id has exactly 32 bytes and is stored in the value itself, so the parent has no block; a tree whose
-/// parent has an id of another length is kept as a line. Contracts see the tree.
+/// A leaf and the id of its parent: the tree of a document that was edited or deleted once. The parent is at the position below, and has
+/// no known parent. Its id has exactly 32 bytes and is stored in the value itself, so the parent has no block; a tree whose parent has an
+/// id of another length is kept as a line. Contracts see the tree.
 #[derive(Drop)]
 pub(crate) struct Pair {
     leaf: SharedLeaf,
@@ -42,8 +42,8 @@ impl Model for Pair {
 }
 
 impl Pair {
-    /// The pair of a leaf and its parent, if no other revision is known, and the parent's id has 32 bytes. Takes no memory.
-    /// Errors: `NoMemory` if there are too many references to the leaf.
+    /// Makes the pair of a leaf and its parent. `None` unless exactly these two revisions are known, both in the newer list, and the
+    /// parent's id has 32 bytes. Takes no memory. Errors: `NoMemory` if there are too many references to the leaf.
     pub fn of(leaf: &SharedLeaf, known: &KnownLinks) -> Result<Option<Pair>, NoMemory>
         ensures { IfOk result (λ found. IfSome found (λ pair. pair ≡ line_tree known.now leaf.now)) }
     {
@@ -56,7 +56,7 @@ impl Pair {
         }
     }
 
-    /// The leaf, as a list. Takes no memory.
+    /// Returns the leaf as a list of one. Takes no memory.
     pub fn leaves(&self) -> &[SharedLeaf]
         ensures { result.now ≡ self.now.leaves }
     {
@@ -70,10 +70,10 @@ impl Pair {
         self.look_up_parent(pos, id.as_bytes()).is_some()
     }
 
-    /// Whether a run, given by its start and its ids, newest first, gives neither revision a parent other than the known one. Takes no
-    /// memory. Cost: the length of the run.
+    /// Whether a run, given by its start and its ids, newest first, fits: if it gives the leaf a parent, that is the known one. Only the
+    /// leaf has a known parent. Takes no memory. Cost: the length of the run.
     pub fn fits(&self, start: u32, ids: &[String]) -> bool
-        ensures { (ls : List Link) → AreNodes self.now.links ls
+        ensures { (ls : List Link) → AreKnownLinks self.now.links ls
             → result ≡ fit ls (links (run_from start (map string_bytes ids.now))) }
     {
         all_agree(self, start, ids)
@@ -82,13 +82,13 @@ impl Pair {
     /// Whether all revisions of a run, given by its start and its ids, newest first, are known with the parents that the run
     /// gives them. Takes no memory. Cost: the length of the run.
     pub fn knows_whole(&self, start: u32, ids: &[String]) -> bool
-        ensures { (ls : List Link) → AreNodes self.now.links ls
+        ensures { (ls : List Link) → AreKnownLinks self.now.links ls
             → result ≡ are_known_whole ls (links (run_from start (map string_bytes ids.now))) }
     {
         all_known(self, start, ids)
     }
 
-    /// Moves the leaf's body into the block of its form, if no copy of the tree shares the leaf. Takes no memory.
+    /// Moves the leaf's body into the block of `form`, as `SharedLeaf::move_into` does. Takes no memory.
     pub fn move_body_into(&mut self, form: Form)
         requires { IfSome (first_of self.old.leaves) (λ l. IsFormOf l.body form) }
         ensures { self.new ≡ self.old }
@@ -96,7 +96,7 @@ impl Pair {
         self.leaf.move_into(form);
     }
 
-    /// A copy that shares the leaf with its body. Takes no memory. Errors: `NoMemory` if there are too many references to the leaf.
+    /// Makes a copy that shares the leaf and its body. Takes no memory. Errors: `NoMemory` if there are too many references to the leaf.
     pub fn copy(&self) -> Result<Pair, NoMemory>
         ensures { IfOk result (λ pair. pair ≡ self.now) }
     {
@@ -106,7 +106,8 @@ impl Pair {
         })
     }
 
-    /// A copy as lists.
+    /// Copies the pair into lists. Errors: `NoMemory` if an allocation fails, if the ids take more than 4,294,967,295 bytes, or if there
+    /// are too many references to the leaf.
     pub fn in_lists(&self, alloc: Global) -> Result<Grown, NoMemory>
         ensures { IfOk result (λ grown. grown ≡ self.now) }
     {
@@ -133,7 +134,8 @@ impl LookUp for Pair {
     }
 }
 
-// The id of a revision's parent, if no other revision than the two is known, and the parent's id has 32 bytes.
+// Finds the id of a revision's parent. `None` unless exactly these two revisions are known, both in the newer list, and the parent's id
+// has 32 bytes.
 fn parent_of(rev: &Rev, known: &KnownLinks) -> Option<[u8; 32]>
     ensures { IfSome result (λ parent. (0 < rev.now.0) × (known.now ≡ pair_links rev.now parent)) }
 {

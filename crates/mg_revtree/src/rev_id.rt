@@ -6,7 +6,7 @@ use mg_value::NoMemory;
 use std::alloc::Global;
 use std::marker::Model;
 
-// An id of exactly this many bytes has no block.
+// An id of exactly this many bytes is stored in the value itself.
 const INLINE: usize = 32;
 
 const _: () = prove!(size_of::<RevId>() == 40);
@@ -18,7 +18,7 @@ pub(crate) enum HeldRevId {
 }
 
 /// The id of a revision. An id of exactly 32 bytes is stored in the value itself, since a block for each id would take more memory; each
-/// id that `rev_id` of `mg_doc` makes has 32 bytes. Any other id has a block. Contracts see the bytes.
+/// id that `rev_id` of `mg_doc` makes has 32 bytes. An id of any other length has a block. Contracts see the bytes.
 #[derive(Debug, Drop)]
 pub struct RevId {
     held: HeldRevId,
@@ -45,7 +45,7 @@ impl RevId {
         RevId { held }
     }
 
-    /// A copy of a text as an id. Takes no memory if the text has 32 bytes. Errors: `NoMemory` if an allocation fails.
+    /// Copies a text into an id. Takes no memory if the text has 32 bytes. Errors: `NoMemory` if an allocation fails.
     pub fn copy_of(alloc: Global, id: &str) -> Result<RevId, NoMemory>
         ensures { IfOk result (λ made. made ≡ id.now) }
     {
@@ -53,21 +53,21 @@ impl RevId {
         Ok(RevId { held })
     }
 
-    /// The text of the id. Takes no memory.
+    /// Returns the text of the id. Takes no memory.
     pub fn as_str(&self) -> &str
         ensures { result.now ≡ self.now }
     {
         lend(&self.held)
     }
 
-    /// The bytes of the id. Takes no memory.
+    /// Returns the bytes of the id. Takes no memory.
     pub fn as_bytes(&self) -> &[u8]
         ensures { result.now ≡ self.now }
     {
         lend(&self.held).as_bytes()
     }
 
-    /// A copy of the id. Takes no memory if the id has 32 bytes. Errors: `NoMemory` if an allocation fails.
+    /// Copies the id. Takes no memory if the id has 32 bytes. Errors: `NoMemory` if an allocation fails.
     pub fn copy(&self, alloc: Global) -> Result<RevId, NoMemory>
         ensures { IfOk result (λ copy. copy ≡ self.now) }
     {
@@ -75,7 +75,7 @@ impl RevId {
     }
 }
 
-/// The bytes as an array, if there are 32 of them. Takes no memory.
+/// Returns the bytes as an array if there are 32 of them; else `None`. Takes no memory.
 pub(crate) fn inline_bytes(bytes: &[u8]) -> Option<[u8; 32]>
     ensures { IfSome result (λ digest. digest ≡ bytes.now) }
 {
@@ -97,6 +97,7 @@ fn hold(id: String) -> HeldRevId
     }
 }
 
+// Copies a text, into the value itself if it has 32 bytes. Errors: `NoMemory` if an allocation fails.
 fn hold_copy(alloc: Global, id: &str) -> Result<HeldRevId, NoMemory>
     ensures bytes { IfOk result (λ held. held_id held ≡ id.now) }
     ensures text { IfOk result (λ held. IsText held) }

@@ -10,8 +10,8 @@ use std::alloc::Global;
 use std::cmp::Ordering;
 use std::marker::Model;
 
-/// A revision of a document, written `N-id`: its position, counted from 1, and its id, one or more
-/// printable ASCII characters other than the space. Contracts see the pair of both.
+/// A revision of a document, written `N-id`: its position, counted from 1, and its id, one or more printable ASCII characters other than
+/// the space. Contracts see the pair of position and id.
 #[derive(Debug, Drop)]
 pub struct Rev {
     /// The position, from 1 to 4,294,967,295.
@@ -29,10 +29,10 @@ impl Model for Rev {
 }
 
 impl Rev {
-    /// Reads `N-id`, cut at the first hyphen: N in decimal, from 1 to 4,294,967,295, with no leading zero.
+    /// Reads `N-id`. The first hyphen ends N, which is in decimal, from 1 to 4,294,967,295, with no leading zero.
     ///
-    /// Errors: `Bad` for exactly the texts that are not a revision; `NoMemory` if an allocation fails. Takes no memory if the id has
-    /// 32 bytes. Cost: the length of the text. Source: revisions of CouchDB's API reference.
+    /// Errors: `Bad` if and only if the text is not a revision; else `NoMemory` if an allocation fails. Takes no memory if the id has 32
+    /// bytes. Cost: the length of the text. Source: revisions of CouchDB's API reference.
     pub fn parse(alloc: Global, text: &str) -> Result<Rev, RevError>
         ensures ok { IfOk result (λ rev. revision_of text.now ≡ Some rev) }
         ensures bad { result ≡ Err RevError.Bad → revision_of text.now ≡ None }
@@ -53,7 +53,7 @@ impl Rev {
         })
     }
 
-    /// The text `N-id`. Errors: `NoMemory` if an allocation fails. Cost: the length of the id.
+    /// Writes the revision as the text `N-id`. Errors: `NoMemory` if an allocation fails. Cost: the length of the id.
     pub fn text(&self, alloc: Global) -> Result<String, NoMemory>
         ensures { IfOk result (λ text. string_bytes text ≡ revision_text self.now) }
     {
@@ -62,7 +62,7 @@ impl Rev {
         Ok(format!(in alloc; "{pos}-{id}")?)
     }
 
-    /// Orders by the position, then by the bytes of the id.
+    /// Orders revisions by the position, then by the bytes of the id.
     pub fn order(&self, other: &Rev) -> Ordering
         ensures { result ≡ revision_order self.now other.now }
     {
@@ -71,22 +71,22 @@ impl Rev {
             .then(self.id.as_bytes().cmp(other.id.as_bytes()))
     }
 
-    // Compares the revision of the given position and id to this revision.
+    // Compares two revisions: the one of the given position and id, and this one, in that order.
     pub(crate) fn against(&self, pos: u32, id: &[u8]) -> Ordering
         ensures { result ≡ revision_order (pos, id.now) self.now }
     {
         pos.cmp(&self.pos).then(id.cmp(self.id.as_bytes()))
     }
 
-    // Whether the revision is that of the given position and id.
+    // Whether this revision has the given position and id.
     pub(crate) fn is(&self, pos: u32, id: &[u8]) -> bool
         ensures { result ≡ same_revision (pos, id.now) self.now }
     {
         self.against(pos, id).is_eq()
     }
 
-    /// A copy of the revision. Takes no memory if the id has 32 bytes. Errors: `NoMemory` if an allocation fails. Cost: the length of
-    /// the id.
+    /// Copies the revision. Takes no memory if the id has 32 bytes. Errors: `NoMemory` if an allocation fails. Cost: the length of the
+    /// id.
     pub fn copy(&self, alloc: Global) -> Result<Rev, NoMemory>
         ensures { IfOk result (λ rev. rev ≡ self.now) }
     {
@@ -118,7 +118,7 @@ fn are_digits(bytes: &[u8]) -> bool
     bytes.iter().all(|byte| byte.is_ascii_digit())
 }
 
-// Reads a position: decimal digits with no leading zero.
+// Reads a position: decimal digits with no leading zero. `None` for any other text, or if the number is above 4,294,967,295.
 fn position(number: &str) -> Option<u32>
     ensures { result ≡ position_of number.now }
 {

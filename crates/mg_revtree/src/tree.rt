@@ -21,7 +21,8 @@ use mg_value::NoMemory;
 use std::alloc::Global;
 use std::marker::Model;
 
-// The position below a new revision, if the revision may be made: that of its parent, or 0 without one.
+// Finds the position below a new revision: that of its parent, or 0 without a parent. `None` if the parent is not a leaf, or if there is
+// no parent but there are leaves.
 fn position_under(leaves: &[SharedLeaf], parent: Option<&Rev>) -> Option<u32>
     ensures asked { AreRanked leaves.now → base_in leaves.now (option_copied parent.entry) ≡ is_some result }
     ensures below { IfSome result (λ n. n ≡ position_below (option_copied parent.entry)) }
@@ -36,7 +37,7 @@ fn position_under(leaves: &[SharedLeaf], parent: Option<&Rev>) -> Option<u32>
     }
 }
 
-// The ids of a new revision and of its parent.
+// Lists the ids of a new revision and of its parent, if there is one. Errors: `NoMemory` if an allocation fails.
 fn ids_over(alloc: Global, id: String, parent: Option<&Rev>) -> Result<Vec<String>, NoMemory>
     ensures { IfOk result
         (λ ids. map string_bytes ids.items ≡ ids_over (string_bytes id) (option_copied parent.entry)) }
@@ -52,10 +53,10 @@ fn ids_over(alloc: Global, id: String, parent: Option<&Rev>) -> Result<Vec<Strin
 /// The revision tree of a document: its known revisions with their parents, and its leaves with their deletion marks
 /// and bodies. Contracts speak of every list of accepted paths that the tree stands for.
 ///
-/// A body is kept once, at its leaf, in at most one block of memory. Most documents have one revision; their tree is its leaf alone.
-/// The tree of a document that was edited or deleted once is its leaf and the id of the leaf's parent, if that id has 32 bytes. Any
-/// other tree has two lists of known revisions, an older and a newer one. It keeps the id of a revision in one of them, or in both, and
-/// once more if the revision is a leaf.
+/// A body is kept once, at its leaf, in at most one block of memory. Most documents have one revision, and their tree is one leaf. The
+/// tree of a document that was edited or deleted once is its leaf and the id of the leaf's parent, if that id has 32 bytes. Any other
+/// tree that has revisions has two lists of them, an older and a newer one. The id of a revision is in one of these lists, or in both,
+/// and once more in the leaf if the revision is a leaf.
 #[derive(Drop)]
 pub struct RevTree {
     alloc: Global,
@@ -74,7 +75,7 @@ impl Model for RevTree {
 }
 
 impl RevTree {
-    /// The tree without revisions. Takes no memory.
+    /// Makes the tree without revisions. Takes no memory.
     pub fn new(alloc: Global) -> RevTree
         ensures { StandsFor result [] }
     {
@@ -84,7 +85,7 @@ impl RevTree {
         }
     }
 
-    /// The best leaf, by `Leaf::order`; `None` in a tree without leaves. Takes no memory.
+    /// Returns the best leaf, by `Leaf::order`; `None` in a tree without leaves. Takes no memory.
     pub fn winner(&self) -> Option<&Leaf>
         ensures winner { (h : Paths) → StandsFor self.now h → option_copied result ≡ winner_of h }
         ensures first { option_copied result ≡ first_of self.now.leaves }
@@ -96,9 +97,10 @@ impl RevTree {
         Some(leaves[0].leaf())
     }
 
-    /// Moves the winner's body into the block of the form in which the document is served, so that both take one block. `form` must be
-    /// a form of that body. The body stays where it is if a copy of the tree shares the winner, if it has no block of its own, or if it
-    /// has `_id` or `_rev` as a member. Contracts see the same tree. Takes no memory. Cost: two look-ups of a member in the body.
+    /// Moves the winner's body into the block of the form in which the document is served, so that both take one block. `form` must be a
+    /// form of that body. The body stays where it is if a copy of the tree shares the winner, if the body has no block of its own, or if
+    /// the body has `_id` or `_rev` as a member. Does nothing in a tree without leaves. Contracts see no change. Takes no memory. Cost:
+    /// two look-ups of a member in the body.
     pub fn move_body_into(&mut self, form: Form)
         requires { IfSome (first_of self.old.leaves) (λ l. IsFormOf l.body form) }
         ensures { self.new ≡ self.old }
@@ -106,7 +108,7 @@ impl RevTree {
         self.growth.move_body_into(form);
     }
 
-    /// The leaves, best first. Errors: `NoMemory` if an allocation fails. Cost: their number.
+    /// Lists the leaves, best first. Errors: `NoMemory` if an allocation fails. Cost: their number.
     pub fn leaves(&self) -> Result<Vec<&Leaf>, NoMemory>
         ensures each { IfOk result
             (λ found. (h : Paths) → StandsFor self.now h → AreLeaves h (map (λ l. l.now) found.items)) }
@@ -117,7 +119,7 @@ impl RevTree {
         Ok(found)
     }
 
-    /// The leaves other than the winner that are not deleted, best first. Takes no memory if there is no such leaf.
+    /// Lists the leaves other than the winner that are not deleted, best first. Takes no memory if there is no such leaf.
     ///
     /// Errors: `NoMemory` if an allocation fails. Cost: the number of the leaves.
     pub fn losers(&self) -> Result<Vec<&Leaf>, NoMemory>
@@ -134,11 +136,11 @@ impl RevTree {
         Ok(undeleted_among(self.alloc, &leaves[1..])?)
     }
 
-    /// A copy of the tree. It shares the leaves with their bodies, and the older known revisions.
+    /// Makes a copy that shares the leaves, their bodies, and the older known revisions.
     ///
     /// Errors: `NoMemory` if an allocation fails, or if there are too many references to what is shared. Cost: one reference count for
-    /// each leaf; for a tree with two lists of known revisions also copies of the two blocks that hold the newer list, which has at most
-    /// 64 revisions, or about four times the square root of the number of older ones.
+    /// each leaf; for a tree with two lists of known revisions also copies of the two blocks that hold the newer list. That list has at
+    /// most 64 revisions or about four times the square root of the number of older ones, whichever is more.
     pub fn copy(&self, alloc: Global) -> Result<RevTree, NoMemory>
         ensures { IfOk result (λ tree. tree ≡ self.now) }
     {
@@ -166,7 +168,7 @@ impl RevTree {
         self.growth.knows_whole(start, ids)
     }
 
-    /// The position of a new revision over the leaf `parent`; without a parent, 1 in a tree without leaves. Takes no memory.
+    /// Returns the position of a new revision over the leaf `parent`; without a parent, 1 in a tree without leaves. Takes no memory.
     ///
     /// Errors, in this order: `NotLeaf` if the parent is not a leaf, or if there is no parent but the tree has leaves;
     /// `Full` if the parent's position is 4,294,967,295. Cost: the logarithm of the leaves.
@@ -181,19 +183,20 @@ impl RevTree {
         }
     }
 
-    /// Accepts a path as a replica sends it, with the mark and the body of its newest revision. Unknown revisions
-    /// become known, and known ones without a parent get the parent that the path gives them. If the newest
-    /// revision is already known, it keeps its mark and its body. A path that is known whole changes nothing.
+    /// Accepts a path as a replica sends it, with the mark and the body of its newest revision. Unknown revisions become known, and known
+    /// ones without a parent get the parent that the path gives them. If the newest revision is already known, the given mark and body
+    /// are ignored. A path that is known whole changes nothing. Returns whether the newest revision was new or known.
     ///
-    /// Errors: `BadHistory` if the path contradicts a known parent; else `NoMemory` if an allocation fails, if the ids of the known
-    /// revisions take more than 4,294,967,295 bytes, or if there are too many references to a leaf. Neither a bad path nor one that is
-    /// known whole needs memory. An error leaves the tree as it was.
+    /// Errors: `BadHistory` if the path does not fit, as for `fits`; else `NoMemory` if an allocation fails, if the ids in one list of
+    /// known revisions would take more than 4,294,967,295 bytes, or if there are too many references to a leaf. A path that does not fit,
+    /// or is known whole, needs no memory. An error leaves the tree as it was.
     ///
-    /// Cost: the length of the path times the logarithms of the known revisions and of the leaves; for each leaf that is added or removed,
-    /// a move of one pointer for each leaf after it; and one pass over the newer known revisions at higher positions than the lowest
-    /// unknown revision of the path. There are no such revisions if the path extends the branch with the highest positions. The body keeps
-    /// its block and is not copied. If the newer revisions and those of the path are more than 64, and more than about four times the
-    /// square root of the number of older ones, all known revisions are copied too. Source: the replication model of CouchDB.
+    /// Cost: the length of the path times the logarithms of the known revisions and of the leaves; for each leaf that is added or
+    /// removed, a move of one pointer for each leaf after it; and one pass over those revisions in the newer list that come after the
+    /// lowest revision of the path that is not in that list. There are no such revisions if the path is a new revision over the greatest
+    /// known revision. The body keeps its block and is not copied. If the newer revisions and those of the path are more than 64, and
+    /// more than about four times the square root of the number of older ones, all known revisions are copied too. Source: the
+    /// replication model of CouchDB.
     pub fn merge(
         &mut self,
         path: &History,
@@ -221,7 +224,8 @@ impl RevTree {
         Ok(self.accept(start, ids, deleted, body)?)
     }
 
-    // Accepts a run that fits, given by its start and its ids, newest first.
+    // Accepts a run that fits, given by its start and its ids, newest first. Errors: `NoMemory`, as for `merge`; the tree is then as it
+    // was.
     fn accept(
         &mut self,
         start: u32,
@@ -250,7 +254,7 @@ impl RevTree {
         Ok(Merged::New)
     }
 
-    // Makes the first revision of a tree without revisions.
+    // Makes the first revision of a tree without revisions. Errors: `NoMemory` if an allocation fails; the tree is then as it was.
     fn begin(&mut self, rev: Rev, deleted: bool, body: Packed) -> Result<(), NoMemory>
         requires { self.old ≡ empty_tree }
         ensures begun { OnOk result
@@ -261,8 +265,8 @@ impl RevTree {
         Ok(())
     }
 
-    /// Makes a new revision over the leaf `parent`; without a parent, at position 1 in a tree without leaves. `id` must
-    /// be one that `is_rev_id` allows.
+    /// Makes a new revision over the leaf `parent`; without a parent, at position 1 in a tree without leaves. `id` should be one that
+    /// `is_rev_id` allows; this is not checked.
     ///
     /// Errors, in this order: those of `next_position`, then `Known` if the revision is already known, all found without memory;
     /// else `NoMemory`, as for `merge`. An error leaves the tree as it was. Cost: as for `merge`, with a path of the new revision
@@ -289,7 +293,8 @@ impl RevTree {
         Ok(())
     }
 
-    // Makes a new revision at its position over its parent.
+    // Makes a new revision at position `pos` over its parent, or without one. Errors: `NoMemory`, as for `merge`; the tree is then as it
+    // was.
     fn make_revision(
         &mut self,
         pos: u32,

@@ -1,4 +1,4 @@
--- A place among rows is found by a comparison of bytes.
+-- The order of a row bound against a row is that of their bytes.
 use Rattle.std.proofs.Common.{◌≡◌, ℕ, List, [], ◌∷◌, ◌++◌, length, Ordering, Less, Greater, refl, sym, ap, ap₂, ◌∙◌, arith}
 use Rattle.std.specs.Cmp.{nat_cmp_is}
 use Rattle.std.specs.Ordering.{ordering_then}
@@ -17,13 +17,13 @@ use Rattle.mg_rows.proofs.Joined.{columns_append}
 use Rattle.mg_rows.specs.StandsFor.{BoundOf, BeginsLow, value_low, below_value}
 use Rattle.mg_rows.specs.ByteOrder.{value_cmp, then_two, above_zero}
 
--- ---- what follows a column
+-- ---- what follows a value
 
 above_low : (xs : List ℕ) → BeginsLow xs → bytes_order (255 ∷ []) xs ≡ Greater
 above_low [] h = refl
 above_low (b ∷ xs) h = ap (λ o. ordering_then o (bytes_order [] xs)) (sym (nat_cmp_is 255 b Greater h))
 
--- 255 is above each column and above the end of a key
+-- 255 is above the first byte of each value, and above the end of a key
 above_items : (ws : Items) (id : List ℕ) → bytes_order (255 ∷ []) (items_before ws id) ≡ Greater
 above_items no_items id = refl
 above_items (item w ws) id = above_low (value_before w (items_before ws id)) (value_low w (items_before ws id))
@@ -36,9 +36,9 @@ edge_cmp : (edge : Edge) (ws : Items) (id : List ℕ) → bytes_order (edge_byte
 edge_cmp Before ws id = below_items ws id
 edge_cmp After ws id = above_items ws id
 
--- ---- places
+-- ---- bounds
 
--- the order of a place against a row, column by column
+-- the order of a bound against a row, value by value
 front_cmp : (edge : Edge) (vs ws : Items) (id : List ℕ) → AreStored vs → AreStored ws
     → bytes_order (columns_before vs (edge_bytes edge)) (items_before ws id) ≡ ordering_then (items_order vs (first_columns vs ws)) (edge_order edge)
 front_cmp edge no_items ws id f g = edge_cmp edge ws id
@@ -64,6 +64,6 @@ columns_joined : (vs ws : Items) (rest : List ℕ) → items_before (joined_item
 columns_joined no_items ws rest = refl
 columns_joined (item v vs) ws rest = ap (value_before v) (columns_joined vs ws rest)
 
--- the bytes of a row begin with those of its first columns
+-- the bytes of a row begin with those of the values of its first columns
 pub row_front : (vs ws : Items) (id : List ℕ) → row_bytes (joined_items vs ws, id) ≡ columns_before vs [] ++ row_bytes (ws, id)
 row_front vs ws id = columns_joined vs ws id ∙ columns_append vs [] (items_before ws id)

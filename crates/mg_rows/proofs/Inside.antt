@@ -41,7 +41,7 @@ pub text_raised : (s rest : List ℕ) → map suc s ++ 0 ∷ rest ≡ text_befor
 text_raised [] rest = refl
 text_raised (b ∷ s) rest = ap (λ y. suc b ∷ y) (text_raised s rest)
 
--- the part after what was there before is the text that was appended
+-- what follows the front of a buffer is the text that was appended to the front
 pub part_behind : (all front text : List ℕ) (start : ℕ) → all ≡ front ++ text → start ≡ length front → take (length all - start) (drop start all) ≡ text
 part_behind all front text start e h =
     ap (λ s. take (length s - start) (drop start s)) e ∙ ap (take (length (front ++ text) - start)) (drop_at front text start (sym h))
@@ -50,7 +50,7 @@ part_behind all front text start e h =
 joined_cut : (x y more after : List ℕ) (n : ℕ) → length (x ++ y) ≡ n → take n (x ++ (y ++ more) ++ after) ≡ x ++ y
 joined_cut x y more after n h = ap (take n) (ap (λ s. s ++ after) (sym (append_assoc x y more)) ∙ append_assoc (x ++ y) more after) ∙ take_at (x ++ y) (more ++ after) n h
 
--- where 1 is added to each byte of that part, what was there before is followed by the raised text
+-- after 1 is added to each byte of that text, the front is followed by the raised text
 pub raised_behind : (all front text part more after : List ℕ) (start n : ℕ) → all ≡ front ++ text → start ≡ length front → part ≡ map suc text → length all ≡ n
     → take n (take start all ++ (part ++ more) ++ after) ≡ front ++ map suc text
 raised_behind all front text part more after start n e h f size =

@@ -78,13 +78,13 @@ members_turn k v ms front out named new e f h =
     h ∙ ap (λ y. out ++ 5 ∷ y) (text_append k [] (value_before v (members_before ms []))) ∙ sym (append_assoc out (5 ∷ text_before k []) _) ∙ ap (λ y. y ++ value_before v (members_before ms [])) (sym e)
     ∙ ap (λ y. named ++ y) (value_append v [] (members_before ms [])) ∙ sym (append_assoc named (value_before v []) _) ∙ ap (λ y. y ++ members_before ms []) (sym f)
 
--- ---- keys and places
+-- ---- keys and bounds
 
 pub on_err_when : {T E P : Type 0} (r : Result T E) → P → OnErr r P
 on_err_when (Ok x) p = tt
 on_err_when (Err e) p = p
 
--- the bytes of a key with one more column
+-- the bytes of a key with one more value
 columns_more : (vs : Items) (v : Value) (rest : List ℕ) → columns_before (joined_items vs (item v no_items)) rest ≡ columns_before vs (value_before v rest)
 columns_more no_items v rest = refl
 columns_more (item w vs) v rest = ap (value_before w) (columns_more vs v rest)
@@ -96,8 +96,8 @@ more_stored (item w vs) v h k = (h.0, more_stored vs v h.1 k)
 pub made_key : (old new : List ℕ) (key : Items) (v : Value) → IsKey old key → IsStored v → new ≡ old ++ value_before v [] → IsKey new (joined_items key (item v no_items))
 made_key old new key v h k e = (more_stored key v h.0 k, e ∙ ap (λ s. s ++ value_before v []) h.1 ∙ sym (columns_append key [] (value_before v [])) ∙ sym (columns_more key v []))
 
-pub made_bound : (bytes columns : List ℕ) (edge : Edge) (key : Items) → IsKey columns key → bytes ≡ columns ++ edge_bytes edge → IsRowBound edge bytes key
-made_bound bytes columns edge key h e = (h.0, e ∙ ap (λ s. s ++ edge_bytes edge) h.1 ∙ sym (columns_append key [] (edge_bytes edge)))
+pub made_bound : (bytes column_bytes : List ℕ) (edge : Edge) (key : Items) → IsKey column_bytes key → bytes ≡ column_bytes ++ edge_bytes edge → IsRowBound edge bytes key
+made_bound bytes column_bytes edge key h e = (h.0, e ∙ ap (λ s. s ++ edge_bytes edge) h.1 ∙ sym (columns_append key [] (edge_bytes edge)))
 
 -- ---- rows
 
@@ -107,14 +107,14 @@ row_joined x p a e h = e ∙ ap (λ (q : List ℕ × List ℕ). q.0 ++ q.1) h.1 
 pub rows_bytes : (x y : List ℕ) (a b : RowValue) (o : Ordering) → o ≡ bytes_order x y → x ≡ row_bytes a → y ≡ row_bytes b → o ≡ bytes_order (row_bytes a) (row_bytes b)
 rows_bytes x y a b o h e f = h ∙ ap (λ s. bytes_order s y) e ∙ ap (bytes_order (row_bytes a)) f
 
--- the columns of a key and the byte that ends it are the bytes of its items
+-- the bytes of a key's values, with the byte that ends the key, are the bytes of its items
 columns_end : (vs : Items) (rest : List ℕ) → items_before vs rest ≡ columns_before vs (0 ∷ rest)
 columns_end no_items rest = refl
 columns_end (item v vs) rest = ap (value_before v) (columns_end vs rest)
 
--- the bytes of columns with the byte that ends a key, and those of an id, are the parts of a row
-pub made_row : (parts : List ℕ × List ℕ) (columns : List ℕ) (key : Items) (id : List ℕ) → IsKey columns key → IsUtf8 id → parts ≡ (columns ++ 0 ∷ [], id) → IsRow parts (key, id)
-made_row parts columns key id h utf8 split = (
+-- the bytes of a key's values with the byte that ends the key, and those of an id, are the parts of a row
+pub made_row : (parts : List ℕ × List ℕ) (column_bytes : List ℕ) (key : Items) (id : List ℕ) → IsKey column_bytes key → IsUtf8 id → parts ≡ (column_bytes ++ 0 ∷ [], id) → IsRow parts (key, id)
+made_row parts column_bytes key id h utf8 split = (
   (h.0, utf8),
   split ∙ ap (λ x. (x, id)) (ap (λ x. x ++ 0 ∷ []) h.1 ∙ sym (columns_append key [] (0 ∷ [])) ∙ sym (columns_end key [])),
 )

@@ -1,5 +1,5 @@
--- The order of the bytes is that of the values. These lemmas are here, and not with the other proofs, because `Only` rests
--- on them: they show that bytes are those of at most one row.
+-- The order of the bytes is that of the values. These lemmas are here, and not with the other proofs, because `StandsFor`
+-- uses them to show that bytes are those of at most one row.
 use Rattle.std.proofs.Common.{◌≡◌, ℕ, zero, suc, ◌/◌, ◌%◌, ◌<◌, ℤ, pos, negsuc, ◌<ℤ◌, List, [], ◌∷◌, Ordering, Less, Equal, Greater, nat_cmp, true, false, refl, sym, ap, ap₂, ◌∙◌, arith}
 use Rattle.std.specs.Cmp.Lexicographic.{slice_cmp}
 use Rattle.std.specs.Cmp.{nat_cmp_is}
@@ -29,7 +29,7 @@ split_one n m Equal Greater h k = omega (arith, h, k)
 split_cmp : (n m : ℕ) → ordering_then (nat_cmp (n / 256) (m / 256)) (nat_cmp (n % 256) (m % 256)) ≡ nat_cmp n m
 split_cmp n m = nat_cmp_is n m _ (split_one n m _ _ (ranked (n / 256) (m / 256) _ refl) (ranked (n % 256) (m % 256) _ refl))
 
--- what is left of n above its lowest k bytes
+-- n without its lowest k bytes
 abbrev above : ℕ → ℕ → ℕ
 above zero n = n
 above (suc k) n = above k (n / 256)
@@ -108,7 +108,7 @@ above_zero (text x) s t = refl
 above_zero (list vs) s t = refl
 above_zero (object ms) s t = refl
 
--- the order of two things with what comes after: first o, then p, then that of the rest
+-- an order by o, and then by p and q together (r), is one by o and p together, and then by q
 pub then_two : (o p q r : Ordering) → r ≡ ordering_then p q → ordering_then o r ≡ ordering_then (ordering_then o p) q
 then_two o p q r e = ap (ordering_then o) e ∙ sym (then_assoc o p q)
 

@@ -47,7 +47,7 @@ abbrev mutual
   members_before no_members rest = 0 ∷ rest
   members_before (member k v ms) rest = 5 ∷ text_before k (value_before v (members_before ms rest))
 
--- the first columns of a key, one after another, without the byte that ends a key
+-- the values of the first columns of a key, one after another, without the byte that ends a key
 abbrev pub columns_before : Items → List ℕ → List ℕ
 columns_before no_items rest = rest
 columns_before (item v vs) rest = value_before v (columns_before vs rest)

@@ -1,4 +1,4 @@
--- How the logic stores rows and bounds.
+-- How the logic stores rows and row bounds.
 use Rattle.std.specs.Coded.{Coded, coded×, coded_ℕ, coded_list}
 use Rattle.mg_value.specs.Value.{Items}
 use Rattle.mg_value.specs.Code.{items_code}

@@ -27,6 +27,6 @@ abbrev pub joined_items : Items → Items → Items
 joined_items no_items ws = ws
 joined_items (item v vs) ws = item v (joined_items vs ws)
 
--- the bytes of a row begin with those of its first columns
-abbrev pub FirstColumnsAreAFront : Type 0
-FirstColumnsAreAFront = (first others : Items) (id : List ℕ) → row_bytes (joined_items first others, id) ≡ columns_before first [] ++ row_bytes (others, id)
+-- the bytes of a row are those of the values of its first columns, and then those of the row of its other columns
+abbrev pub FirstColumnsAreAPrefix : Type 0
+FirstColumnsAreAPrefix = (first others : Items) (id : List ℕ) → row_bytes (joined_items first others, id) ≡ columns_before first [] ++ row_bytes (others, id)

@@ -4,12 +4,12 @@ use Rattle.std.specs.Arc.{arc_value}
 use Rattle.mg_rows.specs.declared.split.Held.{Held}
 use Rattle.mg_rows.specs.declared.split.Held.TheVariants.{Inline, Shared}
 
--- all the bytes
+-- the bytes of both parts
 abbrev pub held_bytes : Held → List ℕ
 held_bytes (Inline count end bytes) = take count bytes
 held_bytes (Shared bytes end) = (arc_value bytes).items
 
--- how many of them the first part has
+-- how many of the bytes the first part has
 abbrev pub held_end : Held → ℕ
 held_end (Inline count end bytes) = end
 held_end (Shared bytes end) = end

@@ -1,4 +1,4 @@
--- For ghost fields: the row, the key or the bound whose bytes these are. Bytes have at most one of each.
+-- For ghost fields: the row, the key or the bound that bytes stand for. Bytes stand for at most one of each.
 use Rattle.std.proofs.Common.{◌≡◌, ℕ, ◌<◌, List, [], ◌∷◌, Equal, Less, refl, sym, subst, ap, ap₂, ◌∙◌, arith, true, false, IsUtf8}
 use Rattle.std.specs.Prelude.{⊤}
 use Rattle.std.specs.Coded.{×_prop, Unit-prop, Coded-set, coded×, coded_list, coded_ℕ}
@@ -18,15 +18,15 @@ use Rattle.mg_rows.specs.ByteOrder.{value_cmp, items_cmp, row_cmp}
 use Rattle.mg_rows.specs.declared.edge.Edge.{Edge}
 use Rattle.mg_rows.specs.declared.edge.Edge.TheVariants.{Before, After}
 
--- the row whose bytes these are
+-- the bytes are those of a row: the first part of the pair is the row
 abbrev pub RowOf : List ℕ × List ℕ → Type 0
 RowOf parts = (row : RowValue) × IsRow parts row
 
--- the columns whose bytes these are
+-- the bytes are those of a key, without the byte that ends a key: the first part of the pair is the key
 abbrev pub KeyOf : List ℕ → Type 0
 KeyOf bytes = (key : Items) × IsKey bytes key
 
--- the bound whose bytes these are
+-- the bytes are those of a bound: the first part of the pair is the bound
 abbrev pub BoundOf : List ℕ → Type 0
 BoundOf bytes = (place : Edge × Items) × IsRowBound place.0 bytes place.1
 
@@ -87,7 +87,7 @@ one_items a b f g e = same_items a b (both (items_order a b) (bytes_order [] [])
 pub one_row_of_parts : (p : List ℕ × List ℕ) (a b : RowValue) → IsRow p a → IsRow p b → a ≡ b
 one_row_of_parts p a b f g = let e = sym f.1 ∙ g.1 in ap₂ (λ k i. (k, i)) (one_items a.0 b.0 f.0.0 g.0.0 (ap (λ (q : List ℕ × List ℕ). q.0) e)) (ap (λ (q : List ℕ × List ℕ). q.1) e)
 
--- what follows a column: the first byte, if there is one, is below 255
+-- the first byte, if there is one, is below 255
 abbrev pub BeginsLow : List ℕ → Type 0
 BeginsLow [] = ⊤
 BeginsLow (b ∷ bs) = b < 255
@@ -101,7 +101,7 @@ value_low (text s) rest = omega arith
 value_low (list vs) rest = omega arith
 value_low (object ms) rest = omega arith
 
--- the empty list of bytes is below every column
+-- the empty list of bytes is below those of every value
 pub below_value : (v : Value) (rest : List ℕ) → bytes_order [] (value_before v rest) ≡ Less
 below_value null rest = refl
 below_value (flag false) rest = refl
@@ -111,14 +111,14 @@ below_value (text s) rest = refl
 below_value (list vs) rest = refl
 below_value (object ms) rest = refl
 
--- what follows the columns determines the edge
+-- the bytes of an edge determine the edge
 same_edge : (e f : Edge) → edge_bytes e ≡ edge_bytes f → e ≡ f
 same_edge Before Before h = refl
 same_edge After After h = refl
 same_edge Before After h = absurd cc
 same_edge After Before h = absurd cc
 
--- no column begins with what follows the columns
+-- the bytes of an edge are not those of a value with what follows it
 no_column : (e : Edge) (w : Value) (rest : List ℕ) → edge_bytes e ≡ value_before w rest → ⊥
 no_column Before w rest h = let e : Equal ≡ Less = ap (bytes_order []) h ∙ below_value w rest in absurd cc
 no_column After w rest h = let low = subst BeginsLow (sym h) (value_low w rest) in omega (arith, low)
@@ -152,7 +152,7 @@ KeyOf-prop bytes = λ x y. Σ_prop_path (IsKey-prop bytes) (one_key bytes x.0 y.
 pub BoundOf-prop : (bytes : List ℕ) → IsProp (BoundOf bytes)
 BoundOf-prop bytes = λ x y. Σ_prop_path (IsRowBound-prop bytes) (one_bound bytes x.0 y.0 x.1 y.1)
 
--- ---- the ghost fields hold what the bytes are known to stand for
+-- ---- a ghost field holds the only row, key or bound that its bytes stand for
 
 pub the_row : (parts : List ℕ × List ℕ) (kept : RowOf parts) (row : RowValue) → IsRow parts row → kept.0 ≡ row
 the_row parts kept row h = one_row_of_parts parts kept.0 row kept.1 h

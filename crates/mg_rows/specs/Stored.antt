@@ -5,14 +5,14 @@ use Rattle.mg_value.specs.Value.{Items}
 use Rattle.mg_collate.specs.Row.{RowValue}
 use Rattle.mg_rows.specs.Bytes.{columns_before, row_parts}
 
--- a row whose key and id the code can hold
+-- the code can hold the key and the id of the row
 abbrev pub IsStoredRow : RowValue → Type 0
 IsStoredRow row = AreStored row.0 × IsUtf8 row.1
 
--- these are the bytes of the row's key, and those of its id
+-- the code can hold the row, and the two parts are the bytes of its key and those of its id
 abbrev pub IsRow : List ℕ × List ℕ → RowValue → Type 0
 IsRow parts row = IsStoredRow row × (parts ≡ row_parts row)
 
--- these are the bytes of the columns of a key, without the byte that ends it
+-- the code can hold the key, and these are the bytes of its values, without the byte that ends a key
 abbrev pub IsKey : List ℕ → Items → Type 0
 IsKey bytes key = AreStored key × (bytes ≡ columns_before key [])

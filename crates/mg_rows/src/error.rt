@@ -3,7 +3,7 @@ use std::alloc::{AllocError, AllocFailed};
 /// Why bytes were not read back as values.
 #[derive(Clone, Copy, PartialEq, Eq, Debug, Drop)]
 pub(crate) enum DecodeError {
-    /// The bytes are not those of any value. Never returned for the bytes of a row.
+    /// The bytes are not those of any value. Never returned for the bytes of a row's key.
     NotStored,
     /// An allocation failed.
     NoMemory,

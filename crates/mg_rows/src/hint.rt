@@ -1,5 +1,5 @@
-//! Hints: numbers that say where a search begins, and that never fall as rows ascend. A wrong hint makes a search
-//! longer, but does not change its result.
+//! Hints: numbers of rows and row bounds, which say where a search begins, and which never fall as rows ascend. A wrong
+//! hint makes a search longer, but does not change its result.
 use mg_value::Json;
 
 // In a hint, the bits from this one up say the type of a value, and the bits below say what the value holds.
@@ -11,16 +11,17 @@ const LOW_BITS: u64 = 0x7f7f_7f7f_7f7f_7f7f;
 // 1 in each of eight bytes: a row stores each byte of a text plus 1.
 const ONES: u64 = 0x0101_0101_0101_0101;
 
-// Whole numbers from `-NEAR` to `NEAR - 1` have different hints; all below have the hint of the lowest of these, all above
-// that of the greatest.
+// Whole numbers from `-NEAR` to `NEAR - 1` have different hints. All numbers below have the hint of `-NEAR`, and all numbers
+// above have that of `NEAR - 1`.
 const NEAR: u64 = 1 << 59;
 
 // The bits below the type, in the hint of `NEAR - 1` and of all whole numbers above it.
 const FARTHEST: u64 = ((1 << 60) - 1) << 1;
 
-/// The hint of a value: its type, and then the first bits of what it holds; 0 for `None`, as for a row whose key has no
-/// columns. Every row whose key begins with the value has this hint. It is even, so that a place before or after all
-/// these rows can have the odd hint below or above.
+/// Returns the hint of a value: its type, and for a number or a string also the first bits of what it holds; 0 for
+/// `None`, as for a row whose key is empty. Every row whose key begins with the value has the value's hint. Hints of
+/// values are even, so that a bound before or after all these rows can have the odd hint below or above. Takes no memory.
+/// Cost: constant.
 pub fn value_hint(value: Option<&Json>) -> u64 {
     match value {
         None => 0,
@@ -34,7 +35,7 @@ pub fn value_hint(value: Option<&Json>) -> u64 {
     }
 }
 
-/// The hint of a row, from its bytes: that of the first value of its key.
+/// Returns the hint of a row, from its bytes: that of the first value of its key; 0 if the key is empty.
 pub(crate) fn row_hint(bytes: &[u8]) -> u64 {
     match bytes {
         [4, a, b, c, d, e, f, g, h, ..] => turned_hint(u64::from_be_bytes([
@@ -49,8 +50,9 @@ pub(crate) fn row_hint(bytes: &[u8]) -> u64 {
     }
 }
 
-/// The hint of a place, from its bytes: that of its first value. Where that hint determines the value, and the place
-/// has no other value, it is the odd hint below or above.
+/// Returns the hint of a row bound, from its bytes: that of its first value, but the odd hint below or above that if the
+/// bound has no other value and the hint determines its only value. Without values, the hint is 0 for a bound before all
+/// rows, and for a bound after all rows the odd hint above those of all rows.
 pub(crate) fn bound_hint(bytes: &[u8]) -> u64 {
     let number = row_hint(bytes);
     match bytes.get(first_end(bytes, number)) {
@@ -60,7 +62,8 @@ pub(crate) fn bound_hint(bytes: &[u8]) -> u64 {
     }
 }
 
-// Where the first value ends, if its hint determines it; otherwise a position before its end.
+// Returns where the first value ends, if the hint determines the value; otherwise a position before its end. Without
+// values, returns 0.
 fn first_end(bytes: &[u8], number: u64) -> usize {
     match bytes.first() {
         None | Some(255) => 0,
@@ -71,7 +74,7 @@ fn first_end(bytes: &[u8], number: u64) -> usize {
     }
 }
 
-// Where a text of up to six bytes ends; 0 for a longer one. The first byte is the type.
+// Returns where a text of up to six bytes ends, and 0 for a longer one. The first of the given bytes is the type.
 fn text_end(bytes: &[u8]) -> usize {
     match bytes.iter().position(|byte| *byte == 0) {
         Some(place) if place < 8 => place + 1,
@@ -79,25 +82,25 @@ fn text_end(bytes: &[u8]) -> usize {
     }
 }
 
-// The hint of a type, without what a value holds.
+// Returns the hint of a type, without what a value holds.
 fn type_hint(tag: u8) -> u64 {
     u64::from(tag.min(7)) << TYPE_SHIFT
 }
 
-// The hint of a whole number whose sign bit is flipped. It determines the number, unless it is the lowest or the greatest
-// of these hints.
+// Returns the hint of a whole number, given the number with its sign bit flipped. The hint determines the number, unless
+// it is the lowest or the greatest hint of whole numbers.
 fn turned_hint(turned: u64) -> u64 {
     let lowest = (1 << 63) - NEAR;
     let near = turned.max(lowest).min((1 << 63) + NEAR - 1) - lowest;
     type_hint(4) | (near << 1)
 }
 
-// The hint of a text, from its first eight bytes as a row stores them.
+// Returns the hint of a text, from its first eight bytes as a row stores them.
 fn encoded_hint(front: u64) -> u64 {
     type_hint(5) | ((front >> 4) << 1)
 }
 
-// The first eight bytes of a text as a row stores them, filled up with zeros.
+// Returns the first eight bytes of a text as a row stores them, filled up with zeros.
 fn encoded_front(text: &[u8]) -> u64 {
     match text {
         [a, b, c, d, e, f, g, h, ..] => {
@@ -112,7 +115,7 @@ fn encoded_front(text: &[u8]) -> u64 {
     }
 }
 
-// The first eight bytes, filled up with zeros.
+// Returns the first eight bytes, filled up with zeros.
 fn front_of(bytes: &[u8]) -> u64 {
     let mut front = 0u64;
     for i in 0..8usize {
@@ -122,7 +125,7 @@ fn front_of(bytes: &[u8]) -> u64 {
     front
 }
 
-// The bytes before the first 0, filled up with zeros.
+// Returns the bytes before the first 0, filled up with zeros.
 fn front_before_zero(front: u64) -> u64 {
     // the highest bit of each byte that is 0
     let zeros = !((front & LOW_BITS).wrapping_add(LOW_BITS) | front | LOW_BITS);

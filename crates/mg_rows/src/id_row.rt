@@ -21,7 +21,7 @@ pub(crate) fn against_id_row(bytes: &[u8], id: &str) -> Ordering
     }
 }
 
-// Compares bytes with those of the id's row after the type of the string.
+// Compares bytes with those that follow the type of the string in the id's row.
 fn against_id(bytes: &[u8], id: &str) -> Ordering
     ensures { result ≡ bytes_order bytes.now (text_before id.now (0 ∷ id.now)) }
 {
@@ -39,7 +39,7 @@ fn against_id(bytes: &[u8], id: &str) -> Ordering
     against_end(left, id)
 }
 
-// Compares bytes with those of the id's row after the bytes of the string.
+// Compares bytes with those that follow the bytes of the string in the id's row: the end of the string and what comes after.
 fn against_end(bytes: &[u8], id: &str) -> Ordering
     ensures { result ≡ bytes_order bytes.now (0 ∷ 0 ∷ id.now) }
 {

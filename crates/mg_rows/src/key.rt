@@ -8,9 +8,10 @@ use mg_value::{LentValue, NoMemory};
 use std::alloc::Global;
 use std::marker::Model;
 
-/// The bytes of a key, which is built column by column and made into rows. Contracts see its columns.
+/// The bytes of a key, which is built value by value and made into rows. Contracts see its values.
 ///
-/// It is a buffer for reuse: it keeps its room when it is cleared, so that the keys of further rows take no memory.
+/// `KeyBytes` is a buffer for reuse: it keeps its room when it is cleared. A further key takes memory only if it is
+/// longer than all keys before.
 #[derive(Drop)]
 pub struct KeyBytes {
     bytes: Vec<u8>,
@@ -33,7 +34,7 @@ impl KeyBytes {
     ghost use Rattle.mg_value.specs.Value.{no_items, item};
     ghost use Rattle.mg_rows.specs.Laws.{joined_items};
 
-    /// A key with no columns. Takes no memory.
+    /// Makes the empty key. Takes no memory.
     pub fn new(alloc: Global) -> KeyBytes
         ensures { result ≡ no_items }
     {
@@ -42,22 +43,22 @@ impl KeyBytes {
         }
     }
 
-    /// Removes all columns, and keeps the room.
+    /// Removes all values, and keeps the room.
     pub fn clear(&mut self)
         ensures { self.new ≡ no_items }
     {
         self.bytes.clear();
     }
 
-    /// Appends a column, which is a lent value.
+    /// Appends the value of the next column.
     ///
-    /// Errors: `NoMemory` if an allocation fails; then the key has no columns. Cost: the size of the value.
-    pub fn push<L: LentValue>(&mut self, column: L) -> Result<(), NoMemory>
+    /// Errors: `NoMemory` if an allocation fails; then the key is empty. Cost: the size of the value.
+    pub fn push<L: LentValue>(&mut self, value: L) -> Result<(), NoMemory>
         ensures pushed { OnOk result
-            (self.new ≡ joined_items self.old (item (L.value column) no_items)) }
+            (self.new ≡ joined_items self.old (item (L.value value) no_items)) }
         ensures refused { OnErr result (self.new ≡ no_items) }
     {
-        write_column(column, &mut self.bytes)?;
+        write_column(value, &mut self.bytes)?;
         Ok(())
     }
 
@@ -70,9 +71,11 @@ impl KeyBytes {
         RowBytes::of_columns(alloc, self.bytes.as_slice(), id)
     }
 
-    /// The place before or after all rows whose key begins with these columns, made of the key's own bytes.
+    /// Makes the bound before or after all rows whose key begins with these values. The bound takes over the bytes of
+    /// the key.
     ///
-    /// Errors: `NoMemory` if an allocation fails. Cost: constant, unless the bytes have to move to gain one more.
+    /// Errors: `NoMemory` if an allocation fails; then the key is dropped. Cost: constant, or a copy of the bytes if there
+    /// is no room for one more.
     pub fn into_bound(self, edge: Edge) -> Result<RowBound, NoMemory>
         ensures { IfOk result (λ bound. bound ≡ (edge, self)) }
     {

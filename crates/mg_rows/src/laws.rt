@@ -1,8 +1,8 @@
 //! Laws of the bytes of rows, each the contract of a function that does nothing.
-ghost use Rattle.mg_rows.specs.Laws.{BytesGiveTheRow, BytesGiveTheValue, FirstColumnsAreAFront};
+ghost use Rattle.mg_rows.specs.Laws.{BytesGiveTheRow, BytesGiveTheValue, FirstColumnsAreAPrefix};
 ghost use Rattle.mg_rows.specs.Laws.{PartsGiveTheRow, RowsAreInTheOrderOfTheirBytes};
 
-/// The order of the bytes of rows is the order of the rows: by key, as arrays, and where keys tie by id.
+/// The order of the bytes of rows is the order of the rows: by key, as arrays, and rows of equal keys by id.
 pub fn rows_are_in_the_order_of_their_bytes()
     ensures { RowsAreInTheOrderOfTheirBytes }
 {}
@@ -14,7 +14,7 @@ pub fn bytes_give_the_row()
     ensures parts { PartsGiveTheRow }
 {}
 
-/// The bytes of a row begin with those of its first columns, however many these are.
-pub fn first_columns_are_a_front()
-    ensures { FirstColumnsAreAFront }
+/// The bytes of a row begin with those of the values of its first columns, for any number of columns.
+pub fn first_columns_are_a_prefix()
+    ensures { FirstColumnsAreAPrefix }
 {}

@@ -1,5 +1,5 @@
-// Reads values from bytes, each with the bytes after it. The bytes of a value are read back as the value (`value`),
-// and are never refused as `NotStored` (`stored`).
+// Reads values from the front of bytes, and returns the bytes that follow. The bytes of a value are read back as the value
+// (`value`), and are never refused as `NotStored` (`stored`).
 ghost use Rattle.std.specs.Prelude.{◌≡◌, ◌<◌, ◌≤◌, [], List, ℕ, ℤ, IfOk, IfErr, IsUtf8, FitsSigned, length, string_bytes};
 ghost use Rattle.std.specs.Int.{w64};
 ghost use Rattle.mg_value.specs.Value.{Value, Items, Members};
@@ -12,7 +12,7 @@ use mg_value::Json;
 use std::alloc::Global;
 use std::collections::BTreeMap;
 
-// Reads the key of a row from its bytes.
+// Reads a key from its bytes, with the byte that ends it.
 pub(crate) fn read_key(alloc: Global, bytes: &[u8]) -> Result<Vec<Json>, DecodeError>
     ensures value { (vs : Items) → AreStored vs → bytes.now ≡ items_before vs []
         → IfOk result (λ key. items_view key.items ≡ vs) }
@@ -124,7 +124,7 @@ fn read_text(alloc: Global, bytes: &[u8]) -> Result<(String, &[u8]), DecodeError
     Err(DecodeError::NotStored)
 }
 
-// Makes a text of its bytes.
+// Makes a text of its bytes; `NotStored` if they are not UTF-8.
 fn text_of(bytes: Vec<u8>) -> Result<String, DecodeError>
     ensures value { IfOk result (λ text. string_bytes text ≡ bytes.items) }
     ensures stored { IsUtf8 bytes.items → IfErr result (λ e. e ≡ DecodeError.NoMemory) }

@@ -14,17 +14,17 @@ use std::marker::Model;
 // The first size of the buffer, in bytes: most keys fit.
 const FIRST_ROOM: usize = 64;
 
-// The byte after the columns of a key: below every type.
+// The byte that ends a key: below every type.
 const KEY_END: u8 = 0;
 
 /// A row of an index as one string of bytes: the values of its columns, and then the id of its document. Contracts
 /// see the row.
 ///
-/// The order of the bytes is the order of rows: by key, as `mg_collate::compare_keys` orders keys, and where keys
-/// tie by the bytes of the id. A row of up to 45 bytes takes 48 bytes and no block of memory; a longer one is in a
-/// block that copies share. The bytes are, for each column, the type of the value (null 1, false 2, true 3,
-/// numbers 4, strings 5, arrays 6, objects 7) and what it holds, then 0, and then the id. A number takes 9 bytes,
-/// a string two more than its own.
+/// The order of the bytes is the order of rows: by key, as `mg_collate::compare_keys` orders keys, and rows of equal
+/// keys by the bytes of the id. A row takes 48 bytes; if it has more than 45 bytes, they are in a block of memory
+/// that copies share. The bytes are, for each column, the type of the value (null 1, false 2, true 3, numbers 4,
+/// strings 5, arrays 6, objects 7) and what the value holds, then 0, and then the id. A number takes 9 bytes, and
+/// a string takes two more than its own.
 ///
 /// Source: the order of JSON types in CouchDB's view collation, in an order-preserving encoding of tuples.
 #[derive(Drop)]
@@ -54,29 +54,33 @@ impl RowBytes {
 
     /// Makes the row of a key, with one value for each column, and the id of a document.
     ///
-    /// Errors: `NoMemory` if an allocation fails. Cost: the size of the key and the id; `KeyBytes` makes many
-    /// rows with one buffer.
+    /// Errors: `NoMemory` if an allocation fails. Cost: the size of the key and the id, and a buffer, which `KeyBytes`
+    /// saves for many rows.
     pub fn of(alloc: Global, key: &[Json], id: &str) -> Result<RowBytes, NoMemory>
         ensures { IfOk result (λ row. row ≡ (items_view key.now, id.now)) }
     {
-        let mut columns = Vec::with_capacity(alloc, FIRST_ROOM)?;
-        write_columns(key, &mut columns)?;
-        RowBytes::of_columns(alloc, &columns, id)
+        let mut column_bytes = Vec::with_capacity(alloc, FIRST_ROOM)?;
+        write_columns(key, &mut column_bytes)?;
+        RowBytes::of_columns(alloc, &column_bytes, id)
     }
 
-    // Makes a row from the bytes of its columns.
-    pub(crate) fn of_columns(alloc: Global, columns: &[u8], id: &str) -> Result<RowBytes, NoMemory>
-        requires { (key : Items) × IsKey columns.now key }
-        ensures { (key : Items) → IsKey columns.now key
+    // Makes a row from the bytes of its columns' values.
+    pub(crate) fn of_columns(
+        alloc: Global,
+        column_bytes: &[u8],
+        id: &str,
+    ) -> Result<RowBytes, NoMemory>
+        requires { (key : Items) × IsKey column_bytes.now key }
+        ensures { (key : Items) → IsKey column_bytes.now key
             → IfOk result (λ row. row ≡ (key, id.now)) }
     {
-        let bytes = SplitBytes::of(alloc, columns, KEY_END, id.as_bytes())?;
+        let bytes = SplitBytes::of(alloc, column_bytes, KEY_END, id.as_bytes())?;
         Ok(RowBytes { bytes })
     }
 
-    /// Duplicates the row: copies up to 45 bytes, and shares the block of a longer row.
+    /// Duplicates the row: copies up to 45 bytes, and shares the block of a longer row. Takes no memory.
     ///
-    /// Errors: `NoMemory` where the block of a longer row has 2^63 - 1 owners. Takes no memory.
+    /// Errors: `NoMemory` if the block of a longer row has 2^63 - 1 owners. Cost: constant.
     #[inline(always)]
     pub fn again(&self) -> Result<RowBytes, NoMemory>
         ensures { IfOk result (λ row. row ≡ self.now) }
@@ -85,7 +89,7 @@ impl RowBytes {
         Ok(RowBytes { bytes })
     }
 
-    // A copy of a row that has no block of its own; `None` for a longer row.
+    // Copies a row that has no block; `None` if it has one.
     #[inline(always)]
     pub(crate) fn copy_inline(&self) -> Option<RowBytes>
         ensures { IfSome result (λ row. row ≡ self.now) }
@@ -96,7 +100,8 @@ impl RowBytes {
         }
     }
 
-    /// The order of two rows: by key, and where keys tie by id. It compares bytes. Takes no memory.
+    /// Compares two rows: by key, and rows of equal keys by id. Compares bytes, and takes no memory. Cost: up to the first
+    /// difference.
     #[inline(always)]
     pub fn compare(&self, other: &RowBytes) -> Ordering
         ensures bytes { result ≡ bytes_order (row_bytes self.now) (row_bytes other.now) }
@@ -113,7 +118,7 @@ impl RowBytes {
         against_id_row(self.as_bytes(), id)
     }
 
-    /// The bytes of the row. Takes no memory.
+    /// Lends the bytes of the row. Takes no memory.
     #[inline(always)]
     pub fn as_bytes(&self) -> &[u8]
         ensures bytes { result.now ≡ row_bytes self.now }
@@ -122,7 +127,7 @@ impl RowBytes {
         self.bytes.bytes()
     }
 
-    /// The id of the row's document. Takes no memory. Cost: constant.
+    /// Lends the id of the row's document. Takes no memory. Cost: constant.
     #[inline(always)]
     pub fn id(&self) -> &str
         ensures { result.now ≡ self.now.1 }
@@ -133,7 +138,8 @@ impl RowBytes {
 
     /// Reads the values of the row's columns.
     ///
-    /// Errors: `NoMemory` if an allocation fails. Cost: the size of the key.
+    /// Errors: `NoMemory` if an allocation fails.
+    /// Cost: the size of the key, and for each object its members times the logarithm of their count.
     pub fn key(&self, alloc: Global) -> Result<Vec<Json>, NoMemory>
         ensures { IfOk result (λ key. items_view key.items ≡ self.now.0) }
     {
@@ -147,7 +153,7 @@ impl RowBytes {
 
     /// Reads the row: its values and its id.
     ///
-    /// Errors: `NoMemory` if an allocation fails. Cost: the size of the row.
+    /// Errors: `NoMemory` if an allocation fails. Cost: that of `key`, and the length of the id.
     pub fn row(&self, alloc: Global) -> Result<Row, NoMemory>
         ensures { IfOk result (λ row. row_view row ≡ self.now) }
     {
@@ -156,7 +162,7 @@ impl RowBytes {
         Ok(Row { key, id })
     }
 
-    // How many copies share the row's block; 0 where it has no block.
+    // Counts the copies that share the row's block, with this one; 0 if it has no block.
     #[inline(always)]
     pub(crate) fn owners(&self) -> usize {
         self.bytes.owners()

@@ -7,14 +7,14 @@ use std::alloc::Global;
 use std::cmp::Ordering;
 use std::marker::Model;
 
-// A byte above every byte that can follow a column in a row: a type is at most 7, and the end of a key is 0.
+// A byte above every byte that can follow a value of a key in a row: a type is at most 7, and the end of a key is 0.
 const ABOVE_ALL: u8 = 255;
 
 ghost use Rattle.std.specs.Prelude.{◌≡◌, ◌++◌, OnOk};
 ghost use Rattle.mg_rows.specs.RowBound.{edge_bytes};
 ghost use Rattle.mg_rows.specs.StandsFor.{BoundOf, BoundOf-prop};
 
-/// A place among rows: before or after all rows whose key begins with some values. Contracts see the edge and the
+/// A bound among rows: before or after all rows whose key begins with some values. Contracts see the edge and the
 /// values.
 #[derive(Drop)]
 pub struct RowBound {
@@ -42,31 +42,31 @@ impl RowBound {
     ghost use Rattle.mg_rows.specs.RowBound.{bound_order};
     ghost use Rattle.mg_rows.specs.Stored.{IsKey};
 
-    /// The place before or after all rows whose key begins with these values. With no values it is before or
-    /// after all rows.
+    /// Makes the bound before or after all rows whose key begins with these values. Without values, the bound is
+    /// before or after all rows.
     ///
     /// Errors: `NoMemory` if an allocation fails. Cost: the size of the values.
     pub fn at(alloc: Global, values: &[Json], edge: Edge) -> Result<RowBound, NoMemory>
         ensures { IfOk result (λ bound. bound ≡ (edge, items_view values.now)) }
     {
-        let mut columns = Vec::new(alloc);
-        write_columns(values, &mut columns)?;
-        RowBound::of_bytes(columns, edge)
+        let mut column_bytes = Vec::new(alloc);
+        write_columns(values, &mut column_bytes)?;
+        RowBound::of_bytes(column_bytes, edge)
     }
 
-    // Makes a place of the bytes of its values.
-    pub(crate) fn of_bytes(columns: Vec<u8>, edge: Edge) -> Result<RowBound, NoMemory>
-        requires { (values : Items) × IsKey columns.items values }
-        ensures { (values : Items) → IsKey columns.items values
+    // Makes a bound from the bytes of its values.
+    pub(crate) fn of_bytes(column_bytes: Vec<u8>, edge: Edge) -> Result<RowBound, NoMemory>
+        requires { (values : Items) × IsKey column_bytes.items values }
+        ensures { (values : Items) → IsKey column_bytes.items values
             → IfOk result (λ bound. bound ≡ (edge, values)) }
     {
-        let mut bytes = columns;
+        let mut bytes = column_bytes;
         write_edge(edge, &mut bytes)?;
         Ok(RowBound { bytes })
     }
 
-    /// Compares the place with a row: `Less` where the row is after the place, `Greater` where the row is before
-    /// it. It compares bytes. Takes no memory.
+    /// Compares the bound with a row: `Less` if the bound is before the row, `Greater` if it is after the row, and never
+    /// `Equal`. Compares bytes, and takes no memory. Cost: up to the first difference.
     #[inline(always)]
     pub fn against(&self, row: &RowBytes) -> Ordering
         ensures bytes { result
@@ -76,13 +76,14 @@ impl RowBound {
         self.bytes.as_slice().cmp(row.as_bytes())
     }
 
-    /// The hint of the place, in the order of the hints of rows: it says where a search begins. Takes no memory.
+    /// Returns the hint of the bound, which says where a search among the hints of rows begins. Takes no memory. Cost:
+    /// constant, or the length of the first value if that is a string.
     pub fn hint(&self) -> u64 {
         bound_hint(self.bytes.as_slice())
     }
 }
 
-// Appends what follows the values of a place.
+// Appends, after the values of a bound, the byte that stands for the edge; `Before` has no such byte.
 fn write_edge(edge: Edge, bytes: &mut Vec<u8>) -> Result<(), NoMemory>
     ensures { OnOk result (bytes.new.items ≡ bytes.old.items ++ edge_bytes edge) }
 {

@@ -1,4 +1,4 @@
-// Immutable bytes in two parts: up to 45 are stored in the value itself, more in a block that copies share.
+// Immutable bytes in two parts: up to 45 bytes are stored in the value itself, more are stored in a block that copies share.
 ghost use Rattle.std.specs.Prelude.{◌≡◌, ◌≤◌, ◌+◌, ◌++◌, [], ◌∷◌, IfOk, IfSome, length, take};
 ghost use Rattle.mg_rows.specs.Split.{held_bytes, held_end, held_parts, IsSound};
 
@@ -7,7 +7,7 @@ use std::alloc::Global;
 use std::marker::Model;
 use std::sync::Arc;
 
-// The most bytes that are stored in the value itself. A row then takes 48 bytes.
+// The most bytes that are stored in the value itself. With this limit a row takes 48 bytes.
 const INLINE: usize = 45;
 
 #[derive(Drop)]
@@ -18,7 +18,7 @@ pub(crate) enum Held {
     Shared(Arc<Vec<u8>>, usize),
 }
 
-/// Bytes in two parts. A copy of up to 45 of them takes no memory, and a copy of more shares them.
+/// Bytes in two parts. Up to 45 bytes are copied; more are in a block that copies share. A copy takes no memory.
 #[derive(Drop)]
 pub(crate) struct SplitBytes {
     held: Held,
@@ -39,7 +39,7 @@ impl Model for SplitBytes {
 impl SplitBytes {
     /// Copies bytes: the first part is `front` and then the byte `last`, the second part is `back`.
     ///
-    /// Errors: `NoMemory` if an allocation fails; up to 45 bytes take no memory. Cost: the number of bytes.
+    /// Errors: `NoMemory` if an allocation fails; up to 45 bytes take no memory. Cost: the count of bytes.
     pub(crate) fn of(
         alloc: Global,
         front: &[u8],
@@ -52,7 +52,7 @@ impl SplitBytes {
         Ok(SplitBytes { held })
     }
 
-    /// Both parts together. Takes no memory.
+    /// Lends both parts together. Takes no memory.
     #[inline(always)]
     pub(crate) fn bytes(&self) -> &[u8]
         ensures { result.now ≡ self.now.0 ++ self.now.1 }
@@ -60,7 +60,7 @@ impl SplitBytes {
         lend(&self.held)
     }
 
-    /// The two parts. Takes no memory.
+    /// Lends the two parts. Takes no memory.
     #[inline(always)]
     pub(crate) fn parts(&self) -> (&[u8], &[u8])
         ensures first { result.0.now ≡ self.now.0 }
@@ -70,7 +70,8 @@ impl SplitBytes {
         lend(&self.held).split_at(end)
     }
 
-    /// A copy, which shares the block if there is one. Takes no memory. Errors: `NoMemory` where the block has 2^63 - 1 owners.
+    /// Makes a copy, which shares the block if there is one. Takes no memory. Errors: `NoMemory` if the block has 2^63 - 1
+    /// owners.
     #[inline(always)]
     pub(crate) fn again(&self) -> Result<SplitBytes, NoMemory>
         ensures { IfOk result (λ split. split ≡ self.now) }
@@ -79,7 +80,7 @@ impl SplitBytes {
         Ok(SplitBytes { held })
     }
 
-    /// A copy of bytes that are stored in the value itself; `None` where they have a block.
+    /// Copies bytes that are stored in the value itself; `None` if they have a block.
     #[inline(always)]
     pub(crate) fn copy_inline(&self) -> Option<SplitBytes>
         ensures { IfSome result (λ split. split ≡ self.now) }
@@ -92,15 +93,15 @@ impl SplitBytes {
         }
     }
 
-    /// How many copies share the block; 0 where there is no block.
+    /// Counts the copies that share the block, with this one; 0 if there is no block.
     #[inline(always)]
     pub(crate) fn owners(&self) -> usize {
-        sharers_of(&self.held)
+        owners_of(&self.held)
     }
 }
 
 #[inline(always)]
-fn sharers_of(held: &Held) -> usize {
+fn owners_of(held: &Held) -> usize {
     match held {
         Held::Inline(_, _, _) => 0,
         Held::Shared(all, _) => Arc::strong_count(all),
@@ -124,7 +125,7 @@ fn hold(alloc: Global, front: &[u8], last: u8, back: &[u8]) -> Result<Held, NoMe
     Ok(Held::Shared(Arc::new(alloc, all)?, end))
 }
 
-// The bytes in order, filled up with zeros.
+// Makes the array that is stored in the value itself: the bytes in order, filled up with zeros.
 fn inside(front: &[u8], last: u8, back: &[u8]) -> [u8; 45]
     requires { length front.now + 1 + length back.now ≤ 45 }
     ensures bytes { take (length front.now + 1 + length back.now) result

@@ -1,4 +1,4 @@
-// Appends the bytes of values to a buffer. After an error some of them may have been appended, unless the function says otherwise.
+// Appends the bytes of values to a buffer. After an error, some of them may have been appended, unless a function says otherwise.
 ghost use Rattle.std.specs.Prelude.{◌≡◌, ◌++◌, [], ◌∷◌, suc, map, OnOk, OnErr, IsUtf8};
 ghost use Rattle.mg_value.specs.Value.{Items};
 ghost use Rattle.mg_value.specs.View.{items_view};
@@ -16,15 +16,15 @@ const TEXT_END: u8 = 0;
 // The byte after the items of an array or the members of an object: below every type.
 const LIST_END: u8 = 0;
 
-// Appends a column of a key. After an error the buffer is empty.
-pub(crate) fn write_column<L: LentValue>(column: L, out: &mut Vec<u8>) -> Result<(), NoMemory>
+// Appends the value of a key's next column. After an error the buffer is empty.
+pub(crate) fn write_column<L: LentValue>(value: L, out: &mut Vec<u8>) -> Result<(), NoMemory>
     ensures bytes { OnOk result
-        (out.new.items ≡ out.old.items ++ value_before (L.value column) []) }
-    ensures stored { OnOk result (IsStored (L.value column)) }
+        (out.new.items ≡ out.old.items ++ value_before (L.value value) []) }
+    ensures stored { OnOk result (IsStored (L.value value)) }
     ensures refused { OnErr result (out.new.items ≡ []) }
     ensures key { (key : Items) → IsKey out.old.items key → KeyOf out.new.items }
 {
-    match write_value(column, out) {
+    match write_value(value, out) {
         Ok(()) => Ok(()),
         Err(NoMemory) => {
             out.clear();
@@ -33,14 +33,14 @@ pub(crate) fn write_column<L: LentValue>(column: L, out: &mut Vec<u8>) -> Result
     }
 }
 
-// Appends the first columns of a key, without the byte that ends a key.
-pub(crate) fn write_columns(columns: &[Json], out: &mut Vec<u8>) -> Result<(), NoMemory>
+// Appends the values of a key's next columns, without the byte that ends a key.
+pub(crate) fn write_columns(values: &[Json], out: &mut Vec<u8>) -> Result<(), NoMemory>
     ensures bytes { OnOk result
-        (out.new.items ≡ out.old.items ++ columns_before (items_view columns.now) []) }
-    ensures stored { OnOk result (AreStored (items_view columns.now)) }
+        (out.new.items ≡ out.old.items ++ columns_before (items_view values.now) []) }
+    ensures stored { OnOk result (AreStored (items_view values.now)) }
 {
-    for column in columns {
-        write_value(column, out)?;
+    for value in values {
+        write_value(value, out)?;
     }
     Ok(())
 }
@@ -98,7 +98,7 @@ fn write_members<L: LentValue>(members: L::Object, out: &mut Vec<u8>) -> Result<
     Ok(())
 }
 
-// Appends a string with its type, and makes room for a byte that may follow. The name of a member is written in the same way.
+// Appends a string with its type, and makes room for a byte that may follow. A member's name is also written as a string.
 fn write_text(text: &str, out: &mut Vec<u8>) -> Result<(), NoMemory>
     ensures bytes { OnOk result (out.new.items ≡ out.old.items ++ 5 ∷ text_before text.now []) }
     ensures utf8 { IsUtf8 text.now }
@@ -113,7 +113,7 @@ fn write_text(text: &str, out: &mut Vec<u8>) -> Result<(), NoMemory>
     Ok(())
 }
 
-// Adds 1 to each byte.
+// Adds 1 to each byte; no byte of UTF-8 is 255.
 fn raise(bytes: &mut [u8])
     requires { IsUtf8 bytes.old }
     ensures { bytes.new ≡ map suc bytes.old }

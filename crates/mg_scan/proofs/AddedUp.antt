@@ -16,11 +16,11 @@ same m n k l f g false false e h = refl
 same m n k l f g true false e h = let over = leb-false k l h in let under = f (leb-true m n e) in absurd (omega (arith, over, under))
 same m n k l f g false true e h = let over = leb-false m n e in let under = g (leb-true k l h) in absurd (omega (arith, over, under))
 
--- with so many more there are too many
+-- if a alone is too many, a + b is too many
 too_many : (a b n : ℕ) → n < a → nat_le (a + b) n ≡ false
 too_many a b n less = same (a + b) n 1 0 (λ le. absurd (omega (arith, le, less))) (λ le. absurd (omega (arith, le))) (nat_le (a + b) n) false refl refl
 
--- with so many more there is less room
+-- a + b fits if b fits into what a leaves
 less_room : (a b n : ℕ) → a ≤ n → nat_le (a + b) n ≡ nat_le b (n - a)
 less_room a b n le = same (a + b) n b (n - a) (λ h. omega (arith, h, le)) (λ h. omega (arith, h, le)) (nat_le (a + b) n) (nat_le b (n - a)) refl refl
 
@@ -69,7 +69,7 @@ pub all_added : (f : ShardView → ℕ) (shards : List (Arc ShardView Global)) (
 all_added f shards i all so le =
     let none : sum_by f (drop i (shards_seen shards)) ≡ 0 = ap (sum_by f) (drop_all shards i le) in omega (arith, so, none)
 
--- the count of rows, if there are any
+-- the count of the rows of an index; 0 if there is no such index
 pub counts : (f : List RowValue → ℕ) (o : Option (List RowValue)) (n : ℕ) → Some n ≡ option_map f o → n ≡ option_map_or f o 0
 counts f None n e = absurd cc
 counts f (Some rows) n e = cc

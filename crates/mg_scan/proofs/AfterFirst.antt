@@ -1,4 +1,4 @@
--- Rows of one shard after the first n: what is found there, and the merge of that alone.
+-- The rows of one shard after the first n: what a search finds there, and the merge of this one list.
 use Rattle.std.proofs.Common.{◌≡◌, ℕ, zero, suc, ◌+◌, ◌-◌, ◌≤◌, Bool, true, false, List, [], ◌∷◌, Option, All, append-nil, drop, get_or, if◌then◌else◌, length, map, take, refl, ap, sym, ◌∙◌, subst, arith}
 use Rattle.std.proofs.Math.Seq.{take-nil}
 use Rattle.std.proofs.lemmas.List.{drop-drop}
@@ -84,7 +84,7 @@ nothing_after : (n : ℕ) → ◌≡◌ {A = List RowValue} [] (drop n [])
 nothing_after zero = refl
 nothing_after (suc n) = refl
 
--- the rows after the first n that are read are those after the first n that are found
+-- what a search finds after the first n rows that it reads is what it finds, without the first n
 pub rows_left_after : (at : Option (List Steps)) (s : Search) (shard : ShardView) (n : ℕ) (l m : Unread) → IsBegunIn at s shard l → IsUnreadAfter n l m → lead_rows s m ≡ drop n (lead_rows s l)
 rows_left_after at s shard n (unread.Rows rows) m b e =
     let ds = shard.documents in
@@ -123,7 +123,7 @@ module _ (s : Search) (n : ℕ) (shard : ShardView) (source : LeadSource) (is : 
   one_in_order =
       All-from_recursion (IsInOrder s.direction) (lead_rests source ∷ []) (in_order (directed_order s.direction) (directed_total s.direction) (lead_rests source) rest_rises, tt)
 
-  -- the merge of the rows after the first n is the merge of all, without its first n
+  -- the merge of the rows after the first n is the merge of all rows, without the first n
   pub one_merged : (skip wanted : ℕ) → n ≤ skip → wanted ≡ s.take - n → All (IsDecidedIn s.target s.normal.now s.range.now) (shard ∷ [])
       → drop (skip - n) (merged s.direction wanted (map lead_rests (source ∷ []))) ≡ drop skip (merged s.direction s.take (map (found_by s) (shard ∷ [])))
   one_merged skip wanted within w decided =

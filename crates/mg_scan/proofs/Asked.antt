@@ -1,4 +1,4 @@
--- What a search asks may cross threads.
+-- A search may be shared by threads (`Sync`).
 use denote.Enum.Declared as E
 use denote.Enum.Enum.{Enum}
 use denote.Hole.Fix.{holes}
@@ -42,7 +42,7 @@ range_sync = search (sendable, crosses, maps, span_sync) depth 40
 pub row_range_sync : (κs : _) → IsSync (RowRange.the_row κs)
 row_range_sync κs = search (sendable, crosses, maps, range_sync, ends.the_sync) depth 40
 
--- ---- selectors and operators, which hold one another
+-- ---- selectors and operators, which contain one another
 
 ring_sync : (g : Bool) → IsSync (holes Sel.the_ring (cond g Sel.the_member Op.the_member))
 ring_sync =
@@ -56,9 +56,6 @@ ring_sync =
 
 sel_hole : IsSync Sel.the_hole
 sel_hole = ring_sync true
-
-op_hole : IsSync Op.the_hole
-op_hole = ring_sync false
 
 op_sync : IsSync Op.the_row
 op_sync = variants_sync Op.enum ((search (sendable, crosses, maps, as_row_sync, json_sync) depth 20, tt), ((search (sendable, crosses, maps, as_row_sync, json_sync) depth 20, tt), ((search (sendable, crosses, maps, as_row_sync, json_sync) depth 20, tt), ((search (sendable, crosses, maps, as_row_sync, json_sync) depth 20, tt), ((search (sendable, crosses, maps, as_row_sync, json_sync) depth 20, tt), ((search (sendable, crosses, maps, as_row_sync, json_sync) depth 20, tt), ((search (sendable, crosses, maps, as_row_sync) depth 20, tt), ((search (sendable, crosses, maps, as_row_sync) depth 20, tt), ((search (sendable, crosses, maps, as_row_sync, json_sync) depth 20, tt), ((search (sendable, crosses, maps, as_row_sync, json_sync) depth 20, tt), ((search (sendable, crosses, maps, as_row_sync) depth 20, tt), ((search (sendable, crosses, maps, as_row_sync) depth 20, (search (sendable, crosses, maps, as_row_sync) depth 20, tt)), ((search (sendable, crosses, maps, as_row_sync, json_sync) depth 20, tt), ((search (sendable, crosses, maps, as_row_sync, sel_hole) depth 20, tt), ((search (sendable, crosses, maps, as_row_sync, sel_hole) depth 20, tt), tt)))))))))))))))

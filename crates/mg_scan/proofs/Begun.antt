@@ -1,4 +1,4 @@
--- What a search finds of what it has to read when it begins.
+-- What a search finds in what it has to read when it begins.
 use Rattle.std.proofs.Common.{◌≡◌, Bool, true, false, cond, List, [], ◌∷◌, Option, Some, None, Ordering, is_gt, is_some, option_map, if◌then◌else◌, refl, ap, sym, ◌∙◌, subst}
 use Rattle.std.specs.List.{AllByRecursion, cons_option, filter_map}
 use Rattle.std.specs.Option.{option_map_or}
@@ -43,7 +43,7 @@ none_begun s ds (Some d) e = absurd cc
 
 -- ---- hits
 
--- all that is found on the way from there is all that there is
+-- all that a search finds on its way from where it begins is all that it finds in the shard
 pub begun_hits : (at : Option (List Steps)) (s : Search) (shard : ShardView) (l : Unread) → IsBegunIn at s shard l
     → unread_rows s shard l ≡ option_map_or (λ columns. all_matches (search_input s columns) (docs_of shard.documents)) at []
 begun_hits at s shard (unread.Rows rows) b =
@@ -100,13 +100,13 @@ held_step s ds r b xs ys None e f g = absurd cc
 held_step s ds r true xs ys (Some form) e f g = refl
 held_step s ds r false xs ys (Some form) e f g = ap (λ zs. r ∷ zs) g
 
--- rows of served documents are all found where nothing is asked of them
+-- a search without a selector finds all rows of served documents
 on_way : (s : Search) (ds : KeptDocuments) (rows : List RowValue) → AreServed ds rows → rows_on_way s rows ≡ walked_all_by (without_selector s) ds rows
 on_way s ds [] h = refl
 on_way s ds (r ∷ rows) h =
     held_step s ds r (is_late_row s.direction s.range.now r) (rows_on_way s rows) (walked_all_by (without_selector s) ds rows) (form_at ds r.1) refl h.0 (on_way s ds rows h.1)
 
--- all rows on the way from there are all that there are, where nothing is asked of documents
+-- all rows on the way from where a search begins are what it finds in the shard without its selector
 pub begun_leads : (at : Option (List Steps)) (s : Search) (shard : ShardView) (l : Unread) → IsBegunIn at s shard l
     → lead_rows s l ≡ option_map_or (λ columns. all_matches (search_input (without_selector s) columns) (docs_of shard.documents)) at []
 begun_leads at s shard (unread.Rows rows) b =

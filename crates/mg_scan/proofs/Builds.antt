@@ -1,4 +1,4 @@
--- Rows that are extracted of each shard, and shards that are built of them.
+-- The rows that are extracted from each shard, and the shards that are built with them.
 use Rattle.std.proofs.Common.{◌≡◌, ℕ, zero, suc, ◌+◌, ◌<◌, List, [], ◌∷◌, ◌++◌, map, length, take, get_or, set, Some, Result, slice_get, sym, ap, ◌∙◌, subst, add-one, arith}
 use Rattle.std.specs.Arc.{arc_value}
 use Rattle.std.specs.declared.alloc.Global.{Global}
@@ -41,7 +41,7 @@ at_index [] i x e = absurd cc
 at_index (y ∷ xs) zero x e = (omega arith, some_is y x e)
 at_index (y ∷ xs) (suc i) x e = let rest = at_index xs i x e in (omega (arith, rest.0), rest.1)
 
--- what a call gave at each place, of what stands at each place
+-- each item of the list has what the call of the same number returned
 pub rows-called : (d : IndexDefinition) (shards : List ShardView) (from n : ℕ) (rs : List Extracted) → length rs ≡ n → ((i : ℕ) (r : Extracted) → i < n → HasRowsAt d shards (from + i) (get_or rs i r)) → AreRowsFrom d shards from rs
 rows-called d shards from n rs long h i r e =
     let at = at_index rs i r e in

@@ -1,4 +1,4 @@
--- Where the range decides, what a scan finds is what it finds where nothing is asked of documents.
+-- If the range decides, a search finds the same rows without its selector.
 use Rattle.std.proofs.Common.{◌≡◌, ℕ, Bool, true, false, ◌&&◌, List, [], ◌∷◌, Option, Some, All, is_some, map, take, refl, ap, ap₂, sym, ◌∙◌}
 use Rattle.std.proofs.lemmas.List.Elements.{recursion_from_All}
 use Rattle.std.specs.List.{AllByRecursion, filter, filter_map}
@@ -34,7 +34,7 @@ once : (a b : Bool) → (a && (a && b)) ≡ (a && b)
 once true b = refl
 once false b = refl
 
--- rows in the range alone are those in the range whose documents the selector holds of
+-- the rows in the range are the rows in the range whose documents match the selector
 scanned_alike : (n : NormalForm) (columns : List Steps) (range : Range) (after : Option RowValue) (count : ℕ) (direction : Direction) → is_some n.rest ≡ false → decides_of n.atoms columns ≡ true
     → range ≡ range_of n.atoms columns → (ds : List ServedDocument) → all_matches (input_of_parts everything range after count direction columns) ds ≡ all_matches (input_of_parts n range after count direction columns) ds
 scanned_alike n columns range after count direction alone decides is ds =
@@ -60,6 +60,6 @@ each_alike : (s : Search) (shards : List ShardView) → AllByRecursion (IsDecide
 each_alike s [] h = refl
 each_alike s (shard ∷ shards) h = ap₂ (λ rows lists. rows ∷ lists) (found_alike s shard h.0) (each_alike s shards h.1)
 
--- where the range decides in each shard, the rows in it alone are what is found
+-- if the range decides in each shard, the search finds in each the rows that are in the range
 pub all_alike : (s : Search) (shards : List ShardView) → All (IsDecidedIn s.target s.normal.now s.range.now) shards → map (found_by (without_selector s)) shards ≡ map (found_by s) shards
 all_alike s shards h = each_alike s shards (recursion_from_All (IsDecidedIn s.target s.normal.now s.range.now) shards h)

@@ -1,4 +1,4 @@
--- Where the range of a search ends among rows in order: what is known of rows from one that comes later.
+-- Where the range of a search ends among rows in order: a later row tells of the rows before it.
 use Rattle.std.proofs.Common.{◌≡◌, ℕ, zero, suc, ◌-◌, ◌≤◌, Bool, true, false, List, [], ◌∷◌, Option, drop, refl, sym, subst, arith}
 use Rattle.std.specs.List.{AllByRecursion}
 use Rattle.mg_collate.specs.Row.{RowValue}
@@ -16,7 +16,7 @@ use Rattle.mg_shard.specs.Shard.{ShardView}
 
 -- ---- rows one by one
 
--- without the first row
+-- the rows without the first end once too
 pub ends_on : (s : Search) (r : RowValue) (rows : List RowValue) → EndsOnce s (r ∷ rows) → EndsOnce s rows
 ends_on s r rows h i j le e = h (suc i) (suc j) (omega (arith, le)) e
 
@@ -30,7 +30,7 @@ before_at : (s : Search) (rows : List RowValue) (i n : ℕ) (b : Bool) → EndsO
 before_at s rows i n true h le e is = absurd (let wrong = h i n le is in cc)
 before_at s rows i n false h le e is = is
 
--- all rows before one that is not past the range
+-- all rows before a row that does not come after the range come before its end
 pub before_all : (s : Search) (rows : List RowValue) (n : ℕ) → EndsOnce s rows → is_late_at s rows n ≡ false → AreBeforeEnd s rows n
 before_all s rows n h e i less = before_at s rows i n (is_late_at s rows i) h (omega (arith, less)) e refl
 
@@ -55,13 +55,13 @@ ends_after s (suc n) (r ∷ rows) h = ends_after s n rows (ends_on s r rows h)
 
 -- ---- rows that are left of an index
 
--- from where a search begins
+-- the rows from where a search begins end once
 pub begun_ends : (at : Option (List Steps)) (s : Search) (shard : ShardView) (l : Unread) → IsBegunIn at s shard l → EndsOnce s (index_rows l)
 begun_ends at s shard (unread.Rows rows) b = ends_once s rows (late_rows (search_input s b.0) shard.documents rows (all_forms shard.documents) b.2)
 begun_ends at s shard (unread.Documents documents) b = λ i j le e. refl
 begun_ends at s shard unread.Nothing b = λ i j le e. refl
 
--- after the first n rows
+-- and so do those after the first n
 pub left_ends_after : (s : Search) (n : ℕ) (l m : Unread) → IsUnreadAfter n l m → EndsOnce s (index_rows l) → EndsOnce s (index_rows m)
 left_ends_after s n (unread.Rows rows) m e h = subst (λ (x : Unread). EndsOnce s (index_rows x)) (sym e) (ends_after s n rows h)
 left_ends_after s n (unread.Documents documents) m e h = subst (λ (x : Unread). EndsOnce s (index_rows x)) (sym e.1) h

@@ -1,4 +1,4 @@
--- The entries of a shard's documents: what is kept of each, its row among all documents, and these in order.
+-- The entries of a shard's documents: what is kept of each, its row in the index of all documents, and the order of these rows.
 use lib.Dec.{T}
 use Rattle.std.proofs.Common.{◌≡◌, ℕ, Bool, true, false, ◌&&◌, cond, List, [], ◌∷◌, Option, Some, None, codes, map, option_map, Ordering, Less, Equal, Greater, is_eq, is_gt, is_lt, reverse, refl, ap, ap₂, sym, ◌∙◌}
 use Rattle.std.proofs.lemmas.Cmp.{nat_list_cmp_total, tied_itself}
@@ -85,7 +85,7 @@ served_forms ds (e ∷ es) h = served_step ds e.0 e.1 e.1.1 (filter_map doc_entr
 pub all_forms : (ds : KeptDocuments) → AllByRecursion (λ d. form_at ds d.0 ≡ Some d.1) (docs_of ds)
 all_forms ds = served_forms ds (entries ds) (all_kept ds)
 
--- ---- the row of an entry among all documents
+-- ---- the row of an entry in the index of all documents
 
 abbrev pub entry_row : Entry → Option RowValue
 entry_row e = option_and_then (row_of id_columns) (doc_entry e)
@@ -149,7 +149,7 @@ all_rows ds own =
     sorted_is (entry_rows (entries ds)) (entry_rows (entries ds)) (rows_rise (entries ds) (entries_sorted ds) (own_rows ds own)) (λ z. refl)
     ∙ ap (sorted row_value_order) (sym (fused (entries ds)))
 
--- ---- what comes after a place among them
+-- ---- the rows that come after a place
 
 where_step : (t : Bool) (p : RowValue → Bool) (o : Option RowValue) (e : Entry) (es : List Entry) (rows : List RowValue) → entry_row e ≡ o → ((r : RowValue) → o ≡ Some r → p r ≡ t) → entry_rows es ≡ filter p rows
     → entry_rows (cond t (e ∷ es) es) ≡ filter p (cons_option o rows)

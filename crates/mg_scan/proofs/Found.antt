@@ -1,4 +1,4 @@
--- What is found in a shard: among all documents, and in an index.
+-- What a search finds in a shard: in the index of all documents, and in a defined index.
 use Rattle.std.proofs.Common.{◌≡◌, ℕ, List, [], Option, Some, None, map, option_map, Ordering, refl, ap, sym, ◌∙◌, subst}
 use Rattle.std.specs.FinMap.{entries, get}
 use Rattle.std.specs.List.{AllByRecursion}

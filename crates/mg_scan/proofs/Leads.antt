@@ -35,7 +35,7 @@ use Rattle.mg_value.specs.Value.{Items, Value}
 pub on_lead : (late : RowValue → Bool) (holds : Bool) (total : List RowValue) (r : RowValue) (rest : List RowValue) → late r ≡ false → holds ≡ true → total ≡ walked_on late holds (Some r) rest → total ≡ r ∷ rest
 on_lead late holds total r rest e f is = is ∙ ap₂ (λ (b c : Bool). if b then [] else if c then r ∷ rest else rest) e f
 
--- nothing is asked of a document that has a key
+-- a document that has a key matches `everything`
 pub keyed_holds : (o : Option Value) (key : Items) → Some key ≡ option_and_then (row_key id_columns) o → option_map_or (λ form. normal_holds everything (Some form)) o false ≡ true
 keyed_holds None key e = absurd cc
 keyed_holds (Some form) key e = refl
@@ -48,7 +48,7 @@ form_there (Some form) key e = refl
 pub keyed_served : (ds : KeptDocuments) (d : Document) (key : Items) → get ds (id_bytes d) ≡ Some (kept_of d) → Some key ≡ option_and_then (row_key id_columns) (form_of d) → is_some (form_at ds (id_bytes d)) ≡ true
 keyed_served ds d key kept e = ap (λ (o : Option KeptDocument). is_some (option_and_then (λ (k : KeptDocument). k.1) o)) kept ∙ form_there (form_of d) key e
 
--- what holds of it where a fact does
+-- moves a condition P, under which Q holds of the lead, into the property of the lead
 pub lead_where : {P : Type 0} (lead : Option Lead) (Q : Lead → Type 0) → (P → IfSome lead Q) → IfSome lead (λ x. P → Q x)
 lead_where None Q f = tt
 lead_where (Some x) Q f = f
@@ -98,7 +98,7 @@ drop_end [] (suc i) le = refl
 drop_end (x ∷ leads) zero le = absurd (omega arith)
 drop_end (x ∷ leads) (suc i) le = drop_end leads i (omega arith)
 
--- the hit of a lead comes after the others
+-- the hit of a lead is appended to the hits of the leads before it
 pub led_one : (hits : List Hit) (hit : Option Hit) (leads : List Lead) (i : ℕ) (lead : Lead) (all : List RowValue) → i < length leads → lead ≡ get_or leads i lead → option_map hit_row hit ≡ Some (lead_row lead)
     → hit_rows hits ++ map lead_row (drop i leads) ≡ all → hit_rows (hits ++ list_of_option hit) ++ map lead_row (drop (i + 1) leads) ≡ all
 led_one hits None leads i lead all less is e sum = absurd cc

@@ -1,4 +1,4 @@
--- What workers are lent, and the closure that holds it, may be looked at by several threads.
+-- What workers are lent, and the closure that captures it, may be shared by threads (`Sync`).
 use base.Fml.{Lft}
 use denote.Builtin.{usize}
 use denote.Param.Send.{AllSync, IsSync, recorded_sync, sendable, shr_slice_sync, shr_sync, struct_sync}
@@ -26,7 +26,7 @@ all_parts : (Ts : List RattleType) → AllSync Ts → AllSync (rows (parts Ts))
 all_parts [] s = tt
 all_parts (T ∷ Ts) s = (s.0, all_parts Ts s.1)
 
--- a closure may be, where what it captures may: its name and those of the lifetimes make no difference, so any stand here
+-- a closure may be shared if what it captures may be; its name and the names of lifetimes make no difference, so any are used here
 closure_sync : (Ts : List RattleType) → AllSync Ts → IsSync (TupleAt [] Ts)
 closure_sync Ts s = let T = type_at [] Ts in recorded_sync (Struct (S.shape T)) T.D T.to T.to_one (struct_sync (S.shape T) (all_parts Ts s))
 
@@ -48,7 +48,7 @@ word_sync = search (sendable, crosses) depth 20
 count_sync : IsSync usize
 count_sync = search sendable depth 20
 
--- what a worker of a scan holds: the allocator, the shards, the search, the word that is claimed by, and the gate
+-- what a worker of a scan holds: the allocator, the shards, the search, the number of the next shard to claim, and the gate
 abbrev scan_holds : Lft → Lft → Lft → Lft → Lft → RattleType → List RattleType
 scan_holds a b c d e G = lent [] Global.the_row ∷ shards_for a ∷ lent b (Search.the_row (record { mir = named 0; lft = c })) ∷ lent d Word.the_row ∷ lent e G ∷ []
 
@@ -57,8 +57,8 @@ scan_sync a b c d e G gate =
     closure_sync (scan_holds a b c d e G)
     (lent_sync [] Global.the_row sync, (shards_sync a, (lent_sync b _ (search_sync (record { mir = named 0; lft = c })), (lent_sync d Word.the_row word_sync, (lent_sync e G gate, tt)))))
 
--- what a worker of a build holds: the threads, the allocator, the shards, the definition, the place that it counts from, how many workers
--- extract the rows of a shard, and the gate
+-- what a worker of a build holds: the threads, the allocator, the shards, the definition, the number of the first shard, the number of
+-- workers per shard, and the gate
 abbrev build_holds : Lft → Lft → Lft → Lft → RattleType → RattleType → List RattleType
 build_holds a b c d R G = lent a R ∷ lent [] Global.the_row ∷ shards_for b ∷ lent c IndexDef.the_row ∷ lent [] usize ∷ lent [] usize ∷ lent d G ∷ []
 

@@ -1,4 +1,4 @@
--- What is asked by bytes is what is asked by values.
+-- A search whose range and first row are given as bytes finds what it finds with the values.
 use Rattle.std.proofs.Common.{◌≡◌, ℕ, List, Option, ap₂}
 use Rattle.mg_collate.specs.Row.{RowValue}
 use Rattle.mg_collate.specs.declared.direction.Direction.{Direction}

@@ -1,4 +1,4 @@
--- Slots that are filled and emptied, and lists that grow beside the shards.
+-- Slots that are filled and emptied, and lists that grow by one item per shard.
 use Rattle.std.proofs.Common.{◌≡◌, ℕ, zero, suc, ◌+◌, ◌<◌, List, [], ◌∷◌, ◌++◌, map, length, take, get_or, set, Option, Some, None, slice_get, refl, sym, ap, ap₂, ◌∙◌, subst, add-one, arith}
 use Rattle.std.specs.Arc.{arc_value}
 use Rattle.std.specs.List.{AllZip}
@@ -20,13 +20,13 @@ get-map f (y ∷ ys) (suc i) x less is = get-map f ys i x (omega arith) is
 pub some_is : {A : Type 0} (x y : A) → Some x ≡ Some y → x ≡ y
 some_is x y e = cc
 
--- the hits of a shard are those of its place
+-- the hits that are found in the shard at place i are those of the i-th shard
 pub answers : (search : Search) (shards : List (Arc ShardView Global)) (i : ℕ) (a : Arc ShardView Global) (s : ShardView) (hits : List Hit) → i < length shards → a ≡ get_or shards i a → s ≡ arc_value a
     → AreHitsFound search s hits → AreHitsFoundAt search (shards_seen shards) i hits
 answers search shards i a s hits less is same given =
     record { gives = λ t e. subst (λ (x : ShardView). AreHitsFound search x hits) (same ∙ some_is (arc_value a) t (sym (get-map arc_value shards i a less is) ∙ e)) given }
 
--- what stands in a list after one place was set: the new value there, else what stood there
+-- if P holds of a new item and of each item of a list, it holds of each item once the new one is set in the list
 pub get-set : {A : Type 0} (P : ℕ → A → Type 0) (xs : List A) (at : ℕ) (a : A) → P at a → ((i : ℕ) (x : A) → slice_get xs i ≡ Some x → P i x) → (i : ℕ) (x : A) → slice_get (set xs at a) i ≡ Some x → P i x
 get-set P [] at a here all i x e = absurd cc
 get-set P (y ∷ ys) zero a here all zero x e = subst (P zero) (cc (e)) here
@@ -57,7 +57,7 @@ snoc_none (y ∷ ys) (suc i) w e = snoc_none ys i w e
 pub slots-snoc : (search : Search) (shards : List ShardView) (slots : List (Option (Vec Hit Global))) → AllSlots search shards slots → AllSlots search shards (slots ++ None ∷ [])
 slots-snoc search shards slots h i w e = h i w (snoc_none slots i w e)
 
--- ---- lists beside the shards
+-- ---- lists with one item per shard
 
 pub length-seen : (shards : List (Arc ShardView Global)) → length (shards_seen shards) ≡ length shards
 length-seen [] = refl
@@ -71,7 +71,7 @@ zip_more R (x ∷ xs) (z ∷ ys) zero y less h here = absurd h
 zip_more R (x ∷ xs) [] (suc i) y less h here = absurd h
 zip_more R (x ∷ xs) (z ∷ ys) (suc i) y less h here = (h.0, zip_more R xs ys i y (omega arith) h.1 here)
 
--- the lists so far, and that of one shard more
+-- the lists so far, and the list of one more shard
 pub lists-more : (search : Search) (shards : List (Arc ShardView Global)) (all : List (Vec Hit Global)) (i : ℕ) (v : Vec Hit Global) → i < length shards
     → AllZip (λ s w. AreHitsFound search s w.items) (take i (shards_seen shards)) all → AreHitsFoundAt search (shards_seen shards) i v.items
     → AllZip (λ s w. AreHitsFound search s w.items) (take (i + 1) (shards_seen shards)) (all ++ v ∷ [])
@@ -84,7 +84,7 @@ take_all [] (suc n) e = refl
 take_all (x ∷ xs) zero e = absurd (omega (arith, e))
 take_all (x ∷ xs) (suc n) e = ap (λ ys. x ∷ ys) (take_all xs n (omega (arith, e)))
 
--- all of them
+-- the lists of all shards
 pub lists-all : (search : Search) (shards : List (Arc ShardView Global)) (all : List (Vec Hit Global)) (i : ℕ) → i ≡ length shards
     → AllZip (λ s w. AreHitsFound search s w.items) (take i (shards_seen shards)) all → AllZip (λ s w. AreHitsFound search s w.items) (shards_seen shards) all
 lists-all search shards all i e h = subst (λ xs. AllZip (λ s (w : Vec Hit Global). AreHitsFound search s w.items) xs all) (take_all (shards_seen shards) i (e ∙ sym (length-seen shards))) h

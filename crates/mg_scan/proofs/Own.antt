@@ -1,4 +1,4 @@
--- The row of a document among all documents is that of its id.
+-- The row of a document in the index of all documents is that of its id.
 use Rattle.std.proofs.Common.{◌≡◌, ℕ, List, ◌∷◌, Some, option_map, map, ap, sym, ◌∙◌}
 use Rattle.std.specs.Option.{option_and_then}
 use Rattle.mg_collate.specs.Row.{RowValue}
@@ -22,7 +22,7 @@ own_lent d key e =
     let id = id_bytes d in
     own_form id (form_of d) (key, id) (own_document d) (keyed id (form_of d) ∙ ap (option_map (λ (k : Items). (k, id))) (sym e))
 
--- such a document is looked at, by the row of its id
+-- a search finds such a document by the row of its id
 pub among_own : (s : Search) (d : Document) (documents : List Document) (key : Items) (id : List ℕ) → Some key ≡ option_and_then (row_key id_columns) (form_of d) → id ≡ id_bytes d
     → walked_documents s (d ∷ documents) ≡ walked_on (is_late_row s.direction s.range.now) (holds_for s.normal.now d) (Some (id_row id)) (walked_documents s documents)
 among_own s d documents key id e same =

@@ -1,5 +1,5 @@
--- Rows that a page skips, passed over up to one of them: what is found after that row is what was found without its first rows, as many
--- as fewer come after the place where the search begins.
+-- Rows that a page skips, passed over up to one of them. A search that begins after that row finds the same rows without the first n,
+-- where n is by how many the rows after the place where the search begins become fewer.
 use Rattle.std.proofs.Common.{◌≡◌, ℕ, suc, ◌+◌, ◌-◌, ◌≤◌, Bool, true, false, ◌&&◌, not, cond, List, [], ◌∷◌, ◌++◌, Option, Some, None, Ordering, Less, Equal, Greater, is_gt, drop, length, map, option_map, take, refl, ap, ap₂, sym, ◌∙◌, subst, arith}
 use Rattle.std.proofs.lemmas.List.{drop-drop, length-append}
 use Rattle.std.proofs.lemmas.List.Elements.{filter-append}
@@ -27,9 +27,9 @@ use Rattle.mg_scan.specs.Decided.{everything}
 use Rattle.mg_scan.specs.Found.{all_found_in, input_of_parts, target_columns}
 use Rattle.mg_scan.specs.Lead.{without_selector}
 use Rattle.mg_scan.specs.Passed.{AreDecided, HasPageOf, IsIndex, IsWithin, beyond_row, count_all_upcoming}
-use Rattle.mg_scan.specs.Scan.{all_matches, asked_documents, comes_after, is_wanted}
+use Rattle.mg_scan.specs.Scan.{all_matches, matching_documents, comes_after, is_wanted}
 use Rattle.mg_scan.specs.Search.{after_of, found_by}
-use Rattle.mg_scan.specs.Upcoming.{begins_at, count_upcoming}
+use Rattle.mg_scan.specs.Upcoming.{begin_of_parts, count_upcoming}
 use Rattle.mg_scan.specs.Way.{all_found_by}
 use Rattle.mg_scan.specs.Walked.{is_beyond, is_late_row}
 use Rattle.mg_scan.specs.declared.search.Search.{Search}
@@ -60,7 +60,7 @@ all_pass : {X : Type 0} (p : X → Bool) (xs : List X) → AllByRecursion (λ x.
 all_pass p [] h = refl
 all_pass p (x ∷ xs) h = ap₂ (λ b ys. cond b (x ∷ ys) (filter p xs)) h.0 (all_pass p xs h.1)
 
--- of rows of which the later ones pass, those that do are the last
+-- if all rows after a row that passes a test pass it too, the rows that pass are the last ones
 last_step : (p : RowValue → Bool) (x : RowValue) (xs : List RowValue) (b : Bool) → p x ≡ b → (p x ≡ true → AllByRecursion (λ y. p y ≡ true) xs) → filter p xs ≡ drop (length xs - length (filter p xs)) xs
     → cond b (x ∷ filter p xs) (filter p xs) ≡ drop (length (x ∷ xs) - length (cond b (x ∷ filter p xs) (filter p xs))) (x ∷ xs)
 last_step p x xs true e last h =
@@ -90,13 +90,13 @@ count_step r s v w x rs ss vs ws here h =
     more true ys = let e : length (x ∷ ys) ≡ 1 + length ys = omega arith in e
     more false ys = let e : length ys ≡ 0 + length ys = omega arith in e
 
--- if one of two tests passes as many more of each row as one of two others, it does so of all
+-- if r and v together pass each row as often as s and w do, they pass as many rows in all
 counts_alike : (r s v w : RowValue → Bool) → ((x : RowValue) → one (r x) + one (v x) ≡ one (s x) + one (w x)) → (xs : List RowValue)
     → length (filter r xs) + length (filter v xs) ≡ length (filter s xs) + length (filter w xs)
 counts_alike r s v w here [] = refl
 counts_alike r s v w here (x ∷ xs) = count_step (r x) (s x) (v x) (w x) x (filter r xs) (filter s xs) (filter v xs) (filter w xs) (here x) (counts_alike r s v w here xs)
 
--- ---- of all shards
+-- ---- all shards joined
 
 joined_where : (p : RowValue → Bool) (f g : ShardView → List RowValue) → ((shard : ShardView) → g shard ≡ filter p (f shard)) → (shards : List ShardView) → joined (map g shards) ≡ filter p (joined (map f shards))
 joined_where p f g same [] = refl
@@ -163,11 +163,11 @@ module _ (direction : Direction) (range : Range) (after : Option RowValue) (p : 
   beyond_both r e =
       sym (beyond_is direction after r) ∙ beyond_rises direction after p r (turned (order p r) (order r p) ((directed_total direction).antisymm p r) e) there
 
-  -- a row that does not come after it does not come after the range
+  -- a row that does not come after p does not come after the range
   still_timed : (r : RowValue) → later r ≡ false → is_late_row direction range r ≡ false
   still_timed r e = not_both (is_late_row direction range r) (λ late. let wrong : true ≡ false = sym (late_rises direction range r p e late) ∙ timed in absurd cc)
 
-  -- what is asked after it is asked
+  -- a row is wanted after p if it is wanted after `after` and comes after p
   wanted_after : (r : RowValue) → is_wanted (input_of_parts everything range (Some p) 0 direction []) r ≡ (is_wanted (input_of_parts everything range after 0 direction []) r && later r)
   wanted_after r = further (is_side_within (row_side range r)) (comes_after direction after r) (later r) (beyond_both r)
 
@@ -179,7 +179,7 @@ module _ (direction : Direction) (range : Range) (after : Option RowValue) (p : 
       ∙ one_count (not (is_early direction (row_side range r))) (is_side_within (row_side range r)) (comes_after direction after r) (later r) (beyond_both r)
       (λ e. timely direction (row_side range r) (still_timed r e))
 
-  -- the later rows are the last
+  -- the rows that come after p are the last
   later_last : (xs : List RowValue) → Rises order xs → LateLast later xs
   later_last [] h = tt
   later_last (x ∷ xs) h = (rest xs h.0, later_last xs h.1)
@@ -206,7 +206,7 @@ module _ (direction : Direction) (range : Range) (after : Option RowValue) (p : 
   scanned_after : (count more : ℕ) (columns : List Steps) (ds : List ServedDocument)
       → all_matches (input_of_parts everything range (Some p) more direction columns) ds ≡ filter later (all_matches (input_of_parts everything range after count direction columns) ds)
   scanned_after count more columns ds =
-      let rows = sorted_rows direction (filter_map (row_of columns) (asked_documents (input_of_parts everything range after 0 direction []) ds)) in
+      let rows = sorted_rows direction (filter_map (row_of columns) (matching_documents (input_of_parts everything range after 0 direction []) ds)) in
       filter-same (is_wanted (input_of_parts everything range (Some p) 0 direction [])) (λ r. is_wanted (input_of_parts everything range after 0 direction []) r && later r) wanted_after rows
       ∙ sym (filter-both later (is_wanted (input_of_parts everything range after 0 direction [])) rows)
 
@@ -214,7 +214,7 @@ module _ (direction : Direction) (range : Range) (after : Option RowValue) (p : 
   columns_at o = option_map (λ d. d.columns) o
 
   reached_count : (o : Option RowValue) (columns : List Steps) (ds : List ServedDocument)
-      → length (beyond direction (begins_at range o direction) (rows_of columns ds)) ≡ length (filter (reached direction range o) (all_of columns ds))
+      → length (beyond direction (begin_of_parts range o direction) (rows_of columns ds)) ≡ length (filter (reached direction range o) (all_of columns ds))
   reached_count o columns ds =
       let rows = filter_map (row_of columns) ds in
       ap length (begun direction range o (sorted row_value_order rows)) ∙ ap (λ xs. length (filter (reached direction range o) xs)) (sym (sorted-directed direction rows))
@@ -225,9 +225,9 @@ module _ (direction : Direction) (range : Range) (after : Option RowValue) (p : 
       ap (λ xs. length (filter (is_wanted (input_of_parts everything range o 0 direction [])) (sorted_rows direction (filter_map (row_of columns) xs)))) (all_asked ds)
 
   one_index : (count more : ℕ) (o : Option IndexDefinition) (ds : List ServedDocument)
-      → option_map_or (λ rows. length (beyond direction (begins_at range after direction) rows)) (option_map (λ d. rows_of d.columns ds) o) 0
+      → option_map_or (λ rows. length (beyond direction (begin_of_parts range after direction) rows)) (option_map (λ d. rows_of d.columns ds) o) 0
       + length (option_map_or (λ columns. all_matches (input_of_parts everything range (Some p) more direction columns) ds) (columns_at o) [])
-      ≡ option_map_or (λ rows. length (beyond direction (begins_at range (Some p) direction) rows)) (option_map (λ d. rows_of d.columns ds) o) 0
+      ≡ option_map_or (λ rows. length (beyond direction (begin_of_parts range (Some p) direction) rows)) (option_map (λ d. rows_of d.columns ds) o) 0
       + length (option_map_or (λ columns. all_matches (input_of_parts everything range after count direction columns) ds) (columns_at o) [])
   one_index count more None ds = refl
   one_index count more (Some d) ds =
@@ -279,11 +279,11 @@ second false b e = absurd cc
 pub reached_beyond : (s : Search) (r : RowValue) → reached s.direction s.range.now (after_of s) r ≡ true → is_beyond s.direction (option_map (row_value_order r) (after_of s)) ≡ true
 reached_beyond s r e = second (not (is_early s.direction (row_side s.range.now r))) (is_beyond s.direction (option_map (row_value_order r) (after_of s))) e
 
--- the first rows that are found in all shards where the range decides are those of all rows in the range
+-- if the range decides, the first rows that are found in all shards are the first of all rows in the range
 first_rows : (s : Search) (shards : List ShardView) → AreDecided shards s → merged s.direction s.take (map (found_by s) shards) ≡ take s.take (sorted_rows s.direction (joined (map (all_found_by (without_selector s)) shards)))
 first_rows s shards decided = ap (merged s.direction s.take) (sym (all_alike s shards decided)) ∙ sym (found_merged (without_selector s) shards)
 
--- the page goes on after a row up to which it skips all
+-- the page stays the same if its search begins after a row up to which it skips all rows
 pub passed_page : (shards : List ShardView) (s : Search) (skip upcoming beyond count : ℕ) (row : Bor RowValue) → IsIndex s.target → upcoming ≡ count_all_upcoming shards s
     → IsWithin s row.now → (n : ℕ) → beyond ≡ count_all_upcoming shards (beyond_row s row n) → count ≡ upcoming - beyond → n ≡ s.take - count → count ≤ skip → HasPageOf shards s skip (beyond_row s row n) (skip - count)
 passed_page shards s skip upcoming beyond count row index a within n b c e le =

@@ -1,4 +1,4 @@
--- Sources of hits: one step of each, and what all of them give.
+-- Sources of hits: one step of a source, and the hits that all sources give.
 use Rattle.std.proofs.Common.{◌≡◌, ℕ, zero, suc, ◌+◌, ◌<◌, Bool, true, false, List, [], ◌∷◌, ◌++◌, Option, Some, None, IfSome, All, get_or, is_some, length, map, option_map, slice_get, take, if◌then◌else◌, refl, add-one, ap, ap₂, sym, ◌∙◌, subst, arith}
 use Rattle.std.proofs.Math.Seq.{take-nil}
 use Rattle.std.proofs.lemmas.List.Elements.{All-from_recursion, recursion_from_All}
@@ -18,7 +18,7 @@ use Rattle.mg_merge.specs.Merged.{merged}
 use Rattle.mg_merge.specs.Pulled.{IsGivenBy}
 use Rattle.mg_scan.specs.Found.{target_columns}
 use Rattle.mg_scan.specs.Hit.{AreHitsIn, IsHitIn, IsHitOf, hit_row}
-use Rattle.mg_scan.specs.Scan.{all_matches, asked_documents, is_wanted}
+use Rattle.mg_scan.specs.Scan.{all_matches, matching_documents, is_wanted}
 use Rattle.mg_scan.specs.Search.{search_input, found_by}
 use Rattle.mg_scan.specs.Way.{all_found_by, begin_at, entry_rows, walked_all_by}
 use Rattle.mg_scan.specs.Sourced.{AreKept, IsUnread, IsSourceOf, holds_for, unread_rows, row_among, walked_documents, walked_on}
@@ -45,7 +45,7 @@ use Rattle.mg_value.specs.Value.{Items, Value}
 pub on_late : (late : RowValue → Bool) (holds : Bool) (total : List RowValue) (r : RowValue) (rest : List RowValue) → late r ≡ true → total ≡ walked_on late holds (Some r) rest → total ≡ []
 on_late late holds total r rest e is = is ∙ ap (λ b. if b then [] else if holds then r ∷ rest else rest) e
 
--- a row that holds is found
+-- a row whose document matches is found
 pub on_hit : (late : RowValue → Bool) (holds : Bool) (total : List RowValue) (r : RowValue) (rest : List RowValue) (hit : Option Hit) → late r ≡ false → option_map hit_row hit ≡ (if holds then Some r else None)
     → total ≡ walked_on late holds (Some r) rest → IfSome hit (λ x. total ≡ hit_row x ∷ rest)
 on_hit late holds total r rest None e h is = tt
@@ -53,14 +53,14 @@ on_hit late holds total r rest (Some x) e h is =
     let found = if_some holds (hit_row x) r h in
     is ∙ ap₂ (λ (b c : Bool). if b then [] else if c then r ∷ rest else rest) e found.0 ∙ ap (λ y. y ∷ rest) (sym found.1)
 
--- another is passed over
+-- a row whose document does not match is passed over
 pub on_miss : (late : RowValue → Bool) (holds : Bool) (total : List RowValue) (r : RowValue) (rest : List RowValue) (hit : Option Hit) → late r ≡ false → option_map hit_row hit ≡ (if holds then Some r else None)
     → is_some hit ≡ false → total ≡ walked_on late holds (Some r) rest → total ≡ rest
 on_miss late holds total r rest None e h none is =
     is ∙ ap₂ (λ (b c : Bool). if b then [] else if c then r ∷ rest else rest) e (if_none holds r h)
 on_miss late holds total r rest (Some x) e h none is = absurd cc
 
--- what holds of it where a fact does
+-- moves a condition P, under which Q holds of the hit, into the property of the hit
 pub some_where : {P : Type 0} (hit : Option Hit) (Q : Hit → Type 0) → (P → IfSome hit Q) → IfSome hit (λ x. P → Q x)
 some_where None Q f = tt
 some_where (Some x) Q f = f
@@ -85,14 +85,14 @@ among_some s d documents key e =
     let late = is_late_row s.direction s.range.now in
     ap (λ o. walked_on late (holds_for s.normal.now d) (option_map (λ k. (k, id_bytes d)) o) (walked_documents s documents)) (sym e)
 
--- the rows of documents that are kept are found by what is kept
+-- walking through documents that a shard keeps finds what walking through their rows finds
 walked_rows : (s : Search) (ds : KeptDocuments) (documents : List Document) → AreKept ds documents → walked_documents s documents ≡ walked_all_by s ds (entry_rows (map kept_entry documents))
 walked_rows s ds [] h = refl
 walked_rows s ds (d ∷ documents) h =
     docs_step s ds d (row_among d) (walked_documents s documents) (entry_rows (map kept_entry documents)) (λ r e. named_id (id_bytes d) (option_and_then (row_key id_columns) (form_of d)) r e) h.0 (walked_rows s ds documents h.1)
     ∙ ap (λ o. walked_all_by s ds (cons_option o (entry_rows (map kept_entry documents)))) (sym (row_lent d (option_and_then (row_key id_columns) (form_of d)) refl))
 
--- all that is found among all documents
+-- all that a search finds in the index of all documents
 pub source_rows : (s : Search) (ds : KeptDocuments) (documents : List Document) → AreKept ds documents → ((id : List ℕ) (form : Value) → form_at ds id ≡ Some form → HasOwnId id form)
     → map kept_entry documents ≡ beyond s.direction (λ e. begin_at s (id_row e.0)) (entries ds) → walked_documents s documents ≡ all_matches (search_input s id_columns) (docs_of ds)
 source_rows s ds documents kept own is =
@@ -101,14 +101,14 @@ source_rows s ds documents kept own is =
     ∙ ap (walked_all_by s ds) (rows-beyond s.direction (begin_at s) (entries ds) (own_rows ds own) ∙ ap (beyond s.direction (begin_at s)) (all_rows ds own))
     ∙ all_found_rows (search_input s id_columns) ds (beyond s.direction (begin_at s) (rows_of id_columns (docs_of ds))) (all_forms ds) refl
 
--- ---- all that is found, and as much of it as is asked for
+-- ---- all that a search finds without its limit, and with it
 
 ordered_or : (s : Search) (ds : KeptDocuments) (o : Option (List Steps)) → IsInOrder s.direction (option_map_or (λ columns. all_matches (search_input s columns) (docs_of ds)) o [])
 ordered_or s ds None = in_order (directed_order s.direction) (directed_total s.direction) [] tt
 ordered_or s ds (Some columns) =
     let q = search_input s columns in
     let order = directed_order s.direction in
-    let rows = filter_map (row_of columns) (asked_documents q (docs_of ds)) in
+    let rows = filter_map (row_of columns) (matching_documents q (docs_of ds)) in
     in_order order (directed_total s.direction) (filter (is_wanted q) (sorted_rows s.direction rows))
     (rises_where order (is_wanted q) (sorted_rows s.direction rows) (rises_sorted order (directed_total s.direction) rows))
 
@@ -116,7 +116,7 @@ cut_or : (n : ℕ) (f : List Steps → List RowValue) (o : Option (List Steps)) 
 cut_or n f None = sym (take-nil n)
 cut_or n f (Some columns) = refl
 
--- all that a shard has is in order
+-- all that a search finds in a shard is in order
 pub found_in_order : (s : Search) (shard : ShardView) → IsInOrder s.direction (all_found_by s shard)
 found_in_order s shard = ordered_or s shard.documents (target_columns s.target shard.definitions)
 
@@ -124,13 +124,13 @@ all_in_order : (s : Search) (shards : List ShardView) → AllByRecursion (IsInOr
 all_in_order s [] = tt
 all_in_order s (shard ∷ shards) = (found_in_order s shard, all_in_order s shards)
 
--- what is found, so much at most, is the first of all
+-- what a search finds in each shard is the first part of all that it finds there without its limit
 cut_found : (s : Search) (shards : List ShardView) → map (take s.take) (map (all_found_by s) shards) ≡ map (found_by s) shards
 cut_found s [] = refl
 cut_found s (shard ∷ shards) =
     ap₂ (λ rows lists. rows ∷ lists) (sym (cut_or s.take (λ columns. all_matches (search_input s columns) (docs_of shard.documents)) (target_columns s.target shard.definitions))) (cut_found s shards)
 
--- the merge of all that there is is the merge of what is found, so much at most in each shard
+-- merging what is found without the limit gives the same as merging what is found with it
 pub found_merged : (s : Search) (shards : List ShardView) → merged s.direction s.take (map (all_found_by s) shards) ≡ merged s.direction s.take (map (found_by s) shards)
 found_merged s shards =
     sym (cut_lists s.direction s.take (map (all_found_by s) shards) (All-from_recursion (IsInOrder s.direction) (map (all_found_by s) shards) (all_in_order s shards)))
@@ -138,7 +138,7 @@ found_merged s shards =
 
 -- ---- the sources of all shards
 
--- what holds of something in one of the shards
+-- P holds of h with one of the shards
 abbrev pub InOneOf : {H : Type 0} → (ShardView → H → Type 0) → List ShardView → H → Type 0
 InOneOf P shards h = (place : ℕ) × (shard : ShardView) × (slice_get shards place ≡ Some shard) × P shard h
 
@@ -155,25 +155,25 @@ module _ {X : Type 0} (s : Search) (Is : ShardView → X → Type 0) (rows : X �
   sources_size (shard ∷ shards) [] h = absurd h
   sources_size (shard ∷ shards) (x ∷ sources) h = ap suc (sources_size shards sources h.1)
 
-  -- what each has still to give is in order
+  -- the rows that each source has still to give are in order
   pub sources_in_order : (shards : List ShardView) (sources : List X) → AllZip Is shards sources → All (IsInOrder s.direction) (map rows sources)
   sources_in_order shards sources h =
       subst (All (IsInOrder s.direction)) (sym (zip_rests shards sources h)) (All-from_recursion (IsInOrder s.direction) (map (all_found_by s) shards) (all_in_order s shards))
 
-  -- the merge of what they have is the merge of what is found, so much at most in each shard
+  -- merging the rows of the sources gives the same as merging what the search finds in each shard
   pub sources_merged : (shards : List ShardView) (sources : List X) → AllZip Is shards sources
       → merged s.direction s.take (map rows sources) ≡ merged s.direction s.take (map (found_by s) shards)
   sources_merged shards sources h = ap (merged s.direction s.take) (zip_rests shards sources h) ∙ found_merged s shards
 
 module _ {X : Type 0} (Is : ShardView → X → Type 0) where
-  -- the sources so far, and that of one shard more
+  -- the sources so far, and the source of one more shard
   pub sources_more : (shards : List (Arc ShardView Global)) (sources : List X) (i : ℕ) (a : Arc ShardView Global) (shard : ShardView) (x : X) → i < length shards → a ≡ get_or shards i a → shard ≡ arc_value a
       → AllZip Is (take i (shards_seen shards)) sources → Is shard x → AllZip Is (take (i + 1) (shards_seen shards)) (sources ++ x ∷ [])
   sources_more shards sources i a shard x less is same so here =
       rw add-one (zip_more Is (shards_seen shards) sources i x (omega (arith, less, length-seen shards)) so
       (λ t e. subst (λ (y : ShardView). Is y x) (same ∙ some_is (arc_value a) t (sym (get-map arc_value shards i a less is) ∙ e)) here))
 
-  -- the source of a place is that of the shard there
+  -- the k-th source is that of the k-th shard
   zip_at : (shards : List ShardView) (sources : List X) (k : ℕ) → AllZip Is shards sources → k < length sources
       → (shard : ShardView) × (x : X) × (slice_get shards k ≡ Some shard) × (get_or sources k x ≡ x) × Is shard x
   zip_at [] [] k h l = absurd (omega arith)
@@ -189,12 +189,12 @@ module _ {X : Type 0} (Is : ShardView → X → Type 0) where
         let x = at.1 in
         (given.0, at.0, at.2, each at.0 x at.4 hit (subst (λ (y : X). lent y hit) at.3 (given.2 x)))
 
-    -- what they give is of the shards
+    -- what the sources give is of the shards
     pub all_given : (shards : List ShardView) (sources : List X) → AllZip Is shards sources → (hits : List H) → All (IsGivenBy lent sources) hits → AllByRecursion (InOneOf P shards) hits
     all_given shards sources h hits given =
         all_weaker (IsGivenBy lent sources) (InOneOf P shards) (given_in shards sources h) hits (recursion_from_All (IsGivenBy lent sources) hits given)
 
--- ---- those that give hits
+-- ---- sources of hits
 
 abbrev pub hit_rests : HitSource → List RowValue
 hit_rests x = unread_rows x.search x.shard.now x.unread
@@ -208,7 +208,7 @@ hits_in_order s shards sources h = sources_in_order s (IsSourceOf s) hit_rests (
 pub hits_merged : (s : Search) (shards : List ShardView) (sources : List HitSource) → AllZip (IsSourceOf s) shards sources → merged s.direction s.take (map hit_rests sources) ≡ merged s.direction s.take (map (found_by s) shards)
 hits_merged s shards sources h = sources_merged s (IsSourceOf s) hit_rests (λ shard x is. is.rows) shards sources h
 
--- what they give are hits in the shards
+-- the sources give hits in the shards
 pub hits_given : (s : Search) (shards : List ShardView) (sources : List HitSource) → AllZip (IsSourceOf s) shards sources → (hits : List Hit)
     → All (IsGivenBy (λ x. IsUnread x.shard.now x.unread) sources) hits → AreHitsIn shards hits
 hits_given s shards sources h hits given =

@@ -1,4 +1,4 @@
--- One step of a search: what is found so far, and what is left.
+-- One step of a search: what it found so far, and what it will find in what is left.
 use Rattle.std.proofs.Common.{◌≡◌, ℕ, zero, suc, ◌+◌, ◌-◌, ◌<◌, ◌≤◌, Bool, true, false, ◌||◌, nat_le, List, [], ◌∷◌, ◌++◌, Option, Some, None, IfSome, option_map, map, length, if◌then◌else◌, refl, ap, ap₂, sym, ◌∙◌, subst, arith, append_assoc, append-nil}
 use Rattle.std.proofs.lemmas.Bool.{leb-false, leb-true}
 use Rattle.std.specs.List.{cons_option}
@@ -42,20 +42,20 @@ module _ (late holds : RowValue → Bool) where
   one : (n m : ℕ) (r : RowValue) (rest : List RowValue) (b h : Bool) → n ≡ suc m → late r ≡ b → holds r ≡ h → walked late holds n (r ∷ rest) ≡ step m r rest b h
   one n m r rest b h e f g = rw e (ap₂ (λ x y. step m r rest x y) f g)
 
-  -- a row that holds is found
+  -- a row whose document matches is found
   pub walk_hit : (n k : ℕ) (total found : List RowValue) (r : RowValue) (rest : List RowValue) → k < n → late r ≡ false → holds r ≡ true → total ≡ found ++ walked late holds (n - k) (r ∷ rest)
       → total ≡ (found ++ r ∷ []) ++ walked late holds (n - (k + 1)) rest
   walk_hit n k total found r rest less e f is =
       is ∙ ap (λ xs. found ++ xs) (one (n - k) (n - (k + 1)) r rest false true (omega arith) e f) ∙ sym (append_assoc found (r ∷ []) (walked late holds (n - (k + 1)) rest))
 
-  -- another is passed over
+  -- a row whose document does not match is passed over
   pub walk_miss : (n k : ℕ) (total found : List RowValue) (r : RowValue) (rest : List RowValue) → k < n → late r ≡ false → holds r ≡ false → total ≡ found ++ walked late holds (n - k) (r ∷ rest)
       → total ≡ found ++ walked late holds (n - k) rest
   walk_miss n k total found r rest less e f is =
       let left : n - k ≡ suc (n - (k + 1)) = omega arith in
       is ∙ ap (λ xs. found ++ xs) (one (n - k) (n - (k + 1)) r rest false false left e f ∙ ap (λ m. walked late holds m rest) (sym left))
 
-  -- nothing is found where so many are, nor from the first late row on
+  -- nothing more is found once enough rows are, nor from the first late row on
   over_step : (n k : ℕ) (r : RowValue) (rest : List RowValue) (m : ℕ) → n - k ≡ m → (nat_le n k || late r) ≡ true → walked late holds m (r ∷ rest) ≡ []
   over_step n k r rest zero e f = refl
   over_step n k r rest (suc m) e f = ap (λ b. step m r rest b (holds r)) (late_is (nat_le n k) (late r) (few (nat_le n k) refl) f)
@@ -92,7 +92,7 @@ length-push : (hits : List Hit) (hit : Hit) → length (hits ++ hit ∷ []) ≡ 
 length-push [] hit = refl
 length-push (h ∷ hits) hit = let e = length-push hits hit in omega (arith, e)
 
--- a row is looked at, and its hit, if it has one, is put after the others
+-- a row is read, and its hit, if it has one, is appended
 pub walk_one : (late holds : RowValue → Bool) (n : ℕ) (total : List RowValue) (hits : List Hit) (hit : Option Hit) (r : RowValue) (rest : List RowValue) → length hits < n → late r ≡ false
     → option_map hit_row hit ≡ (if holds r then Some r else None) → total ≡ hit_rows hits ++ walked late holds (n - length hits) (r ∷ rest)
     → total ≡ hit_rows (hits ++ list_of_option hit) ++ walked late holds (n - length (hits ++ list_of_option hit)) rest
@@ -129,7 +129,7 @@ rows_none d ds e = ap (λ o. cons_option o (entry_rows (map kept_entry ds))) (ro
 pub rows_some : (d : Document) (ds : List Document) (key : Items) → Some key ≡ option_and_then (row_key id_columns) (form_of d) → entry_rows (map kept_entry (d ∷ ds)) ≡ (key, id_bytes d) ∷ entry_rows (map kept_entry ds)
 rows_some d ds key e = ap (λ o. cons_option o (entry_rows (map kept_entry ds))) (row_lent d (Some key) e)
 
--- whether the selector holds of it
+-- the selector holds of a document exactly if it holds at the document's id
 pub holds_of : (normal : NormalForm) (ds : KeptDocuments) (d : Document) → get ds (id_bytes d) ≡ Some (kept_of d)
     → option_map_or (λ form. normal_holds normal (Some form)) (form_of d) false ≡ holds_at normal ds (id_bytes d)
 holds_of normal ds d e = ap (λ o. option_map_or (λ form. normal_holds normal (Some form)) (option_and_then (λ (k : KeptDocument). k.1) o) false) (sym e)

@@ -1,4 +1,4 @@
--- Values may be looked at by several threads: they hold one another, so it is shown of a layer at a time.
+-- JSON values may be shared by threads (`Sync`). They contain one another, so this is shown for one layer at a time.
 use denote.Enum.Declared as E
 use denote.Hole.Fix.{holes}
 use denote.Hole.FixSend.{fix_pulls}
@@ -25,7 +25,7 @@ json_sync =
     variants_sync Json.enum
     (tt, ((search (sendable, as_row_sync) depth 20, tt), ((search (sendable, as_row_sync) depth 20, tt), ((search (sendable, crosses, maps) depth 20, tt), ((search (sendable, crosses, maps, as_row_sync, hole_sync) depth 20, tt), ((search (sendable, crosses, maps, as_row_sync, hole_sync) depth 20, tt), tt))))))
 
--- also at one that is a field
+-- the same for a value that is a field
 pub json_field_sync : IsSync (Json.the_field).row
 json_field_sync =
     enum_sync (E.shape Json.the_type)

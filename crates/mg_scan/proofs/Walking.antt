@@ -1,5 +1,5 @@
--- What a search finds on its way is what is asked: the rows that are reached, up to the first late one, are those in the range and after
--- the row that is named.
+-- What a search finds on its way is what it asks for: the rows from where it begins to the first late one are those in its range and after
+-- the row `after`.
 use Rattle.std.proofs.Common.{◌≡◌, ℕ, zero, suc, Bool, true, false, ◌&&◌, not, cond, List, [], ◌∷◌, ◌++◌, Option, Some, None, option_map, Less, Greater, is_gt, is_lt, take, reverse, if◌then◌else◌, refl, ap, ap₂, sym, ◌∙◌, subst}
 use Rattle.std.proofs.lemmas.List.{reverse-append}
 use Rattle.std.proofs.lemmas.List.Elements.{filter-append}
@@ -78,7 +78,7 @@ gt_down : (b : Bool) → is_gt (directed Desc (if b then Less else Greater)) ≡
 gt_down true = refl
 gt_down false = refl
 
--- where a search begins, what comes after is what it reaches
+-- the rows that come after the place where a search begins are those that it reaches
 pub begun : (direction : Direction) (range : Range) (after : Option RowValue) (xs : List RowValue)
     → beyond direction (λ r. begin_order direction (row_side range r) (option_map (row_value_order r) after)) xs ≡ filter (reached direction range after) (in_direction direction xs)
 begun Asc range after xs = filter-same _ (reached Asc range after) (λ r. lt_up (reached Asc range after r)) xs
@@ -179,7 +179,7 @@ pub named_id : (id : List ℕ) (o : Option Items) (r : RowValue) → option_map 
 named_id id None r e = absurd cc
 named_id id (Some key) r e = let same : ◌≡◌ {A = RowValue} (key, id) r = cc in ap (λ (x : RowValue). x.1) (sym same)
 
--- the rows of the documents that are asked for are those that hold
+-- the rows of the documents that match are the rows whose documents match
 asked_is : (columns : List Steps) (normal : NormalForm) (ds : KeptDocuments) (docs : List ServedDocument) → AllByRecursion (λ d. form_at ds d.0 ≡ Some d.1) docs
     → filter_map (row_of columns) (filter (λ d. normal_holds normal (Some d.1)) docs) ≡ filter (λ r. holds_at normal ds r.1) (filter_map (row_of columns) docs)
 asked_is columns normal ds [] h = refl
@@ -191,7 +191,7 @@ asked_is columns normal ds (d ∷ docs) h =
 
 -- ---- the whole search
 
--- the rows are those of the columns, from where the search begins
+-- the rows are those of an index of the columns, from where the search begins
 abbrev pub AreBegun : SearchInput → KeptDocuments → List RowValue → Type 0
 AreBegun q ds rows = rows ≡ beyond q.direction (λ r. begin_order q.direction (row_side q.range r) (option_map (row_value_order r) q.after)) (rows_of q.columns (docs_of ds))
 

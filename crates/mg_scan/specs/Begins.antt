@@ -1,5 +1,6 @@
--- Where a search begins is a place among rows and among documents: first come those that it does not reach, then those that it reaches.
--- The proofs of both laws are in specs/, since the code cites them, and code can cite nothing else of its own crate.
+-- The place where a search begins divides rows, and documents: in the search's direction, those that it does not reach come before those
+-- that it reaches. The proofs of both laws (`begin_probes_rows`, `begin_probes_ids`) are in specs/, since code can cite only the specs of
+-- its own crate.
 use Rattle.std.proofs.Common.{◌≡◌, ℕ, ◌≤◌, Bool, true, false, not, List, Option, Some, None, option_map, Ordering, Less, Equal, Greater, is_gt, if◌then◌else◌, refl, ap, ap₂, sym, ◌∙◌, arith}
 use Rattle.std.proofs.lemmas.Bool.{and_from, and_parts}
 use Rattle.std.proofs.lemmas.Cmp.{upto}
@@ -27,7 +28,7 @@ use Rattle.mg_scan.specs.declared.search.Search.{Search}
 use Rattle.mg_value.specs.Value.{Items, no_items, item, item_list, text}
 use Rattle.mg_value.specs.View.{items_of}
 
--- x does not come after y
+-- x does not come after y in a direction
 abbrev pub NotAfter : Direction → RowValue → RowValue → Type 0
 NotAfter direction x y = is_gt (directed_order direction x y) ≡ false
 
@@ -86,6 +87,7 @@ beyond_at : (R : RowValue → RowValue → Ordering) → IsTotalOrder R → (x y
 beyond_at R o x y p true is h e = refl
 beyond_at R o x y p false is h e = sym (upto o x y p h is) ∙ e
 
+-- a row is past the row after which a search begins if an earlier row is
 pub beyond_rises : (direction : Direction) (after : Option RowValue) (x y : RowValue) → NotAfter direction x y
     → is_beyond direction (option_map (row_value_order x) after) ≡ true → is_beyond direction (option_map (row_value_order y) after) ≡ true
 beyond_rises direction None x y h e = refl
@@ -123,7 +125,7 @@ begin_probes Asc range after = λ x y l n. up_step (reached Asc range after x) (
 begin_probes Desc range after =
     λ x y l n. down_step (reached Desc range after x) (reached Desc range after y) (reached_rises Desc range after y x (ap (λ o. is_gt (ordering_reverse o)) (row_value_order_total.antisymm y x ∙ ap ordering_reverse l))) n
 
--- where a search begins is a place among rows
+-- the place where a search begins divides rows that are in order
 pub begin_probes_rows : (s : Search) → IsProbe row_value_order (begin_at s)
 begin_probes_rows s = begin_probes s.direction s.range.now (after_of s)
 
@@ -132,12 +134,12 @@ twice Less = refl
 twice Equal = refl
 twice Greater = refl
 
--- the rows of ids among all documents are in the order of the ids
+-- the rows of ids in the index of all documents are in the order of the ids
 pub id_rows : (a b : List ℕ) → row_value_order (id_row a) (id_row b) ≡ slice_cmp nat_cmp a b
 id_rows a b =
     ap (λ o. ordering_then o (slice_cmp nat_cmp a b)) (items_order-item (text a) (text b) no_items no_items ∙ then_equal (value_order (text a) (text b)) ∙ text_order a b)
     ∙ twice (slice_cmp nat_cmp a b)
 
--- where a search begins is a place among documents, or other things that have ids
+-- the place where a search begins divides documents, or other things that have ids, if they are in the order of their ids
 pub begin_probes_ids : {T : Type 0} (id : T → List ℕ) (s : Search) → IsProbe (id_order id) (λ d. begin_at s (id_row (id d)))
 begin_probes_ids id s = λ x y l n. begin_probes s.direction s.range.now (after_of s) (id_row (id x)) (id_row (id y)) (id_rows (id x) (id y) ∙ l) n

@@ -7,14 +7,14 @@ use Rattle.mg_shard.specs.Rows.{rows_of}
 use Rattle.mg_shard.specs.Shard.{ShardView}
 use Rattle.mg_value.specs.declared.error.NoMemory.{NoMemory}
 
--- these are the rows that the index has in the i-th shard, unless memory was refused
+-- the result has the rows that the index has in the i-th shard, if there is one, unless an allocation failed
 abbrev pub HasRowsAt : IndexDefinition → List ShardView → ℕ → Result (List RowValue) NoMemory → Type 0
 HasRowsAt d shards i r = IfOk r (λ v. (s : ShardView) → slice_get shards i ≡ Some s → v ≡ rows_of d.columns (docs_of s.documents))
 
--- each has the rows of the index in the shard of the same number
+-- each result has the rows that the index has in the shard of the same number, unless an allocation failed
 abbrev pub AreRowsAt : IndexDefinition → List ShardView → List (Result (List RowValue) NoMemory) → Type 0
 AreRowsAt d shards rs = (i : ℕ) (r : Result (List RowValue) NoMemory) → slice_get rs i ≡ Some r → HasRowsAt d shards i r
 
--- the i-th has the rows of the index in the shard with the number from + i
+-- the i-th result has the rows that the index has in the shard with the number from + i, unless an allocation failed
 abbrev pub AreRowsFrom : IndexDefinition → List ShardView → ℕ → List (Result (List RowValue) NoMemory) → Type 0
 AreRowsFrom d shards from rs = (i : ℕ) (r : Result (List RowValue) NoMemory) → slice_get rs i ≡ Some r → HasRowsAt d shards (from + i) r

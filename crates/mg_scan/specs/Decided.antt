@@ -1,4 +1,4 @@
--- Where the key of a row alone decides whether a search finds it.
+-- Searches whose range decides the whole selector: the key of a row alone shows whether the search finds that row.
 use Rattle.std.specs.Prelude.{◌≡◌, true, false, List, [], Some, None, is_some}
 use Rattle.mg_index.specs.Definition.{Steps}
 use Rattle.mg_normal.specs.Normal.{NormalForm}
@@ -8,11 +8,11 @@ use Rattle.mg_scan.specs.Found.{target_columns}
 use Rattle.mg_scan.specs.declared.target.Target.{Target}
 use Rattle.mg_shard.specs.Shard.{ShardView}
 
--- the normal form that asks nothing of a document
+-- the normal form that every document matches
 abbrev pub everything : NormalForm
 everything = record { atoms = []; rest = None }
 
--- the shard has the target, the normal form asks nothing besides atoms, and the range is that of the atoms and decides each of them
+-- the shard has the target; the normal form has only atoms; the range is that of the atoms, and decides each of them
 pub record IsDecidedIn (target : Target) (normal : NormalForm) (range : Range) (s : ShardView) : Type 0 where
   pub columns : List Steps
   pub there : target_columns target s.definitions ≡ Some columns

@@ -23,20 +23,20 @@ hit_rows hits = map hit_row hits
 abbrev pub hit_document : Hit → Document
 hit_document h = h.document.now
 
--- the form in which it is served
+-- the form in which the document of a hit is served
 abbrev pub hit_form : Hit → Value
 hit_form h = h.form.now
 
--- the compact text of that form
+-- the compact text of the form in which the document of a hit is served
 abbrev pub hit_text : Hit → List ℕ
 hit_text h = compact (hit_form h)
 
--- the hit's document is the one that is kept of its id, and is served in the form that the hit lends
+-- the hit's document is the one that the shard keeps under the hit's id, and it is served in the form that the hit lends
 pub record IsHitOf (ds : KeptDocuments) (h : Hit) : Type 0 where
   pub document : get ds (hit_row h).1 ≡ Some (kept_of (hit_document h))
   pub form : form_of (hit_document h) ≡ Some (hit_form h)
 
--- each is such a hit
+-- each hit is of a document that the shard keeps
 abbrev pub AreHitsOf : KeptDocuments → List Hit → Type 0
 AreHitsOf ds hits = AllByRecursion (IsHitOf ds) hits
 
@@ -47,6 +47,6 @@ pub record IsHitIn (shards : List ShardView) (h : Hit) : Type 0 where
   pub there : slice_get shards place ≡ Some shard
   pub hit : IsHitOf shard.documents h
 
--- each is such a hit
+-- each hit is of a document of one of the shards
 abbrev pub AreHitsIn : List ShardView → List Hit → Type 0
 AreHitsIn shards hits = AllByRecursion (IsHitIn shards) hits

@@ -43,7 +43,7 @@ AreServed ds rows = AllByRecursion (λ r. is_some (form_at ds r.1) ≡ true) row
 abbrev pub without_selector : Search → Search
 without_selector s = record s { normal = record { ref_ptr = s.normal.ref_ptr; now = everything } }
 
--- all rows on a search's way, whatever their documents
+-- the rows before the first one that comes after the search's range, whatever their documents
 abbrev pub rows_on_way : Search → List RowValue → List RowValue
 rows_on_way s rows = walked_all (is_late_row s.direction s.range.now) (λ r. true) rows
 
@@ -53,18 +53,18 @@ lead_rows s (unread.Rows rows) = rows_on_way s rows
 lead_rows s (unread.Documents ds) = walked_documents (without_selector s) ds
 lead_rows s unread.Nothing = []
 
--- a lead that is still to come is of this shard, if the rows that are left are of documents that it serves, or the documents are its own
+-- a lead that is still to come is of this shard, if the shard serves the documents of the unread rows, or keeps the unread documents
 abbrev pub IsLeadUnread : ShardView → Unread → Lead → Type 0
 IsLeadUnread shard (unread.Rows rows) l = AreServed shard.documents rows → IsLeadOf shard l
 IsLeadUnread shard (unread.Documents ds) l = AreKept shard.documents ds → IsLeadOf shard l
 IsLeadUnread shard unread.Nothing l = IsLeadOf shard l
 
--- a source of all rows in the search's range, whatever their documents
+-- the source gives, as leads of the shard, all that the search would find there without its selector and its limit
 pub record IsLeadSourceOf (search : Search) (s : ShardView) (source : LeadSource) : Type 0 where
   pub rows : lead_rows source.search source.unread ≡ all_found_by (without_selector search) s
   pub leads : (l : Lead) → IsLeadUnread source.shard.now source.unread l → IsLeadOf s l
 
--- a source of all rows in the search's range but the first n, whatever their documents
+-- the source gives, as leads of the shard, all that the search would find there without its selector and its limit, except the first n
 pub record IsLeadSourceAfter (n : ℕ) (search : Search) (s : ShardView) (source : LeadSource) : Type 0 where
   pub rows : lead_rows source.search source.unread ≡ drop n (all_found_by (without_selector search) s)
   pub leads : (l : Lead) → IsLeadUnread source.shard.now source.unread l → IsLeadOf s l

@@ -1,4 +1,4 @@
--- For private clauses: a page that is continued after rows that it skips were passed over.
+-- For private clauses: a search that begins after some of the rows that the page skips, and has the same page.
 use Rattle.std.specs.Prelude.{◌≡◌, ℕ, ◌≤◌, List, Some, true, false, All, drop, map}
 use Rattle.std.specs.Borrow.{Bor}
 use Rattle.std.specs.List.{sum_by}
@@ -19,11 +19,11 @@ abbrev pub IsIndex : Target → Type 0
 IsIndex AllDocs = ⊥
 IsIndex (Index ddoc name) = Unit {0}
 
--- how many rows of a shard come after the place where a search begins
+-- how many rows of a shard (of the target `AllDocs`: documents, deleted ones too) come after the place where a search begins
 abbrev pub count_upcoming_by : Search → ShardView → ℕ
 count_upcoming_by s = count_upcoming s.target s.range.now (after_of s) s.direction
 
--- how many rows of all shards come after that place
+-- how many rows or documents of all shards come after the place where a search begins
 abbrev pub count_all_upcoming : List ShardView → Search → ℕ
 count_all_upcoming shards s = sum_by (count_upcoming_by s) shards
 
@@ -31,20 +31,21 @@ count_all_upcoming shards s = sum_by (count_upcoming_by s) shards
 abbrev pub AreDecided : List ShardView → Search → Type 0
 AreDecided shards s = All (IsDecidedIn s.target s.normal.now s.range.now) shards
 
--- of the first rows that a search finds in all shards, those after the first `skip`
+-- the rows after the first `skip` of the first `take` rows that a search finds in all shards
 abbrev pub page_after : List ShardView → Search → ℕ → List RowValue
 page_after shards s skip = drop skip (merged s.direction s.take (map (found_by s) shards))
 
--- the search after a row, which takes n rows
+-- the search that begins after a row, and takes n rows
 abbrev pub beyond_row : Search → Bor RowValue → ℕ → Search
 beyond_row s row n = record s { after = Some row; take = n }
 
--- a row that the search reaches before its range ends
+-- the row is at or after the place where the search begins, and does not come after the range
 pub record IsWithin (s : Search) (r : RowValue) : Type 0 where
   pub begun : reached s.direction s.range.now (after_of s) r ≡ true
   pub timely : is_late_row s.direction s.range.now r ≡ false
 
--- the search t is the search s after another row; if the range decides, the page of t that skips `left` rows is that of s that skips `skip`
+-- the search t is s, but may begin after another row and take fewer rows; if the range decides what they find, the page of t after `left`
+-- rows is the page of s after `skip` rows
 pub record HasPageOf (shards : List ShardView) (s : Search) (skip : ℕ) (t : Search) (left : ℕ) : Type 0 where
   pub same : t ≡ record s { after = t.after; take = t.take }
   pub take : t.take ≤ s.take

@@ -7,19 +7,19 @@ use Rattle.mg_scan.specs.declared.unread.Unread.{Unread}
 use Rattle.mg_scan.specs.declared.unread.Unread.TheVariants as unread
 use Rattle.mg_scan.specs.declared.search.Search.{Search}
 
--- the row at a place comes after the range; true also where there is no row
+-- the row at a place comes after the range; true also if there is no row at that place
 abbrev pub is_late_at : Search → List RowValue → ℕ → Bool
 is_late_at s rows place = option_map_or (is_late_row s.direction s.range.now) (slice_get rows place) true
 
--- each row after one that is past the range is past it too
+-- if a row comes after the range, so does each later row
 abbrev pub EndsOnce : Search → List RowValue → Type 0
 EndsOnce s rows = (i j : ℕ) → i ≤ j → is_late_at s rows i ≡ true → is_late_at s rows j ≡ true
 
--- the first n rows come before the end of the range
+-- there are at least n rows, and none of the first n comes after the range
 abbrev pub AreBeforeEnd : Search → List RowValue → ℕ → Type 0
 AreBeforeEnd s rows n = (i : ℕ) → i < n → is_late_at s rows i ≡ false
 
--- the rows of an index that are left
+-- the rows of an index that are still to be read; none if the target is all documents, or an index that the shard does not have
 abbrev pub index_rows : Unread → List RowValue
 index_rows (unread.Rows rows) = rows
 index_rows (unread.Documents documents) = []

@@ -1,5 +1,5 @@
--- What a scan finds in a shard: rows of an index, which has the rows of a JSON index of CouchDB. It finds the first rows, up to a number,
--- whose key is in a range, which come after a given row, and whose document matches the selector.
+-- What a search finds in a shard. It reads an index, whose rows are those of a JSON index of CouchDB, and finds the first rows, up to a
+-- number, whose key is in a range, that come after a given row, and whose document matches a selector.
 use Rattle.std.specs.Prelude.{ℕ, List, Bool, true, ◌&&◌, Option, Some, take, filter}
 use Rattle.std.specs.List.{filter_map}
 use Rattle.std.specs.Option.{option_map_or}
@@ -15,7 +15,7 @@ use Rattle.mg_range.specs.RangeSide.{has_key}
 use Rattle.mg_shard.specs.Histories.{ServedDocument}
 use Rattle.mg_shard.specs.Rows.{row_of}
 
--- what a scan is asked: the columns of the index, which documents, which keys, after which row, how many rows, and in which direction
+-- what a search asks for: the columns of the index, which documents, which keys, after which row, how many rows, and in which direction
 pub record SearchInput : Type 0 where
   pub columns : List Steps
   pub normal : NormalForm
@@ -28,18 +28,18 @@ pub record SearchInput : Type 0 where
 abbrev pub comes_after : Direction → Option RowValue → RowValue → Bool
 comes_after direction after r = option_map_or (λ p. is_gt (directed_order direction r p)) after true
 
--- the row's key is in the range, and the row comes after the one that is named
+-- the row's key is in the range, and the row comes after `after`
 abbrev pub is_wanted : SearchInput → RowValue → Bool
 is_wanted q r = has_key q.range (item_list r.0) && comes_after q.direction q.after r
 
--- the documents that the selector holds of
-abbrev pub asked_documents : SearchInput → List ServedDocument → List ServedDocument
-asked_documents q ds = filter (λ d. normal_holds q.normal (Some d.1)) ds
+-- the documents of which the selector holds
+abbrev pub matching_documents : SearchInput → List ServedDocument → List ServedDocument
+matching_documents q ds = filter (λ d. normal_holds q.normal (Some d.1)) ds
 
--- all rows that match the input in a shard with these documents, without its limit
+-- all rows that a search without a limit finds in a shard with these documents
 abbrev pub all_matches : SearchInput → List ServedDocument → List RowValue
-all_matches q ds = filter (is_wanted q) (sorted_rows q.direction (filter_map (row_of q.columns) (asked_documents q ds)))
+all_matches q ds = filter (is_wanted q) (sorted_rows q.direction (filter_map (row_of q.columns) (matching_documents q ds)))
 
--- what a scan of the shard finds
+-- the rows that the search finds in a shard with these documents: the first of all matches, up to its limit
 abbrev pub first_matches : SearchInput → List ServedDocument → List RowValue
 first_matches q ds = take q.count (all_matches q ds)

@@ -23,21 +23,22 @@ use Rattle.mg_shard.specs.declared.document.Document.{Document}
 abbrev pub holds_for : NormalForm → Document → Bool
 holds_for normal d = option_map_or (λ form. normal_holds normal (Some form)) (form_of d) false
 
--- the row of a document among all, if it is served with an id
+-- the row of a document in the index of all documents; `None` if it is not served, or its form has no `_id`
 abbrev pub row_among : Document → Option RowValue
 row_among d = option_map (λ key. (key, id_bytes d)) (option_and_then (row_key id_columns) (form_of d))
 
--- what is found from a document on, given its row and what is found after it
+-- what a search finds from a document on, given whether a row comes after the range (`late`), whether the document matches (`holds`),
+-- its row, and what is found after it (`rest`); a document without a row is passed over
 abbrev pub walked_on : (RowValue → Bool) → Bool → Option RowValue → List RowValue → List RowValue
 walked_on late holds None rest = rest
 walked_on late holds (Some r) rest = if late r then [] else if holds then r ∷ rest else rest
 
--- all that a search finds on its way through documents
+-- all that a search without a limit finds among documents, which begin where the search begins
 abbrev pub walked_documents : Search → List Document → List RowValue
 walked_documents s [] = []
 walked_documents s (d ∷ ds) = walked_on (is_late_row s.direction s.range.now) (holds_for s.normal.now d) (row_among d) (walked_documents s ds)
 
--- the documents are among those that are kept
+-- the documents are among those that a shard keeps
 abbrev pub AreKept : KeptDocuments → List Document → Type 0
 AreKept kept ds = AllByRecursion (λ d. get kept (id_bytes d) ≡ Some (kept_of d)) ds
 
@@ -47,13 +48,13 @@ unread_rows s shard (unread.Rows rows) = walked_all_by s shard.documents rows
 unread_rows s shard (unread.Documents ds) = walked_documents s ds
 unread_rows s shard unread.Nothing = []
 
--- a hit that is still to come is of this shard's documents, if the documents that are left are kept there
+-- a hit that is still to come is of a document that this shard keeps, if the shard keeps the unread documents
 abbrev pub IsUnread : ShardView → Unread → Hit → Type 0
 IsUnread shard (unread.Rows rows) h = IsHitOf shard.documents h
 IsUnread shard (unread.Documents ds) h = AreKept shard.documents ds → IsHitOf shard.documents h
 IsUnread shard unread.Nothing h = IsHitOf shard.documents h
 
--- a source of all that the search finds in a shard
+-- the source gives all that the search finds in the shard without its limit, each with its document
 pub record IsSourceOf (search : Search) (s : ShardView) (source : HitSource) : Type 0 where
   pub rows : unread_rows source.search source.shard.now source.unread ≡ all_found_by search s
   pub hits : (h : Hit) → IsUnread source.shard.now source.unread h → IsHitOf s.documents h

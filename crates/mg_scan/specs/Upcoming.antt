@@ -14,11 +14,12 @@ use Rattle.mg_shard.specs.Walk.{beyond}
 use Rattle.mg_value.specs.Value.{item_list}
 use Rattle.std.specs.declared.cmp.Ordering.{Ordering}
 
--- the place where a search begins, compared to a row
-abbrev pub begins_at : Range → Option RowValue → Direction → RowValue → Ordering
-begins_at range after direction r = begin_order direction (side_of range (item_list r.0)) (option_map (row_value_order r) after)
+-- compares the place where a search begins to a row; the search is given by its parts
+abbrev pub begin_of_parts : Range → Option RowValue → Direction → RowValue → Ordering
+begin_of_parts range after direction r = begin_order direction (side_of range (item_list r.0)) (option_map (row_value_order r) after)
 
--- how many documents, deleted ones too, or rows of the index come after the place where a search begins; 0 if there is no such index
+-- how many documents (deleted ones too) or rows of the index come after the place where a search begins, in the search's direction; 0 if
+-- the shard has no such index
 abbrev pub count_upcoming : Target → Range → Option RowValue → Direction → ShardView → ℕ
-count_upcoming AllDocs range after direction s = length (beyond direction (λ e. begins_at range after direction (id_row e.0)) (entries s.documents))
-count_upcoming (Index ddoc name) range after direction s = option_map_or (λ rows. length (beyond direction (begins_at range after direction) rows)) (rows_at ddoc.now name.now s) 0
+count_upcoming AllDocs range after direction s = length (beyond direction (λ e. begin_of_parts range after direction (id_row e.0)) (entries s.documents))
+count_upcoming (Index ddoc name) range after direction s = option_map_or (λ rows. length (beyond direction (begin_of_parts range after direction) rows)) (rows_at ddoc.now name.now s) 0

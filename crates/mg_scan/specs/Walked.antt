@@ -23,7 +23,7 @@ is_beyond direction order = option_map_or (λ o. is_gt (directed direction o)) o
 abbrev pub reaches : Direction → RangeSide → Option Ordering → Bool
 reaches direction side order = not (is_early direction side) && is_beyond direction order
 
--- where a search begins, compared to an item on this side of the range and with this ordering against that row
+-- compares the place where a search begins to an item that is given as for `reaches`
 abbrev pub begin_order : Direction → RangeSide → Option Ordering → Ordering
 begin_order direction side order = directed direction (if reaches direction side order then Less else Greater)
 
@@ -35,18 +35,18 @@ is_late_row direction range r = is_late direction (side_of range (item_list r.0)
 abbrev pub holds_at : NormalForm → KeptDocuments → List ℕ → Bool
 holds_at normal ds id = option_map_or (λ form. normal_holds normal (Some form)) (form_at ds id) false
 
--- the first n rows that hold, before the first row that is late; the rows are in order
+-- of the rows before the first one for which `late` is true: the first n for which `holds` is true
 abbrev pub walked : (RowValue → Bool) → (RowValue → Bool) → ℕ → List RowValue → List RowValue
 walked late holds zero rows = []
 walked late holds (suc n) [] = []
 walked late holds (suc n) (r ∷ rows) = if late r then [] else if holds r then r ∷ walked late holds n rows else walked late holds (suc n) rows
 
--- all rows that hold, before the first row that is late; the rows are in order
+-- of the rows before the first one for which `late` is true: all for which `holds` is true
 abbrev pub walked_all : (RowValue → Bool) → (RowValue → Bool) → List RowValue → List RowValue
 walked_all late holds [] = []
 walked_all late holds (r ∷ rows) = if late r then [] else if holds r then r ∷ walked_all late holds rows else walked_all late holds rows
 
--- the row of an id among all documents
+-- the row of an id in the index of all documents
 abbrev pub id_row : List ℕ → RowValue
 id_row id = (item (text id) no_items, id)
 

@@ -19,18 +19,18 @@ use Rattle.mg_value.specs.Value.{item_list}
 abbrev pub all_found_by : Search → ShardView → List RowValue
 all_found_by s = all_found_in s.target (search_input s)
 
--- the place where a search begins, compared to a row
+-- compares the place where a search begins to a row
 abbrev pub begin_at : Search → RowValue → Ordering
 begin_at s r = begin_order s.direction (side_of s.range.now (item_list r.0)) (option_map (row_value_order r) (after_of s))
 
--- what a search finds on the way through rows of a shard with these documents, at most this many
+-- the rows that a search finds, at most n, among these rows of a shard with these documents; the rows begin where the search begins
 abbrev pub walked_by : Search → KeptDocuments → ℕ → List RowValue → List RowValue
 walked_by s ds = walked (is_late_row s.direction s.range.now) (λ r. holds_at s.normal.now ds r.1)
 
--- all that a search finds on the way through such rows
+-- all rows that a search without a limit finds among these rows of a shard with these documents; the rows begin where the search begins
 abbrev pub walked_all_by : Search → KeptDocuments → List RowValue → List RowValue
 walked_all_by s ds = walked_all (is_late_row s.direction s.range.now) (λ r. holds_at s.normal.now ds r.1)
 
--- the rows that documents have among all documents, where an id is the key
+-- the rows that documents have in the index of all documents, where an id is the key
 abbrev pub entry_rows : List (List ℕ × KeptDocument) → List RowValue
 entry_rows es = filter_map (λ e. option_and_then (row_of id_columns) (doc_entry e)) es

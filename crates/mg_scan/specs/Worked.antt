@@ -15,14 +15,14 @@ pub record AreHitsFound (search : Search) (s : ShardView) (hits : List Hit) : Ty
   pub rows : hit_rows hits ≡ found_by search s
   pub documents : AreHitsOf s.documents hits
 
--- the hits are what the search finds in the i-th shard
+-- the hits are what the search finds in the i-th shard, if there is one; shards are counted from 0
 pub record AreHitsFoundAt (search : Search) (shards : List ShardView) (i : ℕ) (hits : List Hit) : Type 0 where
   pub gives : (s : ShardView) → slice_get shards i ≡ Some s → AreHitsFound search s hits
 
--- each of these has the hits of the shard that it names
+-- each item has the hits that the search finds in the item's shard
 abbrev pub AllShardHits : Search → List ShardView → List ShardHits → Type 0
 AllShardHits search shards ds = AllByRecursion (λ d. AreHitsFoundAt search shards d.shard d.hits.items) ds
 
--- a full slot has the hits of its shard
+-- each slot that is not empty has the hits that the search finds in the shard of the same number
 abbrev pub AllSlots : Search → List ShardView → List (Option (Vec Hit Global)) → Type 0
 AllSlots search shards slots = (i : ℕ) (v : Vec Hit Global) → slice_get slots i ≡ Some (Some v) → AreHitsFoundAt search shards i v.items

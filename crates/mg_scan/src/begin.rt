@@ -6,8 +6,8 @@ use mg_rows::RowBytes;
 use mg_value::Json;
 use std::cmp::Ordering;
 
-/// Where a search begins: in its direction, before the first row that is at or past the beginning of its range, and after `after` if that
-/// is given.
+/// The place where a search begins: before the first row, in its direction, that is at or past the start of its range, and that comes after
+/// `after` if the search has one.
 #[derive(Clone, Copy)]
 pub(crate) struct Begin<'a> {
     pub(crate) search: Search<'a>,
@@ -54,7 +54,8 @@ impl<'a, X: Identified> Probe<Shared<X>> for Begin<'a> {
     }
 }
 
-// The hint of the id at which the range is entered.
+// Returns the hint of the id at which the range is entered in the search's direction; if no id is named there, the first hint in that
+// direction.
 fn id_hint(search: Search<'_>) -> u64 {
     match search.range.key_range().entered_at(search.direction) {
         Some((Json::Text(id), _)) => text_hint(id.as_str()),

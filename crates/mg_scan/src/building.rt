@@ -1,4 +1,4 @@
-//! Indexes built over shards, their rows extracted in parallel.
+//! Builds indexes over shards, and extracts their rows in parallel.
 ghost use Rattle.std.specs.Prelude.{◌≡◌, ◌+◌, ◌^◌, ◌<◌, ◌≤◌, List, Some, length, map, slice_get, vec_len, IfOk};
 ghost use Rattle.std.specs.Arc.{arc_value};
 ghost use Rattle.mg_scan.specs.Built.{with_index};
@@ -19,7 +19,8 @@ use std::mem::replace;
 use std::sync::Arc;
 use std::thread::Threads;
 
-// The rows that the index has in the i-th shard, extracted by this many workers between two passes of the gate.
+// Extracts the rows that the index has in the i-th shard, as `Shard::rows_for` does with this number of workers. Passes the gate before it
+// reads the shard, and again at the end unless an allocation fails. Errors: `NoMemory` if an allocation fails.
 fn extract_at<R: Threads + Sync, G: Gate>(
     rt: &R,
     alloc: Global,
@@ -39,7 +40,8 @@ fn extract_at<R: Threads + Sync, G: Gate>(
     Ok(rows)
 }
 
-// The rows that the index has in each shard, one shard after the other, each by this many workers.
+// Extracts the rows of one shard after the other. Returns, per shard, the rows that the index has there or the error. Errors: `NoMemory` if
+// memory for the list is refused.
 fn extract_in_turn<R: Threads + Sync, G: Gate>(
     rt: &R,
     alloc: Global,
@@ -59,8 +61,10 @@ fn extract_in_turn<R: Threads + Sync, G: Gate>(
     Ok(all)
 }
 
-// The rows that the index has in `count` shards, from the shard `from` on. A thread of its own, with this many workers, extracts those
-// of each shard.
+// Extracts the rows of the `count` shards from the shard `from` on, all at once. Returns, per shard, the rows that the index has there or
+// the error. Each shard but the last has a thread of its own; the last has the caller's thread, and so has each shard for which no thread
+// can be started. Each thread extracts its rows as `Shard::rows_for` does with this number of workers. Errors: `AllocError` if memory for
+// the list is refused.
 fn extract_at_once<R: Threads + Sync, G: Gate + Sync>(
     rt: &R,
     alloc: Global,
@@ -87,8 +91,9 @@ fn extract_at_once<R: Threads + Sync, G: Gate + Sync>(
     Ok(rows)
 }
 
-// The rows that the index has in each shard, extracted by this many threads at a time. Workers that are left over help with the last
-// shards.
+// Extracts the rows of all shards in rounds, in which each worker takes a shard. If a round has at least twice as many workers as shards,
+// each shard gets several workers. Returns, per shard, the rows that the index has there or the error. Errors: `NoMemory` if memory for the
+// list is refused.
 fn extract_by_threads<R: Threads + Sync, G: Gate + Sync>(
     rt: &R,
     alloc: Global,
@@ -112,7 +117,8 @@ fn extract_by_threads<R: Threads + Sync, G: Gate + Sync>(
     Ok(all)
 }
 
-// The rows that the index has in each shard, extracted one shard after the other or several at once.
+// Extracts the rows of all shards, one shard after the other or several at once. Returns, per shard, the rows that the index has there or
+// the error. Errors: `NoMemory` if memory for the list is refused.
 fn extract<R: Threads + Sync, G: Gate + Sync>(
     rt: &R,
     alloc: Global,
@@ -130,7 +136,8 @@ fn extract<R: Threads + Sync, G: Gate + Sync>(
     extract_by_threads(rt, alloc, shards, definition, workers, gate)
 }
 
-// The i-th shard with an index of this definition, which has these rows.
+// Makes the i-th shard with an index of this definition and these rows. Errors: the error given in place of the rows, or `NoMemory` if an
+// allocation fails.
 fn index_shard(
     alloc: Global,
     shards: &[Arc<Shard>],
@@ -147,7 +154,7 @@ fn index_shard(
     Ok(shard.with_rows(alloc, definition, rows?)?)
 }
 
-// Takes out the rows of the i-th shard, and leaves an error in their place.
+// Takes out the rows of the i-th shard, or the error given in their place, and leaves an error instead.
 fn take_rows(
     given: &mut Vec<Result<Pages<RowBytes>, NoMemory>>,
     i: usize,
@@ -162,7 +169,8 @@ fn take_rows(
     replace(&mut given[i], Err(NoMemory))
 }
 
-// The shards, each with an index of this definition, which has the rows given for it. They share the definition.
+// Makes the shards, each with an index of this definition that has the rows given for the shard. The shards share the definition. Errors:
+// the first error given in place of rows, or `NoMemory` if an allocation fails.
 fn index_shards(
     alloc: Global,
     shards: &[Arc<Shard>],
@@ -184,13 +192,14 @@ fn index_shards(
     Ok(built)
 }
 
-/// Returns the shards, each with an index of this definition, which replaces one of the same design document and name, as
-/// `Shard::with_index` makes them. The result is the same for every number of workers, 1 to 32, and for every gate. One worker starts no
-/// thread. Several workers take a shard each; if there are at least twice as many workers as shards left, up to two threads for each
-/// processor extract the rows of a shard of 1,000 or more documents. The definition is copied once, and the shards share it.
+/// Returns the shards, each with an index of this definition, as `Shard::with_index` makes them: an index of the same design document and
+/// name is replaced. The result is the same for every number of workers, 1 to 32, and for every gate. One worker starts no thread. Several
+/// workers take a shard each; if there are at least twice as many workers as shards left, up to two threads for each processor extract the
+/// rows of a shard of 1,000 or more documents. The definition is copied once, and the shards share it.
 ///
 /// The gate is passed before a shard's first document is read, and after its last row is made unless an allocation fails in that shard.
-/// Errors: `NoMemory` if an allocation fails. Cost: that of `Shard::rows_for` and of `Shard::with_rows` for each shard.
+/// Errors: `NoMemory` if an allocation fails; the given shards stay as they are. Cost: for each shard that of `Shard::rows_for` and of
+/// `Shard::with_rows`; if several workers take several shards at once, a thread for each of these shards but one.
 pub fn build<R: Threads + Sync, G: Gate + Sync>(
     rt: &R,
     alloc: Global,

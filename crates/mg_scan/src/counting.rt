@@ -1,4 +1,4 @@
-//! How much a search can read, by counts.
+//! Counts how much a search can read at most, from the counts that the pages keep.
 ghost use Rattle.std.specs.Prelude.{◌≡◌, length, nat_le};
 ghost use Rattle.std.specs.List.{sum_by};
 ghost use Rattle.std.specs.Option.{option_map_or};
@@ -14,10 +14,12 @@ use crate::target::Target;
 use mg_shard::Shard;
 use std::sync::Arc;
 
-/// Whether at most `most` documents (deleted ones too) or rows of all shards come after the place where a search begins, so that it reads
-/// no more than that, wherever its range ends and however many hits it takes. None of them is read for this. Takes no memory.
+/// Whether at most `most` documents (deleted ones too) or rows of all shards come after the place where a search begins. If they do, the
+/// search reads at most `most` documents or rows, wherever its range ends and however many hits it takes. A shard that lacks the index
+/// counts as 0. The documents or rows are not read one by one. Takes no memory.
 ///
-/// Cost: in each shard one look-up of where to begin, with the counts on the way there.
+/// Cost: in each shard, until the sum exceeds `most`, finding the index, one look-up of where to begin, and a read of the count of each
+/// part before that place, at most 64 for each level below the top.
 pub fn reads_at_most(shards: &[Arc<Shard>], search: Search<'_>, most: usize) -> bool
     ensures { result
         ≡ nat_le (sum_by
@@ -37,7 +39,7 @@ pub fn reads_at_most(shards: &[Arc<Shard>], search: Search<'_>, most: usize) -> 
     true
 }
 
-// How many documents or rows come after where the search begins in a shard.
+// How many documents (deleted ones too) or rows of a shard come after the place where the search begins; 0 if the shard lacks the index.
 pub(crate) fn count_upcoming(shard: &Shard, search: Search<'_>) -> usize
     ensures { result
         ≡ count_upcoming search.entry.target search.entry.range.now

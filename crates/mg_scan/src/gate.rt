@@ -1,15 +1,17 @@
 /// Where a query or a build passes its gate.
 #[derive(Clone, Copy, PartialEq, Eq, Debug)]
 pub enum Place {
-    /// The snapshot is taken.
+    /// A query has taken its snapshot.
     Snapshot,
-    /// A shard's first row comes next. Shards are counted from 0.
+    /// A scan or a build begins to read a shard. Shards are counted from 0.
     ShardBegun(usize),
-    /// A shard's last row was read, or in a build made.
+    /// A scan has read all that it needs of a shard; a build has made the last row of a shard. Not passed if an allocation fails in that
+    /// shard.
     ShardDone(usize),
 }
 
-/// Code that a query or a build runs at each `Place`, for tests: a gate may count the places, and may wait there.
+/// Code that a query or a build runs at each `Place`, for tests: a gate may count the places that are passed, and may wait at one. Workers
+/// may run it at the same time. A search without workers (`pull_lent`, `pull_rows`) passes no place of a shard.
 pub trait Gate {
     /// Runs when a query or a build passes this place.
     fn at(&self, place: Place);

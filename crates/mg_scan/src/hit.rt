@@ -13,7 +13,7 @@ use mg_value::{Json, NoMemory};
 use std::alloc::Global;
 use std::cmp::Ordering;
 
-/// A row that a search found, and its document, lent by a shard. Hits are ranked by key, and at one key by the bytes of the id.
+/// A row that a search found, and its document, lent by a shard. Hits are ordered by key, then by the bytes of the id.
 #[derive(Clone, Copy, Drop)]
 pub struct Hit<'a> {
     pub(crate) row: LentRow<'a>,
@@ -22,42 +22,42 @@ pub struct Hit<'a> {
 }
 
 impl<'a> Hit<'a> {
-    /// The row's key. Errors: `NoMemory` if an allocation fails. Cost: the size of the key.
+    /// Copies the key of the hit's row. Errors: `NoMemory` if an allocation fails. Cost: the size of the key.
     pub fn key(&self, alloc: Global) -> Result<Vec<Json>, NoMemory>
         ensures { IfOk result (λ key. items_view key.items ≡ (hit_row self.now).0) }
     {
         self.row.key(alloc)
     }
 
-    /// The id of its document. Takes no memory.
+    /// Returns the id of the hit's document. Takes no memory.
     pub fn id(&self) -> &'a str
         ensures { result.now ≡ (hit_row self.now).1 }
     {
         self.row.id()
     }
 
-    /// Its document. Takes no memory.
+    /// Returns the hit's document. Takes no memory.
     pub fn document(&self) -> &'a Document
         ensures { result.now ≡ hit_document self.now }
     {
         self.document
     }
 
-    /// The form in which the document is served. Takes no memory.
+    /// Returns the form in which the hit's document is served. Takes no memory.
     pub fn form(&self) -> Part<'a>
         ensures { result ≡ hit_form self.now }
     {
         self.form.part()
     }
 
-    /// The compact text of that form. Takes no memory.
-    pub fn text(&self) -> &'a [u8]
+    /// Returns the compact text of the form in which the hit's document is served. Takes no memory.
+    pub fn compact_text(&self) -> &'a [u8]
         ensures { result.now ≡ hit_text self.now }
     {
-        self.form.text()
+        self.form.compact_text()
     }
 
-    /// Copies the row. Errors: `NoMemory` if an allocation fails. Cost: the size of the row.
+    /// Copies the hit's row. Errors: `NoMemory` if an allocation fails. Cost: the size of the row.
     pub fn row(&self, alloc: Global) -> Result<Row, NoMemory>
         ensures { IfOk result (λ row. row_view row ≡ hit_row self.now) }
     {

@@ -14,8 +14,8 @@ use mg_value::NoMemory;
 use std::alloc::Global;
 use std::cmp::Ordering;
 
-/// A row that a search found, lent by its shard, whose document is served but not looked up yet. Leads are ordered by key, and at one key
-/// by the bytes of the id.
+/// A row that a search found, lent by its shard, whose document is served but not looked up yet. Leads are ordered by key, then by the
+/// bytes of the id.
 #[derive(Clone, Copy, Drop)]
 pub(crate) struct Lead<'a> {
     pub(crate) shard: &'a Shard,
@@ -30,7 +30,7 @@ impl<'a> Ranked for Lead<'a> {
     }
 }
 
-// The hit of a lead. Cost: a look-up of its document.
+// Looks up the document of a lead, and returns the hit; `None` only if the document is not served. Cost: a look-up of the document.
 fn hit_of_lead<'a>(lead: Lead<'a>) -> Option<Hit<'a>>
     ensures row { is_some (form_at lead.entry.shard.now.documents (lead_row lead.entry).1) ≡ true
         → option_map hit_row result ≡ Some (lead_row lead.entry) }
@@ -45,7 +45,8 @@ fn hit_of_lead<'a>(lead: Lead<'a>) -> Option<Hit<'a>>
     })
 }
 
-// The hits of the leads after the first `skip`. Cost: a look-up of a document for each hit.
+// Looks up the documents of the leads after the first `skip`, and returns their hits. Errors: `NoMemory` if an allocation fails. Cost: a
+// look-up of a document for each lead after the first `skip`.
 pub(crate) fn hits_after<'a>(
     alloc: Global,
     leads: &[Lead<'a>],

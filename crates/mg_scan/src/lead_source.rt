@@ -13,7 +13,7 @@ pub(crate) struct LeadSource<'a, 'b> {
     pub(crate) unread: Unread<'a>,
     pub(crate) search: Search<'b>,
     pub(crate) range_end: RangeEnd,
-    // Rows of an index are in order.
+    // Rows of an index are in order: if one comes after the range, so does each later one.
     ghost ordered: { EndsOnce search (index_rows unread) },
     ghost sure: { AreBeforeEnd search (index_rows unread) range_end.sure },
 }

@@ -27,7 +27,7 @@ impl<'a, 'b> RowSource<Lead<'a>> for LeadSource<'a, 'b> {
     }
 }
 
-// The next row of an index; `None` if there is none, or the range ends before it.
+// Reads the next row of an index, and returns its lead; `None` if no row is left, or the next row comes after the range.
 #[inline(always)]
 fn lead_of_rows<'a>(
     shard: &'a Shard,
@@ -58,7 +58,8 @@ fn lead_of_rows<'a>(
     })
 }
 
-// The row of the next document that is in the range and served.
+// Reads documents up to the next one that has a row in the index of all documents, and returns its lead; `None` if no such document is
+// left, or it comes after the range. A deleted document has no row.
 fn lead_of_documents<'a>(
     shard: &'a Shard,
     documents: &mut Documents<'a>,
@@ -85,7 +86,7 @@ fn lead_of_documents<'a>(
     None
 }
 
-// The rows in a search's range in a shard, as they are asked for. Cost: one look-up of where to begin.
+// Returns a source of the leads of a search in a shard. Cost: finding the index, and one look-up of where to begin.
 pub(crate) fn lead_source_of<'a, 'b>(shard: &'a Shard, search: Search<'b>) -> LeadSource<'a, 'b>
     ensures { IsLeadSourceOf search.entry shard.now result }
 {
@@ -97,8 +98,8 @@ pub(crate) fn lead_source_of<'a, 'b>(shard: &'a Shard, search: Search<'b>) -> Le
     }
 }
 
-// The source that `lead_source_of` returns, without its first rows, and how many rows were passed over: `count` in an index, 0 in all
-// documents. Cost: two look-ups.
+// Returns the source of `lead_source_of` without its first `count` rows, and `count`. For all documents and for a missing index, returns
+// the whole source, and 0. Cost: finding the index, and two look-ups: of where to begin, and of the row after the `count` rows.
 pub(crate) fn lead_source_after<'a, 'b>(
     shard: &'a Shard,
     search: Search<'b>,

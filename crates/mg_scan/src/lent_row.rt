@@ -1,4 +1,4 @@
-//! The row of a hit, lent by a shard.
+//! The row of a hit or a lead, lent by a shard.
 ghost use Rattle.std.specs.Prelude.{◌≡◌, IfOk};
 ghost use Rattle.mg_collate.specs.Row.{row_value_order, row_view};
 ghost use Rattle.mg_value.specs.View.{items_view};
@@ -11,17 +11,17 @@ use mg_value::{Json, NoMemory};
 use std::alloc::Global;
 use std::cmp::Ordering;
 
-/// The row of a hit.
+/// A row that a search found.
 #[derive(Clone, Copy)]
 pub(crate) enum LentRow<'a> {
     /// A row of an index.
     Bytes(&'a RowBytes),
-    /// The row that a document has among all documents, whose key is its id.
+    /// The row of this id in the index of all documents: the id is also its key.
     Id(&'a str),
 }
 
 impl<'a> LentRow<'a> {
-    /// The id of its document. Takes no memory.
+    /// Returns the id of the row's document. Takes no memory.
     #[inline(always)]
     pub(crate) fn id(&self) -> &'a str
         ensures { result.now ≡ (lent_row self.now).1 }
@@ -32,7 +32,7 @@ impl<'a> LentRow<'a> {
         }
     }
 
-    /// Its key. Errors: `NoMemory` if an allocation fails. Cost: the size of the key.
+    /// Copies the row's key. Errors: `NoMemory` if an allocation fails. Cost: the size of the key.
     pub(crate) fn key(&self, alloc: Global) -> Result<Vec<Json>, NoMemory>
         ensures { IfOk result (λ key. items_view key.items ≡ (lent_row self.now).0) }
     {
@@ -52,7 +52,7 @@ impl<'a> LentRow<'a> {
         }
     }
 
-    /// The order of two rows: by key, and at one key by the bytes of the id. Takes no memory.
+    /// Compares two rows: by key, then by the bytes of the id. Takes no memory.
     #[inline(always)]
     pub(crate) fn compare(&self, other: &LentRow<'a>) -> Ordering
         ensures { result ≡ row_value_order (lent_row self.now) (lent_row other.now) }
@@ -75,7 +75,7 @@ fn compare_row(row: &RowBytes, other: &LentRow<'_>) -> Ordering
     }
 }
 
-// Compares the row that an id has among all documents to another row.
+// Compares the row of an id in the index of all documents to another row.
 fn compare_id(id: &str, other: &LentRow<'_>) -> Ordering
     ensures { result ≡ row_value_order (id_row id.now) (lent_row other.now) }
 {
@@ -85,7 +85,7 @@ fn compare_id(id: &str, other: &LentRow<'_>) -> Ordering
     }
 }
 
-// The key of an id among all documents.
+// Makes the key that an id has in the index of all documents. Errors: `NoMemory` if an allocation fails.
 fn id_key(alloc: Global, id: &str) -> Result<Vec<Json>, NoMemory>
     ensures { IfOk result (λ key. items_view key.items ≡ (id_row id.now).0) }
 {
@@ -94,7 +94,7 @@ fn id_key(alloc: Global, id: &str) -> Result<Vec<Json>, NoMemory>
     Ok(key)
 }
 
-// The row of an id among all documents.
+// Makes the row that an id has in the index of all documents. Errors: `NoMemory` if an allocation fails.
 fn id_row(alloc: Global, id: &str) -> Result<Row, NoMemory>
     ensures { IfOk result (λ row. row_view row ≡ id_row id.now) }
 {

@@ -1,4 +1,4 @@
-//! Searches of all shards, by scoped workers or on the caller's thread; and indexes built over shards.
+//! Searches all shards, by scoped workers or on the caller's thread, and builds indexes over shards.
 #![tactic(auto)]
 
 mod begin;

@@ -28,8 +28,10 @@ pub(crate) struct LongSkip<'a> {
     pub(crate) upcoming: usize,
 }
 
-// Passes over most of the first `skip` rows of a search. Returns the search that begins after them, and how many rows its page still
-// skips. A search of all documents is returned as it is, since the counts of documents include deleted ones.
+// Passes over most of the first `skip` rows of a search whose range decides what it finds. Returns the search that begins after them, and
+// how many of its rows the page still skips. Passes over nothing if `skip` is below 16 times the number of shards; if the target is all
+// documents, since counts of documents include deleted ones; or if the rows of all shards are too many for a `usize`. Errors: `NoMemory` if
+// an allocation fails.
 pub(crate) fn pass_over<'a>(
     alloc: Global,
     shards: &'a [Arc<Shard>],
@@ -47,12 +49,12 @@ pub(crate) fn pass_over<'a>(
     }
 }
 
-// The stride of the first round. If it is less than two, too few rows are skipped for counts to be worth their look-ups.
+// Returns the stride of the first round. If it is less than two, too few rows are skipped for counts to be worth their look-ups.
 fn first_stride(skip: usize, shards: usize) -> usize {
     skip / SHRINK / shards.max(1)
 }
 
-// What `pass_over` returns where the target is an index.
+// Does what `pass_over` does, for a long skip in an index.
 fn pass_rows<'a>(
     alloc: Global,
     shards: &'a [Arc<Shard>],
@@ -78,7 +80,7 @@ fn pass_rows<'a>(
     }
 }
 
-// Passes over most of the rows that the page skips, in rounds with ever smaller strides.
+// Passes over most of the rows that the page skips, in rounds with ever smaller strides. Errors: `NoMemory` if an allocation fails.
 fn pass_rounds<'a>(
     alloc: Global,
     shards: &'a [Arc<Shard>],
@@ -101,7 +103,8 @@ fn pass_rounds<'a>(
     Ok(passed)
 }
 
-// Passes over rows in one round. Reads some rows to choose the last one to pass over, and then counts how many rows it passes over.
+// Passes over rows in one round. Reads some rows to choose the last one to pass over, and then counts how many rows it passes over; it may
+// be none. Errors: `NoMemory` if an allocation fails.
 fn pass_round<'a>(
     alloc: Global,
     shards: &'a [Arc<Shard>],
@@ -139,8 +142,8 @@ fn count_all(shards: &[Arc<Shard>], search: Search<'_>) -> Option<usize>
     Some(all)
 }
 
-// Passes over the rows up to and including this one, if it is in the range and after the place where the search begins, and if the
-// page skips them all.
+// Passes over the rows up to this row, and over the row itself, if it is in the range and after the place where the search begins, and if
+// the page skips all these rows; otherwise passes over nothing.
 fn pass_to<'a>(shards: &[Arc<Shard>], passed: LongSkip<'a>, row: &'a RowBytes) -> LongSkip<'a>
     requires index { IsIndex passed.search.target }
     requires upcoming { passed.upcoming ≡ count_all_upcoming (shards_seen shards.now) passed.search }
@@ -183,7 +186,7 @@ fn pass_counted<'a>(shards: &[Arc<Shard>], passed: LongSkip<'a>, row: &'a RowByt
     }
 }
 
-// The search after a row, which takes `take` rows.
+// Returns the search that begins after a row, and takes `take` rows.
 fn search_after<'a>(search: Search<'a>, row: &'a RowBytes, take: usize) -> Search<'a>
     ensures { result ≡ beyond_row search.entry row.entry take }
 {
@@ -194,8 +197,9 @@ fn search_after<'a>(search: Search<'a>, row: &'a RowBytes, take: usize) -> Searc
     }
 }
 
-// A row near the last one that the page skips. In each shard a scout goes ahead by `stride` rows at a time. Of the rows that the scouts
-// reach, this is the last one, in the order of the search, that the page skips for certain, wherever the rows between them are.
+// Finds a row near the last one that the page skips. In each shard a scout goes ahead by `stride` rows at a time. Of the rows that the
+// scouts reach, this is the last one, in the order of the search, that the page skips for certain, wherever the rows between them are;
+// `None` if no scout reaches such a row. Errors: `NoMemory` if an allocation fails.
 fn row_near<'a>(
     alloc: Global,
     shards: &'a [Arc<Shard>],
@@ -222,7 +226,8 @@ fn row_near<'a>(
     Ok(last)
 }
 
-// The first scout of each shard; the scout whose row comes first is at the end of the list.
+// Makes the first scout of each shard; the scout whose row comes first is at the end of the list. A shard has no scout if it lacks the
+// index, or has fewer than `stride` rows to read before the range ends. Errors: `NoMemory` if an allocation fails.
 fn scouts_of<'a>(
     alloc: Global,
     shards: &'a [Arc<Shard>],

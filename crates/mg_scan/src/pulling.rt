@@ -22,12 +22,13 @@ use mg_value::NoMemory;
 use std::alloc::Global;
 use std::sync::Arc;
 
-/// The first `take` hits of a search in all shards together, in the order of its direction: rows of the target after `after`, whose key
-/// is in the range and whose document matches the selector. Also returns how many hits were pulled from the shards: at most `take`, and one
-/// more for each shard. All is done on the caller's thread.
+/// Returns the first `take` hits of a search in all shards together, in the search's direction: rows of the target after `after`, whose key
+/// is in the range and whose document matches the selector. A shard that lacks the index has no hits. Also returns how many hits were
+/// pulled from the shards: at most `take`, and one more for each shard. Runs on the caller's thread, and passes no gate.
 ///
-/// Errors: `NoMemory` if an allocation fails. Cost: in each shard one look-up of where to begin; then, until those hits are found, for
-/// each row of an index that is read a look-up of its document, and for each document the selector; the merge.
+/// Errors: `NoMemory` if an allocation fails. Cost: in each shard, finding the index and one look-up of where to begin; then, until those
+/// hits are found, for each row of an index that is read a look-up of its document, and for each document that is read the selector; the
+/// merge.
 pub fn pull_lent<'a>(
     alloc: Global,
     shards: &'a [Arc<Shard>],
@@ -44,14 +45,16 @@ pub fn pull_lent<'a>(
     Ok((hits, pulled))
 }
 
-/// The hits of `pull_lent` without the first `skip`. The range must decide: in each shard the key of a row decides whether the document
-/// matches the selector. Documents are looked up only for the hits that are returned, and the selector is not evaluated. Also returns how
-/// many rows were pulled from the shards: at most `take`, and one more for each shard. All is done on the caller's thread.
+/// Returns the hits of `pull_lent` without the first `skip`. Each shard must have the target, and the range must decide the whole selector:
+/// whether a document matches follows from the key of its row alone. Documents are looked up only for the hits that are returned, and the
+/// selector is not evaluated. Also returns how many rows were pulled from the shards: at most `take`, and one more for each shard; rows
+/// that are passed over are not among them. Runs on the caller's thread, and passes no gate.
 ///
-/// Errors: `NoMemory` if an allocation fails. Cost: in each shard one look-up of where to begin; then a step for each row that is
-/// read, until `take` are found, and the merge; a look-up of a document for each hit that is returned. The first `skip` rows of an
-/// index are passed over by their counts: with one shard all at once; with several all but a few in each shard, by some ten look-ups
-/// in each for each factor of 8 in `skip`. With several, all are read if `skip` is below 16 times the number of shards.
+/// Errors: `NoMemory` if an allocation fails. Cost: in each shard, finding the index and one look-up of where to begin; then a step for
+/// each row that is read, until `take` are found, and the merge; a look-up of a document for each hit that is returned. Of an index, the
+/// first `skip` rows are passed over by their counts: with one shard all at once; with several shards all but a few in each, in rounds of
+/// some ten look-ups in each shard, at most as many rounds as `skip` has digits to base 8. The rows that are skipped are read if the target
+/// is all documents, or if there are several shards and `skip` is below 16 times their number.
 pub fn pull_rows<'a>(
     alloc: Global,
     shards: &'a [Arc<Shard>],
@@ -73,7 +76,7 @@ pub fn pull_rows<'a>(
     }
 }
 
-// What `pull_rows` returns, for several shards: most of the rows of an index that are skipped are passed over by counts.
+// Does what `pull_rows` does, for any number of shards but one: passes by counts over most of the rows of an index that are skipped.
 fn pull_rows_of_several<'a>(
     alloc: Global,
     shards: &'a [Arc<Shard>],
@@ -89,12 +92,12 @@ fn pull_rows_of_several<'a>(
     ensures pulled { IfOk result (λ made. made.1 ≤ search.entry.take + length shards.now) }
 {
     let (rest, left) = pass_over(alloc, shards, search, skip)?;
-    let (hits, pulled) = pull_rows_of_all(alloc, shards, rest, left)?;
+    let (hits, pulled) = pull_then_skip(alloc, shards, rest, left)?;
     Ok((hits, pulled))
 }
 
-// What `pull_rows` returns, for any number of shards: all rows that are skipped are read.
-fn pull_rows_of_all<'a>(
+// Does what `pull_rows` does, for any number of shards: reads also the rows that are skipped.
+fn pull_then_skip<'a>(
     alloc: Global,
     shards: &'a [Arc<Shard>],
     search: Search<'_>,
@@ -114,7 +117,7 @@ fn pull_rows_of_all<'a>(
     Ok((hits, pulled))
 }
 
-// What `pull_rows` returns, for one shard: rows of an index are passed over at once.
+// Does what `pull_rows` does, for one shard: passes at once over the rows of an index that are skipped.
 fn pull_rows_of_one<'a>(
     alloc: Global,
     shards: &'a [Arc<Shard>],
@@ -140,7 +143,7 @@ fn pull_rows_of_one<'a>(
     Ok((hits, pulled))
 }
 
-// The hits of the search in each shard, as they are asked for.
+// Makes a source of hits for each shard. Errors: `NoMemory` if an allocation fails.
 fn sources_of<'a, 'b>(
     alloc: Global,
     shards: &'a [Arc<Shard>],
@@ -157,7 +160,7 @@ fn sources_of<'a, 'b>(
     Ok(sources)
 }
 
-// The rows in the search's range in each shard, as they are asked for.
+// Makes a source of leads for each shard. Errors: `NoMemory` if an allocation fails.
 fn lead_sources_of<'a, 'b>(
     alloc: Global,
     shards: &'a [Arc<Shard>],

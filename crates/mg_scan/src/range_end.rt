@@ -7,7 +7,8 @@ use crate::search::{Search, is_late_row};
 use mg_rows::RowBytes;
 use mg_shard::Rows;
 
-// If fewer than this many rows of a run come before its last row, the last row is not compared first: that would save too little.
+// The last row of a run is compared ahead of the others only if at least this many rows come before it: otherwise that would save too
+// little.
 const FEW: usize = 3;
 
 /// What is known of where a range ends among rows that are read in order.
@@ -20,7 +21,7 @@ pub(crate) struct RangeEnd {
 }
 
 impl RangeEnd {
-    // Nothing is known.
+    // Makes a `RangeEnd` for which nothing is known yet.
     pub(crate) fn unknown() -> RangeEnd
         ensures { result.sure ≡ 0 }
     {
@@ -30,8 +31,8 @@ impl RangeEnd {
         }
     }
 
-    // Whether the range ends before a row that was just read; `rows` are those after it. Cost: nothing is compared if the row is known to
-    // come before the end; else one comparison of bytes, and a second one at the beginning of a run.
+    // Whether the range ends before a row that was just read; `rows` are those after it, and `self` keeps what is learned about them. Cost:
+    // nothing is compared if the row is known to come before the end; otherwise one comparison of bytes, and at most one more for each run.
     #[inline(always)]
     pub(crate) fn comes_before(
         &mut self,
@@ -55,7 +56,7 @@ impl RangeEnd {
         false
     }
 
-    // Compares the end of the range with the last row of the run that is being read. If that row is not past it, no row of the run is,
+    // Compares the end of the range with the last row of the run that is being read. If that row is not past the end, no row of the run is,
     // since rows are in order.
     fn look_ahead(&mut self, search: Search<'_>, rows: &Rows<'_>)
         requires ordered { EndsOnce search rows.now }

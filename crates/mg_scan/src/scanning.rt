@@ -24,13 +24,15 @@ use std::sync::Arc;
 use std::sync::atomic::AtomicU64;
 use std::thread::Threads;
 
-/// Per shard, in the order of the shards, the first `take` hits in the search's direction: rows of the target after `after`, whose key is
-/// in the range and whose document matches the selector. They do not depend on the number of workers, nor on the gate. One worker, or one
-/// shard, starts no thread.
+/// Returns, per shard, in the order of the shards, the first `take` hits in the search's direction: rows of the target after `after`, whose
+/// key is in the range and whose document matches the selector. A shard that lacks the index has no hits. The hits do not depend on the
+/// number of workers, nor on the gate. The number of workers is that of `workers`, even if it is a maximum, but no more than there are
+/// shards. One worker starts no thread.
 ///
-/// The gate is passed before a shard's first row is read, and after its last row unless an allocation fails in that shard.
-/// Errors: `NoMemory` if an allocation fails. Cost: in each shard one look-up of where to begin, then for each row of an index that is
-/// read a look-up of its document, and for each document the selector; memory for the lists of hits, which lend the documents.
+/// The gate is passed before a shard's first row is read, and after the last row that is read unless an allocation fails in that shard.
+/// Errors: `NoMemory` if an allocation fails. Cost: a thread for each worker but one; in each shard, finding the index and one look-up of
+/// where to begin, then for each row of an index that is read a look-up of its document, and for each document that is read the selector;
+/// memory for the lists of hits, which lend the documents.
 pub fn scan_lent<'a, R: Threads + Sync, G: Gate + Sync>(
     rt: &R,
     alloc: Global,
@@ -56,7 +58,8 @@ pub fn scan_lent<'a, R: Threads + Sync, G: Gate + Sync>(
     Ok(lists)
 }
 
-/// The rows of the hits that `scan_lent` finds, copied; the search is given by its parts.
+/// Finds the hits that `scan_lent` finds, and returns copies of their rows. The search is given by its parts, and `workers`, 1 to 32, is
+/// exact.
 ///
 /// Errors: `NoMemory` if an allocation fails. Cost: as for `scan_lent`, and the size of the range, of `after` and of the rows.
 pub fn scan<R: Threads + Sync, G: Gate + Sync>(
@@ -93,7 +96,7 @@ pub fn scan<R: Threads + Sync, G: Gate + Sync>(
     Ok(lists)
 }
 
-// Copies of the rows of hits, list by list.
+// Copies the rows of hits, list by list. Errors: `NoMemory` if an allocation fails.
 fn copy_row_lists(alloc: Global, found: &[Vec<Hit<'_>>]) -> Result<Vec<Vec<Row>>, NoMemory>
     ensures { IfOk result (λ lists. map (λ rows. rows_view rows.items) lists.items
         ≡ map (λ hits. hit_rows hits.items) found.now) }
@@ -106,7 +109,7 @@ fn copy_row_lists(alloc: Global, found: &[Vec<Hit<'_>>]) -> Result<Vec<Vec<Row>>
     Ok(lists)
 }
 
-// Copies of the rows of hits.
+// Copies the rows of hits. Errors: `NoMemory` if an allocation fails.
 fn copy_rows(alloc: Global, hits: &[Hit<'_>]) -> Result<Vec<Row>, NoMemory>
     ensures { IfOk result (λ rows. rows_view rows.items ≡ hit_rows hits.now) }
 {

@@ -14,7 +14,7 @@ pub(crate) struct Scout<'a> {
     pub(crate) rows: Rows<'a>,
 }
 
-// The scout at the row that is `stride` rows further; `None` if fewer rows are left, or the search's range ends before that row.
+// Makes the scout at the `stride`-th of these rows; `None` if there are fewer, or the search's range ends before that row.
 pub(crate) fn scout_of<'a>(
     mut rows: Rows<'a>,
     search: Search<'_>,
@@ -30,7 +30,8 @@ pub(crate) fn scout_of<'a>(
     Some(Scout { row, rows })
 }
 
-// Puts a scout into a list of scouts, which is in the reverse order of their rows: the one whose row comes first is at the end.
+// Inserts a scout into a list of scouts, which is in the reverse order of their rows: the scout whose row comes first is at the end.
+// Errors: `NoMemory` if an allocation fails.
 pub(crate) fn insert_scout<'a>(
     scouts: &mut Vec<Scout<'a>>,
     scout: Scout<'a>,
@@ -41,7 +42,7 @@ pub(crate) fn insert_scout<'a>(
     Ok(())
 }
 
-// Where a scout at this row belongs in the list, by binary search.
+// Finds, by binary search, where a scout at this row belongs in the list.
 fn place_of(scouts: &[Scout<'_>], row: &RowBytes, direction: Direction) -> usize
     ensures { result ≤ length scouts.now }
 {

@@ -18,7 +18,8 @@ use mg_value::NoMemory;
 use std::alloc::Global;
 use std::cmp::Ordering;
 
-/// What is searched in each shard. The range and the row after which the search begins are bytes, which are made once per query.
+/// What is searched in each shard. The range and the row after which the search begins are compared as bytes, which are made once per
+/// query.
 #[derive(Clone, Copy)]
 pub struct Search<'a> {
     /// What is read.
@@ -29,13 +30,13 @@ pub struct Search<'a> {
     pub range: &'a RowRange<'a>,
     /// The row after which the search begins, if one is named.
     pub after: Option<&'a RowBytes>,
-    /// How many hits the search finds at most.
+    /// How many hits are found at most: in each shard by `scan_lent`, in all shards together by `pull_lent` and `pull_rows`.
     pub take: usize,
     /// The direction in which rows are listed.
     pub direction: Direction,
 }
 
-// The row after which a search begins, if there is one, as bytes.
+// Makes the bytes of the row after which a search begins; `None` without such a row. Errors: `NoMemory` if an allocation fails.
 pub(crate) fn bytes_of(alloc: Global, after: Option<&Row>) -> Result<Option<RowBytes>, NoMemory>
     ensures { IfOk result (λ bytes. bytes ≡ option_map (λ r. row_view r.now) after.entry) }
 {
@@ -78,9 +79,9 @@ fn is_beyond(direction: Direction, order: Option<Ordering>) -> bool
     }
 }
 
-// Compares the place where a search begins to an item, which is at or after that place if `is_reached`.
+// Compares the place where a search begins to an item; `is_reached` says whether the item is at or after that place.
 #[inline(always)]
-fn begin(direction: Direction, is_reached: bool) -> Ordering
+fn order_of_begin(direction: Direction, is_reached: bool) -> Ordering
     ensures { result ≡ directed direction (if is_reached then Less else Greater) }
 {
     if is_reached {
@@ -90,7 +91,7 @@ fn begin(direction: Direction, is_reached: bool) -> Ordering
     }
 }
 
-// Compares a row to another, if there is one.
+// Compares a row to `after`; `None` without `after`.
 #[inline(always)]
 fn row_order(row: &RowBytes, after: Option<&RowBytes>) -> Option<Ordering>
     ensures { result ≡ option_map (row_value_order row.now) (option_map (λ r. r.now) after.entry) }
@@ -101,7 +102,7 @@ fn row_order(row: &RowBytes, after: Option<&RowBytes>) -> Option<Ordering>
     }
 }
 
-// Compares the row of an id among all documents to another, if there is one.
+// Compares the row of an id in the index of all documents to `after`; `None` without `after`.
 fn id_order(id: &str, after: Option<&RowBytes>) -> Option<Ordering>
     ensures { result ≡ option_map (row_value_order (id_row id.now)) (option_map (λ r. r.now) after.entry) }
 {
@@ -126,19 +127,20 @@ pub(crate) fn is_reached(search: Search<'_>, row: &RowBytes) -> bool
 pub(crate) fn begin_at_row(search: Search<'_>, row: &RowBytes) -> Ordering
     ensures { result ≡ begin_at search.entry row.now }
 {
-    begin(search.direction, is_reached(search, row))
+    order_of_begin(search.direction, is_reached(search, row))
 }
 
-// Compares the place where the search begins to the row of an id among all documents.
+// Compares the place where the search begins to the row of an id in the index of all documents.
 pub(crate) fn begin_at_id(search: Search<'_>, id: &str) -> Ordering
     ensures { result ≡ begin_at search.entry (id_row id.now) }
 {
     let is_early = is_early(search.direction, search.range.key_range().side_at_text(id));
     let is_reached = !is_early && is_beyond(search.direction, id_order(id, search.after));
-    begin(search.direction, is_reached)
+    order_of_begin(search.direction, is_reached)
 }
 
-// Whether a search ends before a row. Cost: one comparison of bytes.
+// Whether a row comes after the search's range in the search's direction: if it does, the search ends before the row. Cost: one comparison
+// of bytes.
 #[inline(always)]
 pub(crate) fn is_late_row(search: Search<'_>, row: &RowBytes) -> bool
     ensures { result ≡ is_late_row search.entry.direction search.entry.range.now row.now }
@@ -146,7 +148,7 @@ pub(crate) fn is_late_row(search: Search<'_>, row: &RowBytes) -> bool
     search.range.is_late(search.direction, row)
 }
 
-// Whether a search ends before the row of an id among all documents.
+// Whether the row of an id in the index of all documents comes after the search's range in the search's direction.
 pub(crate) fn is_late_id(search: Search<'_>, id: &str) -> bool
     ensures { result ≡ is_late_row search.entry.direction search.entry.range.now (id_row id.now) }
 {

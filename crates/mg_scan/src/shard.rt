@@ -29,7 +29,7 @@ use std::alloc::Global;
 // A list of hits first gets room for at most this many.
 const FIRST_ROOM: usize = 64;
 
-// The hit of a document at a row, if it is served and the selector holds of it.
+// Makes the hit of a row with this document; `None` if the document is not served, or the selector does not hold of it.
 pub(crate) fn hit_of<'a>(
     row: LentRow<'a>,
     document: &'a Document,
@@ -53,7 +53,8 @@ pub(crate) fn hit_of<'a>(
     })
 }
 
-// The hit of a row, if the selector holds of its document.
+// Makes the hit of a row of an index, as `hit_of` does; `None` also if the shard does not have the row's document. Cost: a look-up of the
+// row's document, and the selector.
 pub(crate) fn hit_at<'a>(shard: &'a Shard, row: &'a RowBytes, normal: &Normal) -> Option<Hit<'a>>
     ensures row { option_map hit_row result
         ≡ if holds_at normal.now shard.now.documents row.now.1 then Some row.now else None }
@@ -71,7 +72,7 @@ fn is_over_at_row(search: Search<'_>, found: usize, row: &RowBytes) -> bool
     found >= search.take || is_late_row(search, row)
 }
 
-// Whether a search that has found this many hits ends before the row of an id among all documents.
+// Whether a search that has found this many hits ends before the row of an id in the index of all documents.
 fn is_over_at_id(search: Search<'_>, found: usize, id: &str) -> bool
     ensures { result ≡ (nat_le search.entry.take found
         || is_late_row search.entry.direction search.entry.range.now (id_row id.now)) }
@@ -79,7 +80,7 @@ fn is_over_at_id(search: Search<'_>, found: usize, id: &str) -> bool
     found >= search.take || is_late_id(search, id)
 }
 
-// Appends a hit to the others, if there is one.
+// Appends the hit, if there is one.
 pub(crate) fn push_if<'a>(hits: &mut Vec<Hit<'a>>, hit: Option<Hit<'a>>) -> Result<(), NoMemory>
     ensures { OnOk result (hits.new.items ≡ hits.old.items ++ list_of_option hit.entry) }
 {
@@ -89,7 +90,8 @@ pub(crate) fn push_if<'a>(hits: &mut Vec<Hit<'a>>, hit: Option<Hit<'a>>) -> Resu
     Ok(())
 }
 
-// The hits among these rows of an index, which begin where the search begins.
+// Finds the first hits, at most `take`, among these rows of an index, which begin where the search begins. Errors: `NoMemory` if an
+// allocation fails.
 fn hits_of_rows<'a>(
     alloc: Global,
     shard: &'a Shard,
@@ -110,7 +112,8 @@ fn hits_of_rows<'a>(
     Ok(hits)
 }
 
-// The hits among these documents, which begin where the search begins.
+// Finds the first hits, at most `take`, among these documents, which begin where the search begins. Errors: `NoMemory` if an allocation
+// fails.
 fn hits_of_documents<'a>(
     alloc: Global,
     shard: &'a Shard,
@@ -139,8 +142,8 @@ fn hits_of_documents<'a>(
     Ok(hits)
 }
 
-// What the search of all documents finds in a shard.
-fn hits_of_all<'a>(
+// Finds the hits of a search of all documents in a shard. Errors: `NoMemory` if an allocation fails.
+fn hits_of_all_docs<'a>(
     alloc: Global,
     shard: &'a Shard,
     search: Search<'_>,
@@ -155,7 +158,7 @@ fn hits_of_all<'a>(
     Ok(hits_of_documents(alloc, shard, documents, search)?)
 }
 
-// What the search of an index finds in a shard; nothing if the shard has no such index.
+// Finds the hits of a search of an index in a shard; no hits if the shard has no such index. Errors: `NoMemory` if an allocation fails.
 fn hits_of_index<'a>(
     alloc: Global,
     shard: &'a Shard,
@@ -175,10 +178,10 @@ fn hits_of_index<'a>(
     }
 }
 
-/// What the search finds in a shard.
+/// Finds the hits of a search in a shard, at most `take`; no hits if its target is an index that the shard does not have.
 ///
-/// Errors: `NoMemory` if an allocation fails. Cost: one look-up of where to begin, then for each row of an index a look-up of its
-/// document, and for each document the selector.
+/// Errors: `NoMemory` if an allocation fails. Cost: finding the index, one look-up of where to begin, then for each row of an index that is
+/// read a look-up of its document, and for each document that is read the selector.
 pub(crate) fn hits_in<'a>(
     alloc: Global,
     shard: &'a Shard,
@@ -187,7 +190,7 @@ pub(crate) fn hits_in<'a>(
     ensures { IfOk result (λ v. AreHitsFound search.entry shard.now v.items) }
 {
     match search.target {
-        Target::AllDocs => Ok(hits_of_all(alloc, shard, search)?),
+        Target::AllDocs => Ok(hits_of_all_docs(alloc, shard, search)?),
         Target::Index { ddoc, name } => Ok(hits_of_index(alloc, shard, ddoc, name, search)?),
     }
 }

@@ -1,4 +1,4 @@
-//! Hits of a shard that are found as they are asked for.
+//! Hits of a shard, found as they are asked for.
 ghost use Rattle.std.specs.Prelude.{◌≡◌, ◌∷◌, [], IfNone, IfSome};
 ghost use Rattle.mg_shard.specs.Documents.{KeptDocuments};
 ghost use Rattle.mg_scan.specs.Hit.{IsHitOf, hit_row};
@@ -35,7 +35,7 @@ impl<'a, 'b> RowSource<Hit<'a>> for HitSource<'a, 'b> {
     }
 }
 
-// Reads rows of an index up to the next hit, and returns the hit.
+// Reads rows of an index up to the next hit, and returns the hit; `None` if the range or the index ends first.
 fn next_of_rows<'a>(shard: &'a Shard, rows: &mut Rows<'a>, search: Search<'_>) -> Option<Hit<'a>>
     ensures hit { IfSome result (λ h. walked_all_by search.entry shard.now.documents rows.old
         ≡ hit_row h ∷ walked_all_by search.entry shard.now.documents rows.new) }
@@ -54,7 +54,7 @@ fn next_of_rows<'a>(shard: &'a Shard, rows: &mut Rows<'a>, search: Search<'_>) -
     None
 }
 
-// Reads documents up to the next hit, and returns the hit.
+// Reads documents up to the next hit, and returns the hit; `None` if the range or the list of documents ends first.
 fn next_of_documents<'a>(documents: &mut Documents<'a>, search: Search<'_>) -> Option<Hit<'a>>
     ensures hit { IfSome result (λ h. walked_documents search.entry documents.old
         ≡ hit_row h ∷ walked_documents search.entry documents.new) }
@@ -77,7 +77,7 @@ fn next_of_documents<'a>(documents: &mut Documents<'a>, search: Search<'_>) -> O
     None
 }
 
-// The hits of a search in a shard, as they are asked for. Cost: one look-up of where to begin.
+// Returns a source of the hits of a search in a shard. Cost: finding the index, and one look-up of where to begin.
 pub(crate) fn source_of<'a, 'b>(shard: &'a Shard, search: Search<'b>) -> HitSource<'a, 'b>
     ensures { IsSourceOf search.entry shard.now result }
 {

@@ -1,7 +1,7 @@
 /// What a search reads in each shard.
 #[derive(Clone, Copy, Debug)]
 pub enum Target<'a> {
-    /// All documents, each with its id as its key.
+    /// All documents that are served, each with its id as its key.
     AllDocs,
     /// The index of this design document and name.
     Index { ddoc: &'a str, name: &'a str },

@@ -10,10 +10,11 @@ use std::thread;
 use std::thread::Threads;
 
 /// Calls `f(0)` to `f(n - 1)`, and returns the results in order. The caller's thread starts a thread for each call but the last. It makes
-/// the last call itself, and each call for which no thread can be started. Errors: `AllocError` if the room for the results is refused.
+/// the last call itself, and each call for which no thread can be started. Errors: `AllocError` if memory for the results is refused; then
+/// some calls may not have been made.
 ///
-/// `thread::map_indices` returns the same, but its threads start one another. Then Linux often puts two of them on one processor while
-/// another is idle (docs/DECISIONS.md, "Scans and builds").
+/// `thread::map_indices` returns the same results, but its threads start one another. Then Linux often puts two of them on one processor
+/// while another is idle (docs/DECISIONS.md, "Scans and builds").
 pub(crate) fn map_from_one_thread<R: Threads + Sync, X: Send + Drop, F: Fn(usize) -> X + Sync>(
     rt: &R,
     alloc: Global,
@@ -30,7 +31,7 @@ pub(crate) fn map_from_one_thread<R: Threads + Sync, X: Send + Drop, F: Fn(usize
     calls_from(rt, alloc, 0, n, f)
 }
 
-// The results of `count` calls, the first of them `f(from)`. A thread is started for each but the last.
+// Makes the `count` calls from `f(from)` on, and returns their results in order. A thread is started for each call but the last.
 #[cycle(calls)]
 fn calls_from<R: Threads + Sync, X: Send + Drop, F: Fn(usize) -> X + Sync>(
     rt: &R,
@@ -67,7 +68,7 @@ fn calls_from<R: Threads + Sync, X: Send + Drop, F: Fn(usize) -> X + Sync>(
     Ok(all)
 }
 
-// The result of one call, as a list.
+// Makes one call, and returns its result in a list. Errors: `AllocError` if memory for the list is refused; then the call is not made.
 fn one_call<X: Drop, F: Fn(usize) -> X>(
     alloc: Global,
     at: usize,

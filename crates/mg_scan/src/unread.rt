@@ -1,4 +1,4 @@
-//! What a search has still to read in a shard.
+//! What a search has still to read in a shard: from where it begins, and after rows that were passed over.
 ghost use Rattle.std.specs.Prelude.{◌≤◌, option_map};
 ghost use Rattle.mg_index.specs.Catalog.{definition_at};
 ghost use Rattle.mg_scan.specs.Begun.{AreBegun, IsBegun, IsBegunIn, IsUnreadAfter};
@@ -13,13 +13,14 @@ use mg_shard::{Documents, Rows, Shard};
 pub(crate) enum Unread<'a> {
     /// Rows of an index.
     Rows(Rows<'a>),
-    /// Documents, by their ids.
+    /// Documents, deleted ones too, in the order of their ids in the search's direction.
     Documents(Documents<'a>),
-    /// Nothing more, or there is no such index.
+    /// Nothing: the shard has no such index.
     Nothing,
 }
 
-// All that a search has to read in a shard. Cost: one look-up of where to begin.
+// Finds what a shard has from where the search begins; the range of the search may end earlier. Cost: finding the index, and one look-up of
+// where to begin.
 #[inline(always)]
 pub(crate) fn unread_of<'a>(shard: &'a Shard, search: Search<'_>) -> Unread<'a>
     ensures { IsBegun search.entry shard.now result }
@@ -30,7 +31,7 @@ pub(crate) fn unread_of<'a>(shard: &'a Shard, search: Search<'_>) -> Unread<'a>
     }
 }
 
-// All documents from where the search begins.
+// Finds all documents, deleted ones too, from where the search begins.
 fn documents_of<'a>(shard: &'a Shard, search: Search<'_>) -> Documents<'a>
     ensures { AreBegun search.entry shard.now.documents result }
 {
@@ -38,7 +39,7 @@ fn documents_of<'a>(shard: &'a Shard, search: Search<'_>) -> Documents<'a>
     shard.documents_beyond(&Begin { search }, search.direction)
 }
 
-// The rows of an index from where the search begins; nothing if the shard has no such index.
+// Finds the rows of an index from where the search begins; nothing if the shard has no such index.
 #[inline(always)]
 fn unread_in_index<'a>(shard: &'a Shard, ddoc: &str, name: &str, search: Search<'_>) -> Unread<'a>
     ensures { IsBegunIn (option_map (λ d. d.columns) (definition_at ddoc.now name.now shard.now.definitions))
@@ -50,8 +51,8 @@ fn unread_in_index<'a>(shard: &'a Shard, ddoc: &str, name: &str, search: Search<
     }
 }
 
-// Passes over the first `count` rows of an index. Returns what is left, and how many rows were passed over. Documents are not passed
-// over (0), since some of them may be deleted.
+// Passes over the first `count` rows of an index, or over all if there are fewer. Returns what is left, and `count`; for all documents
+// and for a missing index it passes over nothing and returns 0: a count of documents would include deleted ones.
 pub(crate) fn unread_after<'a>(unread: Unread<'a>, count: usize) -> (Unread<'a>, usize)
     ensures after { IsUnreadAfter result.1 unread.entry result.0 }
     ensures within { result.1 ≤ count }

@@ -26,7 +26,7 @@ impl Model for Workers {
 }
 
 impl Workers {
-    /// At most `count` workers: one if the work is small.
+    /// Allows at most `count` workers, 1 to 32: the caller's thread does small work alone.
     pub fn most(count: usize) -> Self
         requires { (0 < count) × (count ≤ 32) }
         ensures { result ≡ (count, true) }
@@ -37,7 +37,7 @@ impl Workers {
         }
     }
 
-    /// Exactly `count` workers.
+    /// Asks for exactly `count` workers, 1 to 32.
     pub fn exactly(count: usize) -> Self
         requires { (0 < count) × (count ≤ 32) }
         ensures { result ≡ (count, false) }
@@ -48,7 +48,7 @@ impl Workers {
         }
     }
 
-    /// How many there are at most.
+    /// Returns the number of workers, exact or a maximum.
     pub fn count(self) -> usize
         ensures count { result ≡ self.0 }
         ensures range { (0 < result) × (result ≤ 32) }

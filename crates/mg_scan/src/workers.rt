@@ -14,14 +14,15 @@ use std::alloc::Global;
 use std::sync::Arc;
 use std::sync::atomic::{AtomicU64, Ordering};
 
-/// The hits of one shard.
+/// The hits of one shard, and the number of the shard, counted from 0.
 #[derive(Drop)]
 pub(crate) struct ShardHits<'a> {
     pub(crate) shard: usize,
     pub(crate) hits: Vec<Hit<'a>>,
 }
 
-// Searches the i-th shard. Passes the gate before it, and after it if memory suffices.
+// Searches the i-th shard. Passes the gate before the search, and again after it unless an allocation fails. Errors: `NoMemory` if an
+// allocation fails.
 fn search_shard<'a, G: Gate>(
     alloc: Global,
     shards: &'a [Arc<Shard>],
@@ -39,7 +40,9 @@ fn search_shard<'a, G: Gate>(
     Ok(hits)
 }
 
-/// Claims shards and searches them, until no shard is left. Returns the hits of each shard that it claimed.
+/// Claims shards and searches them, until no shard is left. Returns the hits of each shard that it claimed. All workers share `next`, the
+/// number of the next shard to claim. Errors: `NoMemory` if an allocation fails; then it claims no further shard, and drops the hits that
+/// it found.
 pub(crate) fn search_claimed<'a, G: Gate>(
     alloc: Global,
     shards: &'a [Arc<Shard>],
@@ -62,7 +65,8 @@ pub(crate) fn search_claimed<'a, G: Gate>(
     Ok(all)
 }
 
-// Puts each list of hits into the slot of its shard. If a slot is filled twice, both lists have the same rows.
+// Puts each list of hits into the slot of its shard; drops a list whose shard has no slot. If a slot is filled twice, both lists have the
+// same rows, since both are what the search finds in that shard.
 fn put_in_slots<'a>(slots: &mut Vec<Option<Vec<Hit<'a>>>>, given: Vec<ShardHits<'a>>)
     ensures slots { (search : Search) (shards : List ShardView) → AllShardHits search shards given.entry.items
         → AllSlots search shards slots.old.items → AllSlots search shards slots.new.items }
@@ -76,7 +80,7 @@ fn put_in_slots<'a>(slots: &mut Vec<Option<Vec<Hit<'a>>>>, given: Vec<ShardHits<
     }
 }
 
-// Empty slots for this many shards.
+// Makes an empty slot for each of `count` shards. Errors: `NoMemory` if an allocation fails.
 fn empty_slots<'a>(alloc: Global, count: usize) -> Result<Vec<Option<Vec<Hit<'a>>>>, NoMemory>
     ensures slots { IfOk result
         (λ v. (search : Search) (shards : List ShardView) → AllSlots search shards v.items) }
@@ -89,7 +93,7 @@ fn empty_slots<'a>(alloc: Global, count: usize) -> Result<Vec<Option<Vec<Hit<'a>
     Ok(slots)
 }
 
-/// Puts the hits that the workers found into slots, one for each shard. Errors: `NoMemory` if it, or a worker, was refused memory.
+/// Puts the hits that the workers found into slots, one for each shard. Errors: `NoMemory` if an allocation fails, or failed in a worker.
 pub(crate) fn fill_slots<'a>(
     alloc: Global,
     given: Vec<Result<Vec<ShardHits<'a>>, NoMemory>>,
@@ -120,7 +124,7 @@ fn take_slot<'a>(slots: &mut Vec<Option<Vec<Hit<'a>>>>, i: usize) -> Option<Vec<
     slots[i].take()
 }
 
-// The hits of a slot; if it was empty, those of a search of the shard on this thread.
+// Returns the hits taken from a slot; if the slot was empty, searches the shard on this thread. Errors: `NoMemory` if an allocation fails.
 fn hits_or_search<'a, G: Gate>(
     alloc: Global,
     found: Option<Vec<Hit<'a>>>,
@@ -139,7 +143,8 @@ fn hits_or_search<'a, G: Gate>(
     }
 }
 
-/// The hits of all shards, in the order of the shards. Searches each shard whose slot is empty.
+/// Returns the hits of all shards, in the order of the shards. Searches on this thread each shard whose slot is empty. Errors: `NoMemory`
+/// if an allocation fails.
 pub(crate) fn hits_in_order<'a, G: Gate>(
     alloc: Global,
     slots: Vec<Option<Vec<Hit<'a>>>>,

@@ -3,7 +3,8 @@ use Rattle.std.proofs.Common.{◌≡◌, List, [], ◌∷◌, ◌++◌, length, 
 use Rattle.mg_value.specs.Value.{object}
 use Rattle.mg_value.specs.View.{members_view}
 use Rattle.mg_value.proofs.Views.{Entry}
-use Rattle.mg_selector.specs.Fault.{◌>>=◌, fmap}
+use Rattle.mg_value.specs.Results.{◌>>=◌}
+use Rattle.mg_selector.specs.Fault.{fmap}
 use Rattle.mg_selector.specs.Reading.{argument}
 use Rattle.mg_selector.specs.Selector.{Selector, Arms, no_arms, arm}
 use Rattle.mg_selector.specs.View.{selector_of, arms_view}

@@ -9,7 +9,7 @@ use Rattle.mg_value.proofs.Items.{items_past, past_item, past_all}
 use Rattle.mg_collate.specs.Order.{value_order}
 use Rattle.mg_collate.proofs.Ties.{value_order_total}
 use Rattle.mg_selector.specs.Argument.{modulo_of}
-use Rattle.mg_selector.specs.Entry.{some_item, every_item, every_of_some, is_empty, are_equal, equals_only}
+use Rattle.mg_selector.specs.Predicate.{some_item, every_item, every_of_some, is_empty, are_equal, equals_only}
 use Rattle.mg_selector.specs.declared.error.SelError.TheVariants.{BadArg}
 
 -- the n-th item, and then those after it
@@ -34,16 +34,16 @@ and_true : (b : Bool) → (b && true) ≡ b
 and_true true = refl
 and_true false = refl
 
--- some items, by their count
+-- there are items exactly if their count is above 0
 pub has_some : (vs : Items) → nat_lt 0 (length (item_list vs)) ≡ not (is_empty vs)
 has_some no_items = refl
 has_some (item v vs) = grind arith
 
--- one of them does not have p
+-- some item does not have p
 pub some_has_not : (p : Value → Bool) (vs : Items) → every_item p vs ≡ false → false ≡ every_of_some p vs
 some_has_not p vs h = rw h (sym (and_false (not (is_empty vs))))
 
--- each of some items has p
+-- if each item has p, `every_of_some` says whether there are items
 pub each_of_some : (p : Value → Bool) (vs : Items) → every_item p vs ≡ true → nat_lt 0 (length (item_list vs)) ≡ every_of_some p vs
 each_of_some p vs h = rw h (has_some vs ∙ sym (and_true (not (is_empty vs))))
 
@@ -52,23 +52,23 @@ is_eq_turned Less = refl
 is_eq_turned Equal = refl
 is_eq_turned Greater = refl
 
--- equality holds in both directions
+-- equality is symmetric
 pub are_equal-turned : (v w : Value) → are_equal v w ≡ are_equal w v
 are_equal-turned v w = ap is_eq (value_order_total.antisymm v w) ∙ is_eq_turned (value_order w v)
 
--- the only argument
+-- one argument: a value equals the only argument exactly if it equals that one
 pub equals_only-one : (js : List Json) (j : Json) (v : Value) → length js ≡ 1 → j ≡ get_or js 0 j → are_equal v (view j) ≡ equals_only (items_view js) v
 equals_only-one [] j v h is = absurd (omega arith)
 equals_only-one (k ∷ []) j v h is = ap (λ x. are_equal v (view x)) is
 equals_only-one (k ∷ i ∷ js) j v h is = absurd (omega arith)
 
--- no argument, or more than one, is not the only argument
+-- no argument, or more than one: no value equals the only argument
 pub equals_only-other : (js : List Json) (v : Value) → length js ≢ 1 → false ≡ equals_only (items_view js) v
 equals_only-other [] v other = refl
 equals_only-other (j ∷ []) v other = absurd (other refl)
 equals_only-other (j ∷ k ∷ js) v other = refl
 
--- the argument of `$mod` has two items
+-- an argument of `$mod` that does not have two items is refused
 pub modulo_of-other : (js : List Json) → length js ≢ 2 → modulo_of (list (items_view js)) ≡ Err BadArg
 modulo_of-other [] other = refl
 modulo_of-other (j ∷ []) other = refl

@@ -12,7 +12,7 @@ use Rattle.mg_selector.specs.declared.json_type.JsonType.TheVariants as json_typ
 use Rattle.mg_selector.specs.declared.name_kind.ValueOperator.{ValueOperator}
 use Rattle.mg_selector.specs.declared.name_kind.ValueOperator.TheVariants as value_operator
 
--- the type of this name
+-- the type that has this name in `$type`; `None` for any other name
 abbrev pub type_named : List ℕ → Option JsonType
 type_named k =
     if bytes_eq k (codes "null") then Some json_type.Null
@@ -38,7 +38,7 @@ abbrev pub size_of : Value → Result Operator SelError
 size_of (whole (pos n)) = Ok (size n)
 size_of v = Err BadArg
 
--- `$mod` with this divisor and this remainder: whole numbers, the first not 0
+-- `$mod` with this divisor and this remainder, which have to be whole numbers; the divisor must not be 0
 abbrev pub modulo_by : Value → Value → Result Operator SelError
 modulo_by (whole d) (whole r) = if unsigned_abs d == 0 then Err BadArg else Ok (modulo d r)
 modulo_by d r = Err BadArg
@@ -53,7 +53,7 @@ abbrev pub array_of : Value → Result Items SelError
 array_of (list vs) = Ok vs
 array_of v = Err BadArg
 
--- the operator with the value as its argument, or the fault of the value; a comparison takes any value
+-- the operator with the value as its argument, or a fault if the operator does not take the value; a comparison takes any value
 abbrev pub operator_with : ValueOperator → Value → Result Operator SelError
 operator_with value_operator.Lt v = Ok (less v)
 operator_with value_operator.Lte v = Ok (at_most v)

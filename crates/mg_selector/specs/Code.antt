@@ -8,7 +8,8 @@ use Rattle.mg_selector.specs.Selector.{Selector, members, every, some, none, opp
 use Rattle.mg_selector.specs.contracts.json_type.JsonType as json_type
 use Rattle.mg_selector.specs.declared.json_type.JsonType.{JsonType}
 
--- an instruction: push an operator (by number) with its argument, push a `$type`, wrap in a path, or another instruction (by number)
+-- an instruction: push an operator (by number) with its argument, push a `$type` with its type, put the selector on top at a path,
+-- or one of the other instructions (by number)
 abbrev pub Instruction : Type 0
 Instruction = ((ℕ × Value) ⊎ JsonType) ⊎ (List (List ℕ) ⊎ ℕ)
 
@@ -18,26 +19,32 @@ Stacks = List Selector × List Arms
 
 -- ---- operators with an argument
 
+-- the flag that the value is; false for any other value
 abbrev flag_in : Value → Bool
 flag_in (flag b) = b
 flag_in v = false
 
+-- the number that the value is; 0 for any other value
 abbrev number_in : Value → ℤ
 number_in (whole z) = z
 number_in v = pos 0
 
+-- the number, or 0 if it is negative
 abbrev size_in : ℤ → ℕ
 size_in (pos n) = n
 size_in z = 0
 
+-- the items of the value; no items if it is not an array
 abbrev items_in : Value → Items
 items_in (list vs) = vs
 items_in v = no_items
 
+-- the first item; null without items
 abbrev first_in : Items → Value
 first_in no_items = null
 first_in (item v vs) = v
 
+-- the items after the first
 abbrev behind_first : Items → Items
 behind_first no_items = no_items
 behind_first (item v vs) = vs
@@ -50,14 +57,14 @@ operator_by n v =
     (cond (n == 8) (not_among (items_in v)) (cond (n == 9) (size (size_in (number_in v))) (cond (n == 10) (containing (items_in v))
     (modulo (number_in (first_in (items_in v))) (number_in (first_in (behind_first (items_in v)))))))))))))))
 
--- ---- the machine
+-- ---- the machine; an instruction that needs more than the stacks hold changes nothing
 
--- replaces the selector on top by one that is made of it
+-- replaces the selector on top by f of it
 abbrev on_top : (Selector → Selector) → List Selector → List Selector
 on_top f [] = []
 on_top f (x ∷ xs) = f x ∷ xs
 
--- pops arms, and pushes one selector made of them
+-- pops arms, and pushes f of them as one selector
 abbrev close : (Arms → Selector) → List Selector → List Arms → Stacks
 close f a [] = (a, [])
 close f a (ss ∷ b) = (f ss ∷ a, b)
@@ -83,6 +90,7 @@ abbrev run_all : List Instruction → Stacks → Stacks
 run_all [] s = s
 run_all (x ∷ xs) s = run_all xs (run x s)
 
+-- the one instruction that pushes the operator of this number and argument
 abbrev numbered : ℕ → Value → List Instruction
 numbered n v = inl (inl (n, v)) ∷ []
 
@@ -97,10 +105,12 @@ abbrev mutual
   selector_instructions (at path x) = selector_instructions x ++ inr (inl path) ∷ []
   selector_instructions (asks o) = operator_instructions o
 
+  -- the instructions that push arms
   arms_instructions : Arms → List Instruction
   arms_instructions no_arms = inr (inr 5) ∷ []
   arms_instructions (arm x ss) = selector_instructions x ++ (arms_instructions ss ++ inr (inr 6) ∷ [])
 
+  -- the instructions that push an operator, as a selector
   operator_instructions : Operator → List Instruction
   operator_instructions (less v) = numbered 0 v
   operator_instructions (at_most v) = numbered 1 v
@@ -118,7 +128,7 @@ abbrev mutual
   operator_instructions (some_element x) = selector_instructions x ++ inr (inr 7) ∷ []
   operator_instructions (each_element x) = selector_instructions x ++ inr (inr 8) ∷ []
 
--- the operator on top
+-- the operator on top; `$exists` of false if there is no operator on top
 abbrev top : List Selector → Operator
 top (asks o ∷ xs) = o
 top xs = exists false
@@ -127,7 +137,7 @@ top xs = exists false
 abbrev operator_from : List Instruction → Operator
 operator_from xs = top (run_all xs ([], [])).0
 
--- one more instruction goes on from where those before it end
+-- if running the instructions and then `last ∷ xs` from s is running `last ∷ xs` from t, this is so also with `last` appended to them
 then_one : (instructions : List Instruction) (last : Instruction) (xs : List Instruction) (s t : Stacks) → run_all (instructions ++ last ∷ xs) s ≡ run_all (last ∷ xs) t → run_all ((instructions ++ last ∷ []) ++ xs) s ≡ run_all (last ∷ xs) t
 then_one instructions last xs s t e = ap (λ ys. run_all ys s) (append_assoc instructions (last ∷ []) xs) ∙ e
 
@@ -165,11 +175,11 @@ mutual
   run_operator (some_element x) xs s = then_one (selector_instructions x) (inr (inr 7)) xs s (x ∷ s.0, s.1) (run_selector x (inr (inr 7) ∷ xs) s)
   run_operator (each_element x) xs s = then_one (selector_instructions x) (inr (inr 8)) xs s (x ∷ s.0, s.1) (run_selector x (inr (inr 8) ∷ xs) s)
 
--- the instructions of an operator give the operator back
+-- running the instructions of an operator gives the operator back
 pub operator_from-instructions : (o : Operator) → operator_from (operator_instructions o) ≡ o
 operator_from-instructions o = ap (λ xs. top (run_all xs ([], [])).0) (sym (append-nil (operator_instructions o))) ∙ ap (λ s. top s.0) (run_operator o [] ([], []))
 
--- the code of an operator
+-- how the logic stores an operator
 abbrev pub operator_code : Coded Operator
 operator_code =
     code_by (List Instruction) (coded_list (coded⊎ (coded⊎ (coded× coded_ℕ value_code) json_type.the_row.coded) (coded⊎ (coded_list (coded_list coded_ℕ)) coded_ℕ)))

@@ -1,27 +1,16 @@
--- The faults of selectors, and how the first fault of several steps is passed on.
-use Rattle.std.specs.Prelude.{Option, Some, None, Result, Ok, Err}
+-- The error that a path's error gives a selector, and `fmap`, which applies a function to a result unless it is a fault.
+use Rattle.std.specs.Prelude.{Result, Ok, Err}
 use Rattle.mg_path.specs.declared.error.PathError.{PathError}
 use Rattle.mg_path.specs.declared.error.PathError.TheVariants.{Empty, NoMemory as path_refused}
 use Rattle.mg_selector.specs.declared.error.SelError.{SelError}
 use Rattle.mg_selector.specs.declared.error.SelError.TheVariants.{BadArg, NoMemory}
 
--- the fault of a selector that has a path with this fault
+-- the error of a selector when one of its paths has this error
 abbrev pub error_of_path : PathError → SelError
 error_of_path Empty = BadArg
 error_of_path path_refused = NoMemory
 
--- the fault, or what f gives for the value
-infixl 10 ◌>>=◌
-abbrev pub ◌>>=◌ : {A B E : Type 0} → Result A E → (A → Result B E) → Result B E
-(Ok x) >>= f = f x
-(Err e) >>= f = Err e
-
--- the fault, or f of the value
+-- f of the value; a fault stays as it is
 abbrev pub fmap : {A B E : Type 0} → (A → B) → Result A E → Result B E
 fmap f (Ok x) = Ok (f x)
 fmap f (Err e) = Err e
-
--- what was found, or this fault if nothing was found
-abbrev pub or_fault : {A E : Type 0} → E → Option A → Result A E
-or_fault e None = Err e
-or_fault e (Some x) = Ok x

@@ -1,6 +1,6 @@
 pub mod Argument
 pub mod Code
-pub mod Entry
+pub mod Predicate
 pub mod Fault
 pub mod Meaning
 pub mod NameKind

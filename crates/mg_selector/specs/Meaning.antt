@@ -1,13 +1,13 @@
 -- When a selector holds, in a sense, of a part that may be missing, after the selector syntax of the CouchDB 3.x API reference.
--- The meaning of negation, of missing parts and of empty lists of arms is this project's own choice. `$not` asks its selector in
--- the other sense, and that sense is passed down to the operators; so `$not` is not a complement. On a missing part only `$exists`
--- can hold, in either sense. An empty list of arms holds in both senses.
+-- The meaning of negation, of missing parts and of empty lists of arms is this project's own choice. `$not` evaluates its selector
+-- in the other sense, which is passed down to the operators. Of the operators, only `$exists` can hold of a missing part, whatever
+-- the sense; a selector with an empty list of arms holds in both senses. So a selector and its `$not` may both hold, or neither.
 use Rattle.std.specs.Prelude.{Bool, true, false, not, ◌&&◌, ◌||◌, Option, Some, None, option_and_then, is_some, if◌then◌else◌}
 use Rattle.std.specs.Ordering.{is_lt, is_le, is_eq, is_ne, is_ge, is_gt}
 use Rattle.mg_value.specs.Value.{Value}
 use Rattle.mg_collate.specs.Order.{value_order}
 use Rattle.mg_path.specs.Part.{part_of}
-use Rattle.mg_selector.specs.Entry.{has_type, meets_some, has_size, has_remainder, contains_all, has_element, has_only_elements}
+use Rattle.mg_selector.specs.Predicate.{has_type, meets_some, has_size, has_remainder, contains_all, has_element, has_only_elements}
 use Rattle.mg_selector.specs.Selector.{Selector, members, every, some, none, opposite, at, asks, Arms, no_arms, arm, Operator, less, at_most, equal, unequal, at_least, greater, exists, of_type, among, not_among, size, modulo, containing, some_element, each_element}
 use Rattle.mg_selector.specs.declared.sense.Sense.{Sense}
 use Rattle.mg_selector.specs.declared.sense.Sense.TheVariants.{Plain, Negated}
@@ -17,15 +17,16 @@ abbrev pub flip : Sense → Sense
 flip Plain = Negated
 flip Negated = Plain
 
--- the answer in a sense: negated in the negated sense
+-- the answer in a sense, given the answer in the plain sense: its negation in the negated sense
 abbrev pub in_sense : Sense → Bool → Bool
 in_sense Plain b = b
 in_sense Negated b = not b
 
--- whether an operator holds of a part in a sense, where `entry` says of which values it holds in the plain sense; false of a missing part
+-- whether an operator holds of a part in a sense, where `predicate` says whether it holds of a value in the plain sense; false for a
+-- missing part
 abbrev pub on_part : (Value → Bool) → Sense → Option Value → Bool
-on_part entry sense None = false
-on_part entry sense (Some v) = in_sense sense (entry v)
+on_part predicate sense None = false
+on_part predicate sense (Some v) = in_sense sense (predicate v)
 
 -- there is no arm
 abbrev pub is_no_arms : Arms → Bool
@@ -57,7 +58,7 @@ abbrev mutual
   some_arm no_arms sense x = false
   some_arm (arm s ss) sense x = holds_in s sense x || some_arm ss sense x
 
-  -- the operator holds, in the sense, of the part; inside an element the sense is plain again
+  -- the operator holds, in the sense, of the part, which may be missing; inside `$elemMatch` and `$allMatch` the sense is plain again
   pub operator_holds : Operator → Sense → Option Value → Bool
   operator_holds (less w) sense x = on_part (λ v. is_lt (value_order v w)) sense x
   operator_holds (at_most w) sense x = on_part (λ v. is_le (value_order v w)) sense x

@@ -1,4 +1,4 @@
--- What the name of a member asks for: the operators by their names, after the operator tables of the CouchDB 3.x API reference.
+-- The kind of a member, by its name: the names of operators, after the operator tables of the CouchDB 3.x API reference.
 use Rattle.std.specs.Prelude.{ℕ, List, [], ◌∷◌, codes, if◌then◌else◌}
 use Rattle.std.specs.Str.{bytes_eq}
 use Rattle.mg_selector.specs.declared.name_kind.NameKind.{NameKind}
@@ -10,7 +10,7 @@ abbrev pub other_kind : List ℕ → NameKind
 other_kind [] = name_kind.Path
 other_kind (c ∷ k) = if bytes_eq (c ∷ []) (codes "$") then name_kind.Unknown else name_kind.Path
 
--- what the name of a member asks for
+-- the kind of a member with this name
 abbrev pub kind_of_name : List ℕ → NameKind
 kind_of_name k =
     if bytes_eq k (codes "$and") then name_kind.And

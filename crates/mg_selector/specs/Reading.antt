@@ -3,9 +3,10 @@
 use Rattle.std.specs.Prelude.{◌≡◌, ℕ, List, Result, Ok, Err}
 use Rattle.std.specs.Option.{option_map_or}
 use Rattle.mg_value.specs.Value.{Value, null, flag, whole, text, list, object, Items, no_items, item, Members, no_members, member}
+use Rattle.mg_value.specs.Results.{◌>>=◌}
 use Rattle.mg_path.specs.Part.{steps_of}
 use Rattle.mg_selector.specs.Argument.{operator_with}
-use Rattle.mg_selector.specs.Fault.{◌>>=◌, fmap}
+use Rattle.mg_selector.specs.Fault.{fmap}
 use Rattle.mg_selector.specs.Selector.{Selector, members, every, some, none, opposite, at, asks, Arms, no_arms, arm, equal, some_element, each_element}
 use Rattle.mg_selector.specs.NameKind.{kind_of_name}
 use Rattle.mg_selector.specs.declared.error.SelError.{SelError}
@@ -13,7 +14,7 @@ use Rattle.mg_selector.specs.declared.error.SelError.TheVariants.{InvalidOperato
 use Rattle.mg_selector.specs.declared.name_kind.NameKind.{NameKind}
 use Rattle.mg_selector.specs.declared.name_kind.NameKind.TheVariants as name_kind
 
--- the result of the definition is the fault that a call returned; for `NoMemory` it may be anything
+-- the definition gives the error that a call returned; if the call returned `NoMemory`, the definition may give anything
 abbrev pub Fails : {Y : Type 0} → SelError → Result Y SelError → Type 0
 Fails NoMemory r = Unit {0}
 Fails InvalidOperator r = r ≡ Err InvalidOperator
@@ -25,7 +26,8 @@ abbrev pub ReadsAs : {X Y : Type 0} → (X → Y) → Result X SelError → Resu
 ReadsAs seen (Ok x) r = r ≡ Ok (seen x)
 ReadsAs seen (Err e) r = Fails e r
 
--- the argument of a path, where `inner` is its reading as a selector: an object with members is a selector; `$eq` takes any other value
+-- the argument of a path, where `inner` is its reading as a selector: an object with members is a selector; any other value is the
+-- argument of `$eq`
 abbrev pub argument : Value → Result Selector SelError → Result Selector SelError
 argument (object (member k v ms)) inner = inner
 argument v inner = Ok (asks (equal v))
@@ -34,7 +36,7 @@ argument v inner = Ok (asks (equal v))
 abbrev pub path_named : List ℕ → Value → Result Selector SelError → Result Selector SelError
 path_named k v inner = option_map_or (λ steps. fmap (at steps) (argument v inner)) (steps_of k) (Err BadArg)
 
--- a member by what its name asks for, where `inner` is the reading of its value as a selector, and `arms` as an array of selectors
+-- a member of this kind, where `inner` is the reading of its value as a selector, and `arms` its reading as an array of selectors
 abbrev pub by_kind : NameKind → List ℕ → Value → Result Selector SelError → Result Arms SelError → Result Selector SelError
 by_kind name_kind.And k v inner arms = fmap every arms
 by_kind name_kind.Or k v inner arms = fmap some arms

@@ -12,7 +12,7 @@ abbrev pub arms_of : List Selector → Arms
 arms_of [] = no_arms
 arms_of (s ∷ ss) = arm s (arms_of ss)
 
--- one level of an operator, with each selector inside already seen
+-- the operator that one level of an `Op` stands for, given what each selector inside stands for
 abbrev pub operator_step : Op-F Operator Selector → Operator
 operator_step (Op-F.Lt v) = less (view v)
 operator_step (Op-F.Lte v) = at_most (view v)
@@ -30,7 +30,7 @@ operator_step (Op-F.All vs) = containing (items_view vs.items)
 operator_step (Op-F.ElemMatch s) = some_element s.value
 operator_step (Op-F.AllMatch s) = each_element s.value
 
--- one level of a selector, with what is inside already seen
+-- the selector that one level of a `Sel` stands for, given what each selector and operator inside stands for
 abbrev pub selector_step : Sel-F Operator Selector → Selector
 selector_step (Sel-F.Members ss) = members (arms_of ss.items)
 selector_step (Sel-F.And ss) = every (arms_of ss.items)

@@ -14,7 +14,9 @@ use mg_value::{Json, copy_items};
 use std::alloc::Global;
 use std::num::NonZeroI64;
 
-/// The operator with the value as its argument.
+/// Reads the value as the argument of the operator, and returns the operator with it.
+///
+/// Errors: `BadArg` if the operator does not take the value; `NoMemory` if an allocation fails.
 pub(crate) fn read_operator(
     alloc: Global,
     operator: ValueOperator,

@@ -3,7 +3,7 @@ use mg_value::NoMemory;
 use std::alloc::{AllocError, AllocFailed};
 use thiserror::Error;
 
-/// Why a JSON value is not a selector.
+/// Why no selector was read: the value is not a selector, or memory ran out.
 #[derive(Clone, Copy, PartialEq, Eq, Debug, Drop, Error)]
 pub enum SelError {
     /// A member's name begins with `$` but is not an operator.

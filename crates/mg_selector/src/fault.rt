@@ -11,7 +11,7 @@ use mg_path::is_path;
 use mg_value::Json;
 use std::collections::BTreeMap;
 
-/// The error that `Sel::read` returns for the value if memory suffices; `None` if the value is a selector.
+/// Finds the error that `Sel::read` returns for the value if memory suffices; `None` if the value is a selector.
 /// Takes no memory. Cost: the size of the value.
 pub fn fault_of(value: &Json) -> Option<SelError>
     ensures { result ≡ result_err (reading (view value.now)) }

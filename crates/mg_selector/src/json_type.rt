@@ -14,10 +14,10 @@ pub enum JsonType {
 }
 
 impl JsonType {
-    ghost use Rattle.mg_selector.specs.Entry.{has_type};
+    ghost use Rattle.mg_selector.specs.Predicate.{has_type};
     ghost use Rattle.mg_selector.specs.Argument.{type_named};
 
-    /// The type with this name in `$type`, such as `array`; `None` for any other text. Takes no memory.
+    /// Finds the type by its name in `$type`, such as `array`; `None` for any other text. Takes no memory.
     pub fn named(name: &str) -> Option<JsonType>
         ensures { result ≡ type_named name.now }
     {

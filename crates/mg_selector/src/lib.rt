@@ -3,13 +3,13 @@
 
 mod argument;
 mod copy;
-mod entry;
 mod error;
 mod fault;
 mod json_type;
 mod meaning;
 mod name_kind;
 mod operator;
+mod predicate;
 mod reader;
 mod selector;
 mod sense;

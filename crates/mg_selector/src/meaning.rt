@@ -1,10 +1,10 @@
 ghost use Rattle.std.specs.Prelude.{◌≡◌, ◌||◌, Some, None, option_map};
-ghost use Rattle.mg_selector.specs.Entry.{some_item, every_of_some};
+ghost use Rattle.mg_selector.specs.Predicate.{some_item, every_of_some};
 ghost use Rattle.mg_selector.specs.Meaning.{holds_in, every_arm, some_arm, is_no_arms, operator_holds};
 ghost use Rattle.mg_selector.specs.View.{selector_of, operator_of, arms_view};
 
-use crate::entry;
 use crate::operator::Op;
+use crate::predicate;
 use crate::selector::Sel;
 use crate::sense::Sense;
 use mg_collate::compare_of;
@@ -95,11 +95,11 @@ fn holds_on<L: LentValue>(op: &Op, value: L) -> bool
         Op::Gt(bound) => compare_of(value, bound).is_gt(),
         Op::Exists(there) => *there,
         Op::Type(json_type) => json_type.is_of(value),
-        Op::In(arguments) => entry::meets_some(arguments, value),
-        Op::Nin(arguments) => !entry::meets_some(arguments, value),
-        Op::Size(size) => entry::has_size(*size, value),
-        Op::Mod(divisor, remainder) => entry::has_remainder(*divisor, *remainder, value),
-        Op::All(arguments) => entry::contains_all(arguments, value),
+        Op::In(arguments) => predicate::meets_some(arguments, value),
+        Op::Nin(arguments) => !predicate::meets_some(arguments, value),
+        Op::Size(size) => predicate::has_size(*size, value),
+        Op::Mod(divisor, remainder) => predicate::has_remainder(*divisor, *remainder, value),
+        Op::All(arguments) => predicate::contains_all(arguments, value),
         Op::ElemMatch(inner) => match value.kind() {
             Kind::List(items) => some_element::<L>(inner, items),
             _ => false,

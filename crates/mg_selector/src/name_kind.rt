@@ -1,7 +1,8 @@
 ghost use Rattle.std.specs.Prelude.{◌≡◌};
 ghost use Rattle.mg_selector.specs.NameKind.{kind_of_name, other_kind};
 
-/// What the name of a member asks for.
+/// The kind of a member, by its name: an operator, an unknown operator (any other name that begins with `$`),
+/// or a path.
 #[derive(Clone, Copy, PartialEq, Eq, Debug, Drop)]
 pub(crate) enum NameKind {
     And,
@@ -15,7 +16,7 @@ pub(crate) enum NameKind {
     Path,
 }
 
-/// An operator whose argument is a value.
+/// An operator whose argument is a plain value, not a selector.
 #[derive(Clone, Copy, PartialEq, Eq, Debug, Drop)]
 pub(crate) enum ValueOperator {
     Lt,

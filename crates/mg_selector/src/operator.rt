@@ -9,8 +9,8 @@ use mg_value::{Json, LentValue, NoMemory};
 use std::alloc::Global;
 use std::num::NonZeroI64;
 
-/// An operator with its argument. The combinators are not here but in `Sel`. Each variant says of which
-/// parts it holds.
+/// An operator with its argument. The combinators (`$and`, `$or`, `$nor`, `$not`) are variants of `Sel`. Each
+/// variant lists the parts of which it holds in the plain sense; only `Exists` can hold of a missing part.
 #[cycle(selector)]
 #[derive(Debug, Drop)]
 pub enum Op {
@@ -26,25 +26,25 @@ pub enum Op {
     Gte(Json),
     /// `$gt`: above the value.
     Gt(Json),
-    /// `$exists`: the part is there, for `true`; it is missing, for `false`.
+    /// `$exists`: a part that is there (`true`), or a part that is missing (`false`).
     Exists(bool),
-    /// `$type`: of the type.
+    /// `$type`: a value of the type.
     Type(JsonType),
-    /// `$in`: an array of which some item equals an argument; or any other value that equals one.
+    /// `$in`: an array with an item that equals some argument; any other value that equals some argument.
     In(Vec<Json>),
-    /// `$nin`: `$in` does not hold.
+    /// `$nin`: a part that is there and of which `$in` does not hold.
     Nin(Vec<Json>),
     /// `$size`: an array of that length.
     Size(u64),
-    /// `$mod`: a number whose remainder by the first value is the second. The remainder has the number's own
-    /// sign.
+    /// `$mod`: a number that, divided by the first value, leaves the second as its remainder. The remainder has
+    /// the number's own sign.
     Mod(NonZeroI64, i64),
-    /// `$all`: an array that has every argument as an item, or that equals the only argument; never without
-    /// arguments.
+    /// `$all`: an array that has every argument as an item, or that equals the only argument. Without arguments
+    /// it holds of no part.
     All(Vec<Json>),
-    /// `$elemMatch`: an array with an element that the selector holds of.
+    /// `$elemMatch`: an array; the selector holds of some element.
     ElemMatch(Box<Sel>),
-    /// `$allMatch`: an array that is not empty, each element of which satisfies the selector.
+    /// `$allMatch`: an array that is not empty; the selector holds of each element.
     AllMatch(Box<Sel>),
 }
 
@@ -52,11 +52,12 @@ impl Op {
     ghost use Rattle.mg_selector.specs.Meaning.{operator_holds};
     ghost use Rattle.mg_selector.specs.View.{operator_of};
 
-    /// Whether the operator holds of the part in the sense. On a missing part (`None`) only `$exists` can hold,
-    /// in either sense.
+    /// Whether the operator holds of the part in the sense. Only `$exists` can hold of a missing part (`None`),
+    /// whatever the sense.
     ///
-    /// Takes no memory. Cost: a comparison with each argument; for `$in`, `$nin` and `$all` on an array, with each
-    /// argument for each item; for `$elemMatch` and `$allMatch`, the selector once for each element.
+    /// Takes no memory. Cost: at most a comparison with each argument; for `$in`, `$nin` and `$all` on an array, a
+    /// comparison of each item with each argument; for `$elemMatch` and `$allMatch`, the selector once for each
+    /// element.
     #[inline]
     pub fn holds_in(&self, sense: Sense, part: Option<&Json>) -> bool
         ensures { result ≡ operator_holds (operator_of self.now) sense
@@ -74,7 +75,7 @@ impl Op {
         meaning::operator_holds(self, sense, part)
     }
 
-    /// A copy of the operator. Errors: `NoMemory` if an allocation fails. Cost: its size.
+    /// Copies the operator. Errors: `NoMemory` if an allocation fails. Cost: its size.
     pub fn copy(&self, alloc: Global) -> Result<Op, NoMemory>
         ensures { IfOk result (λ copy. operator_of copy ≡ operator_of self.now) }
     {

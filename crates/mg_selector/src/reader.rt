@@ -14,7 +14,8 @@ use mg_value::Json;
 use std::alloc::Global;
 use std::collections::BTreeMap;
 
-// The selector that the value spells.
+// Reads the selector that the value spells. Errors: those of `Sel::read`, except that a failed allocation gives
+// `NoMemory` even if the value has a fault.
 pub(crate) fn read(alloc: Global, value: &Json) -> Result<Sel, SelError>
     ensures reading { ReadsAs selector_of result (reading (view value.now)) }
     ensures shape { ¬ IsObject (view value.now) → result ≡ Err SelError.Shape }

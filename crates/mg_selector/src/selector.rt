@@ -12,23 +12,25 @@ use mg_path::Path;
 use mg_value::{Json, LentValue, NoMemory};
 use std::alloc::Global;
 
-/// A selector: what `_find` asks of a document, or of a part of one.
+/// A selector: what `_find` asks of a document, or of a part of one. Each variant says when it holds in the plain
+/// sense. The negated sense is passed down to the members, arms and operators, and exchanges 'all' and 'some'.
+/// A selector with an empty list of members or arms holds in both senses.
 #[cycle(selector)]
 #[derive(Debug, Drop)]
 pub enum Sel {
-    /// The members of an object, which all have to hold.
+    /// The members of an object: all members hold.
     Members(Vec<Sel>),
-    /// `$and`: all arms.
+    /// `$and`: all arms hold.
     And(Vec<Sel>),
-    /// `$or`: some arm.
+    /// `$or`: some arm holds.
     Or(Vec<Sel>),
-    /// `$nor`: no arm.
+    /// `$nor`: all arms hold in the other sense.
     Nor(Vec<Sel>),
-    /// `$not`: the selector, asked in the other sense.
+    /// `$not`: the selector holds in the other sense.
     Not(Box<Sel>),
-    /// A selector on the part at the path.
+    /// The selector holds of the part at the path.
     At(Path, Box<Sel>),
-    /// An operator on the current part.
+    /// The operator holds of the current part.
     Ask(Op),
 }
 
@@ -37,13 +39,13 @@ impl Sel {
     ghost use Rattle.mg_selector.specs.Reading.{ReadsAs, IsObject};
     ghost use Rattle.mg_selector.specs.View.{selector_of};
 
-    /// Reads a selector such as `{"a":{"$gt":1},"b.c":2}`. A name that begins with `$` is an operator on
-    /// the current part. Any other name is a path, and its value is a selector on the part there, or a
-    /// value that the part has to equal.
+    /// Reads a selector such as `{"a":{"$gt":1},"b.c":2}`. A name that begins with `$` is an operator or a
+    /// combinator on the current part. Any other name is a path. If the member's value is an object with members,
+    /// it is a selector on the part at the path; otherwise the part has to equal the value.
     ///
-    /// Errors: `Shape` for a value that is not an object; else the first fault, reading the members in the
-    /// order of their names, each whole before the next: `InvalidOperator` for an unknown operator,
-    /// `BadArg` for an argument that its operator does not take, or for a path with an empty step.
+    /// Errors: `Shape` for a value that is not an object. Otherwise the first fault: `InvalidOperator` for an
+    /// unknown operator, `BadArg` for an argument that its operator does not take, or for a path with an empty
+    /// step. Members are read in the order of their names, and each one is read whole before the next.
     /// `NoMemory` if an allocation fails and the value has no fault.
     /// Cost: the size of the value. Source: the selector syntax of CouchDB's `_find`.
     pub fn read(alloc: Global, value: &Json) -> Result<Sel, SelError>
@@ -59,8 +61,9 @@ impl Sel {
 
     /// Whether the selector holds of the document. Takes no memory.
     ///
-    /// Cost: each operator once, with the way to its part; inside `$elemMatch` and `$allMatch` once for
-    /// each element that they look at. Source: the operators of CouchDB's `_find`.
+    /// Cost: each path is followed and each operator evaluated at most once; inside `$elemMatch` and `$allMatch`,
+    /// at most once for each element. `Op::holds_in` says what an operator costs. Source: the operators of CouchDB's
+    /// `_find`.
     #[inline]
     pub fn holds(&self, value: &Json) -> bool
         ensures { result ≡ holds_in (selector_of self.now) Sense.Plain (Some (view value.now)) }
@@ -76,7 +79,7 @@ impl Sel {
         meaning::holds_in(self, Sense::Plain, Some(value))
     }
 
-    /// A copy of the selector. Errors: `NoMemory` if an allocation fails. Cost: its size.
+    /// Copies the selector. Errors: `NoMemory` if an allocation fails. Cost: its size.
     pub fn copy(&self, alloc: Global) -> Result<Sel, NoMemory>
         ensures { IfOk result (λ copy. selector_of copy ≡ selector_of self.now) }
     {
@@ -84,7 +87,7 @@ impl Sel {
     }
 }
 
-// The error to return after an allocation failed: the fault of the value, or `NoMemory` if it has none.
+// Finds the error to return after an allocation failed: the fault of the value, or `NoMemory` if it has no fault.
 fn fault_or_no_memory(value: &Json) -> SelError
     ensures { result ≡ unwrap_or (result_err (reading (view value.now))) SelError.NoMemory }
 {

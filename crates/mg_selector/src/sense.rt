@@ -9,7 +9,7 @@ pub enum Sense {
 }
 
 impl Sense {
-    /// The other sense.
+    /// Returns the other sense. Takes no memory.
     pub fn flip(self) -> Sense
         ensures { result ≡ flip self }
     {
@@ -19,7 +19,8 @@ impl Sense {
         }
     }
 
-    /// The answer in this sense, where `plain` is the answer in the plain one.
+    /// Returns the answer in this sense, given the answer in the plain sense (`plain`): negates it if this sense
+    /// is negated. Takes no memory.
     pub fn of(self, plain: bool) -> bool
         ensures { result ≡ in_sense self plain }
     {

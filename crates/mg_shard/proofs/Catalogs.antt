@@ -1,4 +1,4 @@
--- Shards, each of whose definitions are a catalog.
+-- Shards: the definitions of each are a catalog.
 use Rattle.std.proofs.Common.{◌≡◌, ℕ, ◌+◌, ◌<◌, List, get_or, length, slice_index_or, sym, ap, ◌∙◌, subst}
 use Rattle.std.proofs.lemmas.List.{get_or-map}
 use Rattle.std.specs.Arc.{arc_value}
@@ -8,11 +8,11 @@ use borrow.Author.Count.{below_more}
 use Rattle.mg_index.specs.Catalog.{IsCatalog}
 use Rattle.mg_shard.specs.Shard.{ShardView, shards_seen}
 
--- the definitions of the first shards are
+-- the definitions of each of the first n shards are a catalog
 abbrev pub AreCatalogs : List ShardView → ℕ → Type 0
 AreCatalogs shards n = (k : ℕ) (d : ShardView) → k < n → IsCatalog (slice_index_or shards k d).definitions
 
--- and those of one more
+-- so are those of one more shard
 pub one_more_catalog : (shards : List (Arc ShardView Global)) (i : ℕ) (a : Arc ShardView Global) (s : ShardView) → i < length shards → a ≡ get_or shards i a → s ≡ arc_value a → IsCatalog s.definitions
     → AreCatalogs (shards_seen shards) i → AreCatalogs (shards_seen shards) (i + 1)
 one_more_catalog shards i a s less is same here before = λ k d l.

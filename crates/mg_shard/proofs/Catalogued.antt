@@ -1,4 +1,4 @@
--- Indexes in the order of their definitions: one that is put among them or left out, and one after another that is mended.
+-- Indexes in the order of their definitions: insertion, removal and look-up by name, and mending them one after another.
 use Rattle.std.proofs.Common.{◌≡◌, ℕ, zero, suc, ◌+◌, ◌<◌, ◌≤◌, Bool, true, false, cond, not, ◌&&◌, List, [], ◌∷◌, ◌++◌, Option, Some, option_map, Ordering, Less, Equal, Greater, is_eq, is_gt, is_lt, length, slice_get, set, unwrap_or, refl, sym, ap, ap₂, ◌∙◌, subst, arith}
 use Rattle.std.proofs.lemmas.Cmp.{nat_list_cmp_total, tied_itself}
 use Rattle.std.proofs.lemmas.Map.Text.{is_eq-slice_cmp}
@@ -21,7 +21,7 @@ use Rattle.mg_shard.specs.Index.{AreIndexes, HasRows, Index, definition_order_to
 abbrev AllAbove : IndexDefinition → List IndexDefinition → Type 0
 AllAbove d ds = AllByRecursion (λ e. definition_order d e ≡ Less) ds
 
--- ---- one that is put among them
+-- ---- an index that is inserted
 
 filtered : (b : Bool) (x : Index) (xs : List Index) → definitions_of (cond b (x ∷ xs) xs) ≡ cond b (x.0 ∷ definitions_of xs) (definitions_of xs)
 filtered true x xs = refl
@@ -61,11 +61,11 @@ inserted_is : (d : IndexDefinition) (ds : List IndexDefinition) → IsCatalog ds
 inserted_is d [] c = refl
 inserted_is d (e ∷ es) c = with_step d e es (definition_order d e) refl c (inserted_is d es c.1)
 
--- the definitions are those of a catalog with one more
+-- an insertion inserts the index's definition into the catalog
 pub definitions-with : (x : Index) (xs : List Index) → IsCatalog (definitions_of xs) → definitions_of (inserted index_order x xs) ≡ with_definition x.0 (definitions_of xs)
 definitions-with x xs c = definitions-inserted x xs ∙ inserted_is x.0 (definitions_of xs) c
 
--- ---- one that is left out
+-- ---- facts of all indexes
 
 either_way : (P : Index → Type 0) (b : Bool) (x : Index) (xs : List Index) → P x → AllByRecursion P xs → AllByRecursion P (cond b (x ∷ xs) xs)
 either_way P true x xs p h = (p, h)
@@ -79,7 +79,7 @@ all_append : (P : Index → Type 0) (xs ys : List Index) → AllByRecursion P xs
 all_append P [] ys h k = k
 all_append P (x ∷ xs) ys h k = (h.0, all_append P xs ys h.1 k)
 
--- what holds of all and of one more holds where that is put among them
+-- a fact of all indexes and of one more holds of all after the insertion
 pub all_inserted : (P : Index → Type 0) (x : Index) (xs : List Index) → P x → AllByRecursion P xs → AllByRecursion P (inserted index_order x xs)
 all_inserted P x xs p h =
     all_append P (below (index_order x) xs) (x ∷ above (index_order x) xs) (all_where P (λ y. is_gt (index_order x y)) xs h) (p, all_where P (λ y. is_lt (index_order x y)) xs h)
@@ -90,7 +90,7 @@ with_index_sound ds x xs has a = record {
   rows = all_inserted (HasRows ds) x xs has a.rows;
 }
 
--- ---- one after another
+-- ---- indexes that are mended one after another
 
 pub all_get : {X : Type 0} (P : X → Type 0) (xs : List X) (j : ℕ) (x : X) → AllByRecursion P xs → slice_get xs j ≡ Some x → P x
 all_get P [] j x h e = absurd cc
@@ -101,7 +101,7 @@ pub all_from : {X : Type 0} (P : X → Type 0) (xs : List X) → ((j : ℕ) (x :
 all_from P [] h = tt
 all_from P (y ∷ xs) h = (h 0 y refl, all_from P xs (λ j x e. h (suc j) x e))
 
--- those before a place have the rows of the new documents, and the others those of the old
+-- the first i indexes have the rows of the new documents, the others those of the old documents
 abbrev pub MendedBelow : KeptDocuments → KeptDocuments → ℕ → List Index → Type 0
 MendedBelow old new i xs = (j : ℕ) (x : Index) → slice_get xs j ≡ Some x → (j < i → HasRows new x) × (i ≤ j → HasRows old x)
 
@@ -126,7 +126,7 @@ split zero (suc b) f g = g (λ e. absurd cc)
 split (suc a) zero f g = g (λ e. absurd cc)
 split (suc a) (suc b) f g = split a b (λ e. f (ap suc e)) (λ n. g (λ e. n (omega (arith, e))))
 
--- one more that is mended
+-- one more index is mended
 pub mended_more : (old new : KeptDocuments) (xs : List Index) (i : ℕ) (x y : Index) → slice_get xs i ≡ Some x → i < length xs → (HasRows old x → HasRows new y)
     → MendedBelow old new i xs → MendedBelow old new (i + 1) (set xs i y)
 mended_more old new xs i x y at l did h j z e = split j i
@@ -155,13 +155,13 @@ pub mended_last : (old new : KeptDocuments) (xs : List Index) (i : ℕ) → leng
 mended_last old new xs i l h =
     all_from (HasRows new) xs (λ j x e. let within = get_within xs j x e in (h j x e).0 (omega (arith, within, l)))
 
--- the definitions stay where one of them does
+-- an index that is replaced by one with its definition leaves the list of definitions unchanged
 pub same_definitions : (xs : List Index) (i : ℕ) (x y : Index) → slice_get xs i ≡ Some x → y.0 ≡ x.0 → definitions_of (set xs i y) ≡ definitions_of xs
 same_definitions [] i x y at e = refl
 same_definitions (z ∷ xs) zero x y at e = ap (λ d. d ∷ definitions_of xs) (e ∙ sym (ap (λ o. (unwrap_or o z).0) at))
 same_definitions (z ∷ xs) (suc i) x y at e = ap (λ ds. z.0 ∷ ds) (same_definitions xs i x y at e)
 
--- ---- left out by name
+-- ---- an index that is left out by name
 
 same_text : (s t : List ℕ) → bytes_eq s t ≡ true → s ≡ t
 same_text s t e = bytes_exact s t (tied (bytes_cmp s t) (is_eq-slice_cmp s t ∙ e))
@@ -197,7 +197,7 @@ left_out : (ddoc name : List ℕ) (ds : List IndexDefinition) → IsCatalog ds �
 left_out ddoc name [] c = refl
 left_out ddoc name (d ∷ ds) c = without_step ddoc name d ds (is_named ddoc name d) refl c.0 (left_out ddoc name ds c.1)
 
--- the definitions are those of a catalog without one
+-- without the index of a name, the definitions are the catalog without the definition of this name
 pub definitions-without : (ddoc name : List ℕ) (xs : List Index) → IsCatalog (definitions_of xs) → definitions_of (filter (λ x. not (is_named ddoc name x.0)) xs) ≡ without_definition ddoc name (definitions_of xs)
 definitions-without ddoc name xs c = definitions-where (λ d. not (is_named ddoc name d)) xs ∙ left_out ddoc name (definitions_of xs) c
 
@@ -207,7 +207,7 @@ without_index_sound ds ddoc name xs a = record {
   rows = all_where (HasRows ds) (λ x. not (is_named ddoc name x.0)) xs a.rows;
 }
 
--- ---- looked up by name
+-- ---- an index that is looked up by name
 
 found_here : (ds : KeptDocuments) (b : Bool) (x : Index) (o : Option Index) (p : Option IndexDefinition) → HasRows ds x
     → option_map (λ y. y.1) o ≡ option_map (λ d. rows_of d.columns (docs_of ds)) p
@@ -215,7 +215,7 @@ found_here : (ds : KeptDocuments) (b : Bool) (x : Index) (o : Option Index) (p :
 found_here ds true x o p has e = ap Some has
 found_here ds false x o p has e = e
 
--- the rows that are kept of the index of a name are those from scratch
+-- the rows of the index of a name are those made from scratch
 pub rows_found : (ds : KeptDocuments) (ddoc name : List ℕ) (xs : List Index) → AllByRecursion (HasRows ds) xs
     → option_map (λ x. x.1) (find (λ x. is_named ddoc name x.0) xs) ≡ option_map (λ d. rows_of d.columns (docs_of ds)) (definition_at ddoc name (definitions_of xs))
 rows_found ds ddoc name [] h = refl
@@ -226,7 +226,7 @@ tied_then Less b = refl
 tied_then Equal b = refl
 tied_then Greater b = refl
 
--- a design document and a name tie with an index where it has both
+-- a design document and a name tie with an index exactly if it has both
 pub ties-named : (ddoc name : List ℕ) (x : Index) → is_eq (name_against ddoc name x) ≡ is_named ddoc name x.0
 ties-named ddoc name x =
     tied_then (slice_cmp nat_cmp ddoc x.0.ddoc) (slice_cmp nat_cmp name x.0.name) ∙ ap₂ (λ a b. a && b) (is_eq-slice_cmp ddoc x.0.ddoc) (is_eq-slice_cmp name x.0.name)
@@ -239,11 +239,11 @@ first_found : (p : Index → Bool) (xs : List Index) → first_of_list (filter p
 first_found p [] = refl
 first_found p (x ∷ xs) = first_where (p x) x (filter p xs) (find p xs) (first_found p xs)
 
--- what ties with a design document and a name is the index that has both
+-- a look-up by design document and name finds the index that has both
 pub found-named : (ddoc name : List ℕ) (xs : List Index) → found (name_against ddoc name) xs ≡ find (λ x. is_named ddoc name x.0) xs
 found-named ddoc name xs = first_found (λ x. is_eq (name_against ddoc name x)) xs ∙ (λ i. find (λ x. ties-named ddoc name x i) xs)
 
--- ---- taken out
+-- ---- an index that is removed
 
 removed_step : (against : Index → Ordering) (x : Index) (xs rest : List Index) (r : Ordering) → (is_gt r ≡ false → AllAboveKey against xs) → removed against xs ≡ rest
     → cond (is_gt r) (x ∷ below against xs) (below against xs) ++ cond (is_lt r) (x ∷ above against xs) (above against xs) ≡ cond (not (is_eq r)) (x ∷ rest) rest
@@ -259,11 +259,11 @@ removed_where against (x ∷ xs) p a =
     removed_step against x xs (filter (λ y. not (is_eq (against y))) xs) (against x)
     (λ n. all_weaker (λ y. index_order x y ≡ Less) (λ y. against y ≡ Less) (λ y l. p x y l n) xs a.0) (removed_where against xs p a.1)
 
--- without what ties with a design document and a name, the indexes that do not have both are left
+-- the removal by design document and name leaves the indexes that do not have both
 pub removed-named : (ddoc name : List ℕ) (xs : List Index) → Ascends index_order xs → removed (name_against ddoc name) xs ≡ filter (λ x. not (is_named ddoc name x.0)) xs
 removed-named ddoc name xs a = removed_where (name_against ddoc name) xs (name_probes ddoc name) a ∙ (λ i. filter (λ x. not (ties-named ddoc name x i)) xs)
 
--- ---- in order
+-- ---- the order of the indexes
 
 above_those : (d : IndexDefinition) (xs : List Index) → AllAbove d (definitions_of xs) → AllByRecursion (λ (y : Index). definition_order d y.0 ≡ Less) xs
 above_those d [] h = tt

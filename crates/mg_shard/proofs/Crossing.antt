@@ -20,7 +20,7 @@ use Rattle.mg_revtree.proofs.links.list.Links.TheSendSync as links
 use Rattle.mg_revtree.proofs.revision.Rev.TheSendSync as revision
 use Rattle.mg_rows.proofs.row.RowBytes.TheSendSync as row
 use Rattle.mg_shard.specs.contracts.document.Document as Document
-use Rattle.mg_shard.specs.contracts.entry.IndexEntry as IndexEntry
+use Rattle.mg_shard.specs.contracts.index_entry.IndexEntry as IndexEntry
 use Rattle.mg_shard.specs.contracts.served.Served as Served
 use Rattle.mg_shard.specs.contracts.shard.Shard as Shard
 

@@ -20,7 +20,7 @@ use Rattle.mg_shard.proofs.Shown.{bytes_cmp, bytes_exact}
 use Rattle.mg_shard.proofs.Standing.{same_id, stand_empty}
 use Rattle.mg_shard.proofs.Touched.{after_done, after_refused}
 
--- ---- lists with one place changed
+-- ---- a list with one element replaced
 
 pub slice_get-set : {X : Type 0} (xs : List X) (i : ℕ) (x : X) → i < length xs → slice_get (set xs i x) i ≡ Some x
 slice_get-set [] i x l = absurd (omega arith)
@@ -57,7 +57,7 @@ module _ {X : Type 0} where
   chosen true m k v q = get-insert nat_list_cmp_total m k v q
   chosen false m k v q = refl
 
-  -- an insertion is one among those that pass, or leaves them
+  -- an insertion into the map inserts among those that pass, or leaves them unchanged
   pub kept-insert : (m : FinMap bytes_cmp X) (p : List ℕ → Bool) (k : List ℕ) (v : X) → retain_keys (insert m k v) p ≡ cond (p k) (insert (retain_keys m p) k v) (retain_keys m p)
   kept-insert m p k v = same_map nat_list_cmp_total bytes_exact _ _ (λ q.
       get-kept (insert m k v) p q
@@ -74,7 +74,7 @@ history_on place n i hs id at = get-kept hs (λ id. eqb (place id n) i) id ∙ a
 same_history : (place : Placing) (n i : ℕ) (hs : Histories) (id : List ℕ) → place id n ≡ i → history_at (histories_on place n i hs) id ≡ history_at hs id
 same_history place n i hs id at = ap (λ (o : Option Paths). unwrap_or o []) (history_on place n i hs id at)
 
--- what becomes of an edit is decided on the shard of its id
+-- an edit has the same outcome on the histories of the shard where its id is placed
 pub same_outcome : (place : Placing) (n i : ℕ) (hs : Histories) (e : Edit) → place (id_in e) n ≡ i → outcome_in (histories_on place n i hs) e ≡ outcome_in hs e
 same_outcome place n i hs e at = ap (λ (h : Paths). outcome_of h e) (same_history place n i hs (id_in e) at)
 
@@ -102,7 +102,7 @@ kept_there place shards hs id None at st =
         no_one (x ∷ xs) zero e l = cc
         no_one (x ∷ xs) (suc i) e l = no_one xs i e (omega arith)
 
--- what is kept of an id stands for its history
+-- the document of an id, on the shard where the id is placed, stands for its history
 pub stands_at : (place : Placing) (shards : List ShardView) (hs : Histories) (id : List ℕ) → ShardsStandFor place shards hs → StandsAt id (kept_at place shards id) (get hs id)
 stands_at place shards hs id st = kept_there place shards hs id (slice_get shards (place id (length shards))) refl st
 
@@ -150,7 +150,7 @@ still_placed place n hs e (Ok r) q h is below before s =
     either false at t = before q h t
 still_placed place n hs e (Err x) q h is below before s = before q h (ap (λ m. get m q) (sym (after_refused hs e x is)) ∙ s)
 
--- where the thing of an edit's shard has taken the edit, and the others are as they were, all have
+-- if one value is replaced by the one after an edit that belongs there, all values stand for the histories after the edit
 pub edit_dealt : {X : Type 0} (Stands : X → Histories → Type 0) (place : Placing) (xs : List X) (hs : Histories) (e : Edit) (i : ℕ) (after : X) → AreDealt Stands place xs hs
     → place (id_in e) (length xs) ≡ i → i < length xs → Stands after (after_edit (histories_on place (length xs) i hs) e)
     → AreDealt Stands place (set xs i after) (after_edit hs e)
@@ -173,7 +173,7 @@ edit_dealt {X} Stands place xs hs e i after st at below stands =
         subst (λ m. Stands x m) (sym (put_elsewhere place (length xs) j hs e (outcome_in hs e) (λ a. apart (sym a ∙ at)) refl))
         (st.each j x (sym (slice_get-set_other xs i j after apart) ∙ s))
 
--- an edit that was applied on its shard was applied to the histories
+-- the same, if the new value stands for whatever the old one stood for, after the edit
 pub applied_there : {X : Type 0} (Stands : X → Histories → Type 0) (place : Placing) (xs : List X) (hs : Histories) (e : Edit) (i : ℕ) (before after : X) (o : Result Revision EditRefusal)
     → place (id_in e) (length xs) ≡ i → slice_get xs i ≡ Some before
     → ((gs : Histories) → Stands before gs → o ≡ outcome_in gs e)
@@ -186,9 +186,9 @@ applied_there Stands place xs hs e i before after o at is told did st =
       told gs stood ∙ same_outcome place (length xs) i hs e at,
     )
 
--- ---- one by one
+-- ---- all values replaced
 
--- where each thing of another list stands for what the one in its place stood for, all of them do
+-- if each value of another list stands for what the value with its number stood for, the lists stand for the same histories
 pub all_dealt : {X Y : Type 0} (Stands : X → Histories → Type 0) (Stand : Y → Histories → Type 0) (place : Placing) (xs : List X) (ys : List Y) (hs : Histories) → length ys ≡ length xs
     → ((i : ℕ) (y : Y) → slice_get ys i ≡ Some y → (x : X) × (slice_get xs i ≡ Some x) × ((gs : Histories) → Stands x gs → Stand y gs))
     → AreDealt Stands place xs hs → AreDealt Stand place ys hs

@@ -1,4 +1,4 @@
--- What threads make of pages of documents and of rows, put together.
+-- The lists of rows, and the pages, that threads make, joined in order.
 use denote.Ref.{Bor}
 use Rattle.std.proofs.Common.{◌≡◌, ℕ, zero, suc, ◌<◌, List, [], ◌∷◌, ◌++◌, Option, Some, None, Result, Ok, Err, map, length, take, drop, option_and_then, refl, sym, ap, ap₂, ◌∙◌, subst, arith, IfOk}
 use Rattle.std.proofs.lemmas.List.{length-take}
@@ -12,7 +12,7 @@ use Rattle.rayon.specs.Lists.{chunks_from, chunks_of}
 use Rattle.mg_collate.specs.Row.{RowValue}
 use Rattle.mg_index.specs.Definition.{Steps}
 use Rattle.mg_pages.specs.Runs.{lent_elements}
-use Rattle.mg_shard.specs.Documents.{doc_entry, kept_entry, served_docs}
+use Rattle.mg_shard.specs.Documents.{doc_entry, kept_entry, docs_in}
 use Rattle.mg_shard.specs.Extracted.{document_row, rows_in}
 use Rattle.mg_shard.specs.Histories.{ServedDocument}
 use Rattle.mg_shard.specs.Rows.{row_of}
@@ -31,11 +31,11 @@ row_step columns None ds = refl
 row_step columns (Some d) ds = refl
 
 -- the rows of documents are those of the served ones
-rows_served : (columns : List Steps) (ds : List Document) → rows_in columns ds ≡ filter_map (row_of columns) (served_docs ds)
+rows_served : (columns : List Steps) (ds : List Document) → rows_in columns ds ≡ filter_map (row_of columns) (docs_in ds)
 rows_served columns [] = refl
-rows_served columns (d ∷ ds) = ap (cons_option (document_row columns d)) (rows_served columns ds) ∙ row_step columns (doc_entry (kept_entry d)) (served_docs ds)
+rows_served columns (d ∷ ds) = ap (cons_option (document_row columns d)) (rows_served columns ds) ∙ row_step columns (doc_entry (kept_entry d)) (docs_in ds)
 
--- where no memory was refused, the lists that were given hold the rows of the documents, in their order
+-- if each thread returned a list, the lists hold the rows of the documents, in their order
 rows_given : (columns : List Steps) (runs : List Run) (rs : List Given) (lists : List (Vec RowValue Global)) → AllZip (λ (run : Run) r. IfOk r (λ v. v.items ≡ rows_in columns run.now)) runs rs
     → rs ≡ map Ok lists → flat_map (λ (list : Vec RowValue Global). list.items) lists ≡ rows_in columns (lent_elements runs)
 rows_given columns [] [] [] h e = refl
@@ -51,11 +51,11 @@ rows_given columns (run ∷ runs) (Ok v ∷ rs) (w ∷ lists) h e =
 rows_given columns (run ∷ runs) (Err x ∷ rs) [] h e = absurd cc
 rows_given columns (run ∷ runs) (Err x ∷ rs) (w ∷ lists) h e = absurd cc
 
--- what threads put together is either all lists or a refusal
+-- the result of all threads is the lists with all rows, or a refusal of memory
 pub lists_together : (columns : List Steps) (runs : List Run) (xs : List (Bor Run)) (rs : List Given) (together : Result (Vec (Vec RowValue Global) Global) NoMemory)
     → map (λ (x : Bor Run). x.now) xs ≡ runs → AllZip (λ (x : Bor Run) r. IfOk r (λ v. v.items ≡ rows_in columns x.now.now)) xs rs
     → MatchResult together (λ v. (lists : List (Vec RowValue Global)) × (rs ≡ map Ok lists) × (v.items ≡ lists)) (λ e. Contains rs (Err e))
-    → IfOk together (λ v. flat_map (λ (list : Vec RowValue Global). list.items) v.items ≡ filter_map (row_of columns) (served_docs (lent_elements runs)))
+    → IfOk together (λ v. flat_map (λ (list : Vec RowValue Global). list.items) v.items ≡ filter_map (row_of columns) (docs_in (lent_elements runs)))
 lists_together columns runs xs rs (Err e) kept_documents each all = tt
 lists_together columns runs xs rs (Ok v) kept_documents each all =
     ap (flat_map (λ (list : Vec RowValue Global). list.items)) all.2
@@ -68,7 +68,7 @@ Made = Result (List RowValue) NoMemory
 abbrev Chunk : Type 0
 Chunk = Bor (List RowValue)
 
--- where no memory was refused, the pages are the chunks of which they were made
+-- if each thread returned a page, the pages are the chunks of which they were made
 pages_given : (chunks : List (List RowValue)) (rs : List Made) (pages : List (List RowValue)) → AllZip (λ (c : List RowValue) r. IfOk r (λ p. p ≡ c)) chunks rs → rs ≡ map Ok pages → pages ≡ chunks
 pages_given [] [] [] h e = refl
 pages_given [] [] (p ∷ pages) h e = absurd cc
@@ -96,7 +96,7 @@ module _ (size : ℕ) (rows : List RowValue) (xs : List Chunk) (rs : List Made) 
   pages_are v kept_documents each all =
       all.2 ∙ pages_given (chunks_of size rows) rs all.0 (slice-AllZip xs (chunks_of size rows) kept_documents (λ (c : List RowValue) r. IfOk r (λ p. p ≡ c)) rs each) all.1
 
-  -- what threads put together is either all pages, which hold the rows in their order, or a refusal
+  -- the result of all threads is the pages, which hold all rows in their order, or a refusal of memory
   pub pages_together : (together : Result (Vec (List RowValue) Global) NoMemory) → 0 < size
       → map (λ (x : Chunk). x.now) xs ≡ chunks_of size rows → AllZip (λ (x : Chunk) r. IfOk r (λ p. p ≡ x.now)) xs rs
       → MatchResult together (λ v. (pages : List (List RowValue)) × (rs ≡ map Ok pages) × (v.items ≡ pages)) (λ e. Contains rs (Err e))
@@ -104,7 +104,7 @@ module _ (size : ℕ) (rows : List RowValue) (xs : List Chunk) (rs : List Made) 
   pages_together (Err e) some kept_documents each all = tt
   pages_together (Ok v) some kept_documents each all = ap (flat_map (λ (p : List RowValue). p)) (pages_are v kept_documents each all) ∙ chunks_of-concat size rows some
 
-  -- and none of them is empty
+  -- none of these pages is empty
   pub pages_some : (together : Result (Vec (List RowValue) Global) NoMemory) → 0 < size
       → map (λ (x : Chunk). x.now) xs ≡ chunks_of size rows → AllZip (λ (x : Chunk) r. IfOk r (λ p. p ≡ x.now)) xs rs
       → MatchResult together (λ v. (pages : List (List RowValue)) × (rs ≡ map Ok pages) × (v.items ≡ pages)) (λ e. Contains rs (Err e))

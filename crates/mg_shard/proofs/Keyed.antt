@@ -15,7 +15,7 @@ key_step None vs = refl
 key_step (Some w) None = refl
 key_step (Some w) (Some vs) = refl
 
--- the key at one more column
+-- the key with one more column in front
 pub row_key-more : (column : Steps) (columns : List Steps) (v : Value) → row_key (column ∷ columns) v ≡ option_and_then (λ part. option_map (item part) (row_key columns v)) (part_of column v)
 row_key-more column columns v = key_step (part_of column v) (key_of columns v)
 
@@ -29,6 +29,6 @@ keyed_at id (Some vs) r is =
     let row : ◌≡◌ {A = RowValue} (items_of vs, id) r = cc in
     ap Some (sym (items_listed vs) ∙ ap (λ (x : RowValue). item_list x.0) row)
 
--- a row's key is what a document has at the columns
+-- the key of a document's row is the values that the document has at the columns
 pub row_keyed : (columns : List Steps) (d : ServedDocument) (r : RowValue) → row_of columns d ≡ Some r → key_of columns d.1 ≡ Some (item_list r.0)
 row_keyed columns d r e = keyed_at d.0 (key_of columns d.1) r e

@@ -1,9 +1,9 @@
--- Keys of rows while they are made.
+-- Keys of rows while they are built.
 use Rattle.std.proofs.Common.{◌≡◌, ℕ, zero, suc, arith, take, ◌+◌, ◌<◌, List, [], ◌∷◌, ◌++◌, Option, Some, None, option_map, length, get_or, drop, drop-cons, add-one, refl, ap, sym, ◌∙◌}
 use Rattle.mg_value.specs.Value.{Value, Items, no_items, item}
 use Rattle.mg_rows.specs.Laws.{joined_items}
 
--- one more item before others
+-- an item that is joined after some and before others may be joined to either first
 pub joined-more : (xs : Items) (w : Value) (vs : Items) → joined_items (joined_items xs (item w no_items)) vs ≡ joined_items xs (item w vs)
 joined-more no_items w vs = refl
 joined-more (item x xs) w vs = ap (item x) (joined-more xs w vs)
@@ -12,12 +12,12 @@ pub joined-none : (xs : Items) → joined_items xs no_items ≡ xs
 joined-none no_items = refl
 joined-none (item x xs) = ap (item x) (joined-none xs)
 
--- one more value before others that may be there
+-- the same for a key that may be missing
 pub key_more : (xs : Items) (w : Value) (o : Option Items) → option_map (joined_items xs) (option_map (item w) o) ≡ option_map (joined_items (joined_items xs (item w no_items))) o
 key_more xs w None = refl
 key_more xs w (Some vs) = ap Some (sym (joined-more xs w vs))
 
--- what is left from an item on begins with the item
+-- the elements from place i on are the element i and those after it
 pub drop_item : {A : Type 0} (xs : List A) (i : ℕ) (x : A) → i < length xs → x ≡ get_or xs i x → drop i xs ≡ x ∷ drop (i + 1) xs
 drop_item xs i x h e = drop-cons xs i x h ∙ rw (add-one, ← e)
 
@@ -37,6 +37,6 @@ no_more : {A : Type 0} (xs : List A) → xs ++ [] ≡ xs
 no_more [] = refl
 no_more (x ∷ xs) = ap (λ ys. x ∷ ys) (no_more xs)
 
--- a vector whose elements were written, and not their number
+-- as many new elements as a vector has are written over its elements
 pub written : {A : Type 0} (n : ℕ) (new old : List A) → length new ≡ length old → n ≡ length old → take n (new ++ drop (length new) old) ≡ new
 written n new old same all = ap (λ xs. take n (new ++ xs)) (drop_length (length new) old same) ∙ ap (take n) (no_more new) ∙ take_length n new (all ∙ sym same)

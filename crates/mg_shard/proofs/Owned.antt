@@ -71,12 +71,12 @@ none_found (Some v) e = absurd cc
 some_is : {X : Type 0} (x y : X) → Some x ≡ Some y → x ≡ y
 some_is x y e = cc
 
--- the form of a leaf has this `_id`, if any
+-- if a leaf's form was made for this id, its `_id` is this id
 pub own_of_leaf : (id : List ℕ) (o : Option Value) (form : Value) → IfSome o (λ f. (l : Leaf) × (f ≡ served_form id l)) → o ≡ Some form → HasOwnId id form
 own_of_leaf id None form h is = absurd cc
 own_of_leaf id (Some f) form h is = own_leaf id h.0 form (sym (some_is f form is) ∙ h.1)
 
--- ---- its `_id`
+-- ---- the `_id` of the form
 
 one_part : (o : Option Value) → option_map items_of (option_and_then (λ part. option_map (λ parts. part ∷ parts) (Some [])) (option_and_then (part_of []) o)) ≡ option_map (λ part. item part no_items) o
 one_part None = refl
@@ -103,7 +103,7 @@ served_none id Deleted own e = refl
 served_none id (WithId form) own e = absurd cc
 served_none id (WithoutId form) own e = member_key form None own
 
--- the key of a document among all documents, where it has one
+-- the key of a document in the list of all documents, if it has one
 pub key_own : (d : Document) → has_own_id d.served ≡ true → Some (item (text (id_bytes d)) no_items) ≡ option_and_then (row_key id_columns) (form_of d)
 key_own d e = served_own (id_bytes d) d.served d.own_id e
 
@@ -112,7 +112,7 @@ key_none d e = served_none (id_bytes d) d.served d.own_id e
 
 -- ---- the documents of a shard
 
--- a form with this `_id`, or with none, has its own
+-- a form whose `_id` is this id, or that has no `_id`, has its own id
 part_none : (id : List ℕ) (o : Option Value) (part : Value) → o ≡ None → option_and_then (part_of []) o ≡ Some part → part ≡ text id
 part_none id None part e f = absurd cc
 part_none id (Some v) part e f = absurd cc
@@ -154,7 +154,7 @@ own_found q (d ∷ ds) form e = own_step q d form (find bytes_cmp q (map kept_en
 pub own_shown : (q : List ℕ) (ds : List Document) (form : Value) → form_at (kept_documents ds) q ≡ Some form → HasOwnId q form
 own_shown q ds form e = own_found q ds form (ap (option_and_then (λ (k : KeptDocument). k.1)) (sym (get-from_entries nat_list_cmp_total (map kept_entry ds) q)) ∙ e)
 
--- ---- what is found under an id has it
+-- ---- the document that a look-up of an id finds has this id
 
 first_is : (q : List ℕ) (d x : Document) (ds : List Document) (b : Bool) → is_eq (bytes_cmp q (id_bytes d)) ≡ b → (first_of_list ds ≡ Some x → id_bytes x ≡ q)
     → first_of_list (cond b (d ∷ ds) ds) ≡ Some x → id_bytes x ≡ q
@@ -165,7 +165,7 @@ pub found_id : (q : List ℕ) (ds : List Document) (x : Document) → found (id_
 found_id q [] x e = absurd cc
 found_id q (d ∷ ds) x e = first_is q d x (filter (λ y. is_eq (bytes_cmp q (id_bytes y))) ds) (is_eq (bytes_cmp q (id_bytes d))) refl (found_id q ds x) e
 
--- so it is with what is lent of it
+-- a lent document that a look-up finds has the id too
 pub found_through : (q : List ℕ) (ds : List Document) (r : Option (Bor Document)) → option_map (λ d. d.now) r ≡ found (id_against id_bytes q) ds → IfSome r (λ d. id_bytes d.now ≡ q)
 found_through q ds None e = tt
 found_through q ds (Some d) e = found_id q ds d.now (sym e)

@@ -1,4 +1,4 @@
--- Documents that are dealt anew: those that are lent, their places, the documents of a place, and what the shards stand for then.
+-- Documents that are dealt anew: the list of lent documents, their places, the documents of one place, and what the new shards stand for.
 use lib.Dec.{eqb}
 use Rattle.std.proofs.Common.{◌≡◌, ℕ, zero, suc, ◌+◌, ◌<◌, ◌≤◌, Bool, true, false, List, [], ◌∷◌, ◌++◌, Less, Option, Some, None, option_and_then, option_map, length, get_or, map, slice_get, take, cond, is_eq, refl, ap, sym, ◌∙◌, subst, add-one, arith, true≢false}
 use Rattle.std.proofs.lemmas.Bool.{eq-eqb, eqb-true}
@@ -36,7 +36,7 @@ one_after_another : {X : Type 0} (a b c : Option X) → option_or (option_or a b
 one_after_another None b c = refl
 one_after_another (Some x) b c = refl
 
--- what one more shard keeps comes before what the others do
+-- a document of the last shard takes precedence over those of the shards before it
 pub kept-more : (from : List KeptDocuments) (ds : KeptDocuments) (id : List ℕ) → kept_in (from ++ ds ∷ []) id ≡ option_or (get ds id) (kept_in from id)
 kept-more [] ds id = sym (none_after (get ds id))
 kept-more (x ∷ from) ds id = ap (λ o. option_or o (get x id)) (kept-more from ds id) ∙ one_after_another (get ds id) (kept_in from id) (get x id)
@@ -47,7 +47,7 @@ first_of_both : (e : Bool) (v : KeptDocument) (o p : Option KeptDocument) → op
 first_of_both true v o p = refl
 first_of_both false v o p = refl
 
--- what is kept with one more document
+-- the last document of an id after one more is added to the list
 pub last_more : (ds : List Document) (d : Document) (q : List ℕ) → last_kept (ds ++ d ∷ []) q ≡ cond (eq_by_cmp bytes_cmp q (id_bytes d)) (Some (kept_of d)) (last_kept ds q)
 last_more [] d q = refl
 last_more (x ∷ ds) d q =
@@ -65,7 +65,7 @@ left_step false v o p none = refl
 shown_get : (ds : List Document) (q : List ℕ) → get (kept_documents ds) q ≡ find bytes_cmp q (map kept_entry ds)
 shown_get ds q = get-from_entries nat_list_cmp_total (map kept_entry ds) q
 
--- a document that is lent is no longer left
+-- a document moves from those that are left to those that are lent; each id has the same document as before
 pub left_less : (d : Document) (rest all : List Document) (q : List ℕ) → Ascends (id_order id_bytes) (d ∷ rest)
     → option_or (get (kept_documents rest) q) (last_kept (all ++ d ∷ []) q) ≡ option_or (get (kept_documents (d ∷ rest)) q) (last_kept all q)
 left_less d rest all q h =
@@ -76,11 +76,11 @@ left_less d rest all q h =
     ∙ left_step e (kept_of d) o (last_kept all q) (λ tie. ap (λ x. find bytes_cmp x (map kept_entry rest)) (same_id q (id_bytes d) tie) ∙ absent_above d rest h.0)
     ∙ ap (λ x. option_or x (last_kept all q)) (sym (shown_get (d ∷ rest) q))
 
--- where none is left, all are lent
+-- if no document is left, all are lent
 pub none_left : (rest : List Document) (o : Option KeptDocument) (q : List ℕ) → rest ≡ [] → option_or (get (kept_documents rest) q) o ≡ o
 none_left rest o q none = ap (λ (ds : List Document). option_or (get (kept_documents ds) q) o) none ∙ ap (λ k. option_or k o) (get-empty bytes_cmp q)
 
--- the documents of one more shard
+-- after the documents of one more shard are added, each id has its document on these shards
 pub one_shard : (from : List KeptDocuments) (ds : KeptDocuments) (q : List ℕ) (before after : Option KeptDocument)
     → before ≡ kept_in from q → after ≡ option_or (get ds q) before → after ≡ kept_in (from ++ ds ∷ []) q
 one_shard from ds q before after was is = is ∙ ap (option_or (get ds q)) was ∙ sym (kept-more from ds q)
@@ -94,7 +94,7 @@ as_many place n [] (p ∷ places) h = absurd h
 as_many place n (d ∷ ds) [] h = absurd h
 as_many place n (d ∷ ds) (p ∷ places) h = ap suc (as_many place n ds places h.1)
 
--- a document has its place
+-- the k-th place is that of the k-th document
 place_at : (place : Placing) (n : ℕ) (ds : List Document) (places : List ℕ) (k : ℕ) (d : Document) (p : ℕ) → k < length ds → d ≡ get_or ds k d → p ≡ get_or places k p
     → ArePlaces place n ds places → p ≡ place (id_bytes d) n
 place_at place n [] places k d p l is at h = absurd (omega (arith, l))
@@ -102,7 +102,7 @@ place_at place n (x ∷ ds) [] k d p l is at h = absurd h
 place_at place n (x ∷ ds) (y ∷ places) zero d p l is at h = at ∙ h.0.0 ∙ ap (λ (z : Document). place (id_bytes z) n) (sym is)
 place_at place n (x ∷ ds) (y ∷ places) (suc k) d p l is at h = place_at place n ds places k d p (omega (arith, l)) is at h.1
 
--- the place of one more
+-- one more document with its place
 pub place_more : (place : Placing) (n : ℕ) (ds : List Document) (places : List ℕ) (d : Document) (p : ℕ) → ArePlaces place n ds places → IsPlace place n d p
     → ArePlaces place n (ds ++ d ∷ []) (places ++ p ∷ [])
 place_more place n [] [] d p h is = (is, tt)
@@ -110,7 +110,7 @@ place_more place n [] (y ∷ places) d p h is = absurd h
 place_more place n (x ∷ ds) [] d p h is = absurd h
 place_more place n (x ∷ ds) (y ∷ places) d p h is = (h.0, place_more place n ds places d p h.1 is)
 
--- documents one more of which is read
+-- the first k + 1 elements are the first k and the element k
 pub take_one : {A : Type 0} (xs : List A) (k : ℕ) (x : A) → k < length xs → x ≡ get_or xs k x → take (suc k) xs ≡ take k xs ++ x ∷ []
 take_one [] k x l e = absurd (omega (arith, l))
 take_one (y ∷ xs) zero x l e = ap (λ z. z ∷ []) (sym e)
@@ -119,7 +119,7 @@ take_one (y ∷ xs) (suc k) x l e = ap (λ zs. y ∷ zs) (take_one xs k x (omega
 some_kept : (d : KeptDocument) → None ≡ Some d → ⊥
 some_kept d e = cc
 
--- what is kept is placed on one of the shards
+-- the id of each document is placed on one of the n shards
 pub kept_placed : (place : Placing) (n : ℕ) (ds : List Document) (places : List ℕ) (q : List ℕ) (d : KeptDocument) → ArePlaces place n ds places → last_kept ds q ≡ Some d → place q n < n
 kept_placed place n [] places q d h e = absurd (some_kept d e)
 kept_placed place n (x ∷ ds) [] q d h e = absurd h
@@ -143,7 +143,7 @@ other_step : (e p : Bool) (v : KeptDocument) (o : Option KeptDocument) → (e �
 other_step true p v o is = ap (λ b. cond b o None) (is refl) ∙ sym (ap (λ b. cond b (Some v) None) (is refl))
 other_step false p v o is = refl
 
--- of the documents so far
+-- `KeepsThose` for the first k documents
 abbrev pub KeepsSoFar : List Document → List ℕ → ℕ → ℕ → KeptDocuments → Type 0
 KeepsSoFar ds places i k to =
     (place : Placing) (n : ℕ) → ArePlaces place n ds places → (id : List ℕ) → get to id ≡ cond (eqb (place id n) i) (last_kept (take k ds) id) None
@@ -159,7 +159,7 @@ module _ (ds : List Document) (places : List ℕ) (i k : ℕ) (d : Document) (p 
   taken : (q : List ℕ) → last_kept (take (suc k) ds) q ≡ cond (eq_by_cmp bytes_cmp q (id_bytes d)) (Some (kept_of d)) (last_kept (take k ds) q)
   taken q = ap (λ (xs : List Document). last_kept xs q) (take_one ds k d l is) ∙ last_more (take k ds) d q
 
-  -- one that is placed there
+  -- the next document is placed there
   pub keeps_more : (there new : List Document) → p ≡ i → new ≡ inserted (id_order id_bytes) d there → KeepsSoFar ds places i k (kept_documents there) → KeepsSoFar ds places i (suc k) (kept_documents new)
   keeps_more there new here put h place n are q =
       let e = eq_by_cmp bytes_cmp q (id_bytes d) in
@@ -171,7 +171,7 @@ module _ (ds : List Document) (places : List ℕ) (i k : ℕ) (d : Document) (p 
       (λ tie. eq-eqb (place q n) i (ap (λ z. place z n) (same_id q (id_bytes d) tie) ∙ sym (place_at place n ds places k d p l is at are) ∙ here))
       ∙ ap (λ o. cond b o None) (sym (taken q))
 
-  -- one that is placed elsewhere
+  -- the next document is placed elsewhere
   pub keeps_on : (there : List Document) → (p ≡ i → ⊥) → KeepsSoFar ds places i k (kept_documents there) → KeepsSoFar ds places i (suc k) (kept_documents there)
   keeps_on there apart h place n are q =
       let e = eq_by_cmp bytes_cmp q (id_bytes d) in
@@ -181,7 +181,7 @@ module _ (ds : List Document) (places : List ℕ) (i k : ℕ) (d : Document) (p 
       (λ tie. not_there (place q n) i (λ a. apart (place_at place n ds places k d p l is at are ∙ ap (λ z. place z n) (sym (same_id q (id_bytes d) tie)) ∙ a)))
       ∙ ap (λ o. cond b o None) (sym (taken q))
 
--- one more that is read
+-- a step of the loop of `documents_at`
 pub one_read : (ds : List Document) (places : List ℕ) (i k : ℕ) (d : Document) (p : ℕ) → k < length ds → d ≡ get_or ds k d → p ≡ get_or places k p
     → (there new : List Document) → (eqb p i ≡ true → new ≡ inserted (id_order id_bytes) d there) → (eqb p i ≡ false → new ≡ there)
     → KeepsSoFar ds places i k (kept_documents there) → KeepsSoFar ds places i (k + 1) (kept_documents new)
@@ -192,7 +192,7 @@ one_read ds places i k d p l is at there new here elsewhere h = subst (λ m. Kee
     go false e = subst (λ (xs : List Document). KeepsSoFar ds places i (suc k) (kept_documents xs)) (sym (elsewhere e))
         (keeps_on ds places i k d p l is at there (λ a. true≢false (sym (eq-eqb p i a) ∙ e)) h)
 
--- where all are read
+-- the end of that loop
 pub all_read : (ds : List Document) (places : List ℕ) (i k : ℕ) (to : KeptDocuments) → length ds ≤ k → KeepsSoFar ds places i k to → KeepsThose ds places i to
 all_read ds places i k to l h place n are id =
     h place n are id ∙ ap (λ (xs : List Document). cond (eqb (place id n) i) (last_kept xs id) None) (take_all k ds l)
@@ -204,7 +204,7 @@ get_mapped f [] i y e = absurd cc
 get_mapped f (x ∷ xs) zero y e = (x, refl, same_some (f x) y e)
 get_mapped f (x ∷ xs) (suc i) y e = get_mapped f xs i y e
 
--- so the documents are dealt
+-- if all new shards are made, the documents are dealt to them
 pub all_dealt : (place : Placing) (n : ℕ) (ds : List Document) (places : List ℕ) (definitions : List IndexDefinition) (from : List KeptDocuments) (new : List ShardView)
     → ((q : List ℕ) → last_kept ds q ≡ kept_in from q) → ArePlaces place n ds places → length new ≡ n → AreMade ds places definitions new → AreRedealt place from (documents_in new)
 all_dealt place n ds places definitions from new same are long made =
@@ -217,7 +217,7 @@ all_dealt place n ds places definitions from new same are long made =
           ∙ ap (λ o. cond (eqb (place id n) i) o None) (same id) ∙ ap (λ l. cond (eqb (place id l) i) (kept_in from id) None) (sym number);
     }
 
--- and one shard more is made
+-- one more shard is made
 pub one_made : (ds : List Document) (places : List ℕ) (definitions : List IndexDefinition) (shards : List ShardView) (i : ℕ) (s : ShardView) → length shards ≡ i
     → AreMade ds places definitions shards → IsMade ds places definitions i s → AreMade ds places definitions (shards ++ s ∷ [])
 one_made ds places definitions shards i s long all one =
@@ -230,7 +230,7 @@ one_made ds places definitions shards i s long all one =
     snoc_at P (y ∷ ys) a all here zero x e = all zero x e
     snoc_at P (y ∷ ys) a all here (suc i) x e = snoc_at (λ k z. P (suc k) z) ys a (λ k z f. all (suc k) z f) here i x e
 
--- shards that are made have these definitions
+-- all shards that are made have these definitions
 pub made_definitions : (ds : List Document) (places : List ℕ) (definitions : List IndexDefinition) (shards : List ShardView) → AreMade ds places definitions shards
     → All (λ s. s.definitions ≡ definitions) shards
 made_definitions ds places definitions shards made k d l = (made k (slice_index_or shards k d) (slice_get-get_or shards k d l)).indexes
@@ -269,7 +269,7 @@ kept_once (s ∷ shards) (suc p) id h =
     ∙ none_after (kept_in (documents_in shards) id)
     ∙ kept_once shards p id (λ j x e apart. h (suc j) x e (λ a. apart (omega (arith, a))))
 
--- what any of the shards keeps of an id stands for its history
+-- the document that the shards keep of an id stands for its history
 kept_stands : (place : Placing) (shards : List ShardView) (hs : Histories) (id : List ℕ) → ShardsStandFor place shards hs → StandsAt id (kept_in (documents_in shards) id) (get hs id)
 kept_stands place shards hs id st =
     subst (λ (k : Option KeptDocument). StandsAt id k (get hs id))
@@ -306,7 +306,7 @@ each_of_all P [] h k d l = absurd (omega (arith, l))
 each_of_all P (x ∷ xs) h zero d l = h.0
 each_of_all P (x ∷ xs) h (suc k) d l = each_of_all P xs h.1 k d (omega (arith, l))
 
--- the documents of one more shard
+-- the documents of the first i + 1 shards are those of the first i and of the shard i
 pub documents_more : (shards : List (Arc ShardView Global)) (i : ℕ) (s : Arc ShardView Global) → i < length shards → s ≡ get_or shards i s
     → documents_in (shards_seen (take (suc i) shards)) ≡ documents_in (shards_seen (take i shards)) ++ (arc_value s).documents ∷ []
 documents_more [] i s l e = absurd (omega arith)
@@ -315,7 +315,7 @@ documents_more (x ∷ shards) (suc i) s l e = ap (λ ms. (arc_value x).documents
 
 -- ---- definitions
 
--- the definitions of the first shard are those that all have
+-- if all shards have the same definitions, the first shard has them
 pub first_definitions : (shards : List ShardView) (ds those : List IndexDefinition) → ((s : ShardView) → slice_get shards 0 ≡ Some s → those ≡ s.definitions) → 0 < length shards
     → All (λ s. s.definitions ≡ ds) shards → those ≡ ds
 first_definitions [] ds those first l all = absurd (omega (arith, l))

@@ -1,4 +1,4 @@
--- Rows of an index: a list in order without ties is known by the rows that stand in it, and which these are is known id by id.
+-- Rows of an index: a sorted list without ties is determined by which rows it contains, and that is determined id by id.
 use lib.Dec.{T}
 use Rattle.std.proofs.Common.{◌≡◌, ℕ, ◌+◌, ◌≤◌, Bool, true, false, ◌&&◌, List, [], ◌∷◌, ◌++◌, Ordering, Less, Equal, Greater, Option, Some, None, option_map, option_and_then, cond, is_eq, is_lt, is_gt, refl, ap, ap₂, sym, subst, ◌∙◌, arith}
 use Rattle.std.proofs.lemmas.Cmp.{nat_list_cmp_total, tied_itself}
@@ -26,7 +26,7 @@ use Rattle.mg_shard.proofs.Standing.{same_id, tied}
 abbrev pub count : RowValue → List RowValue → ℕ
 count z rows = times row_value_order z rows
 
--- how often a row stands in what may be a row
+-- how often a row occurs in an optional row: 0 or 1
 abbrev pub count_one : RowValue → Option RowValue → ℕ
 count_one z None = 0
 count_one z (Some r) = cond (is_eq (row_value_order z r)) 1 0
@@ -44,7 +44,7 @@ pub count-append : (z : RowValue) (rows more : List RowValue) → count z (rows 
 count-append z [] more = omega arith
 count-append z (r ∷ rows) more = let e = count-append z rows more in let f = count-cons z r (rows ++ more) in let g = count-cons z r rows in omega (arith, e, f, g)
 
--- a row that ties with itself alone
+-- rows that tie pass the same tests, since they are equal
 same_where : (p : RowValue → Bool) (z r : RowValue) → is_eq (row_value_order z r) ≡ true → p r ≡ p z
 same_where p z r e = ap p (sym (same_rows z r (tied (row_value_order z r) e)))
 
@@ -61,7 +61,7 @@ nothing : (b : Bool) → ◌≡◌ {A = ℕ} 0 (cond b 0 0)
 nothing true = refl
 nothing false = refl
 
--- how often a row stands among those that pass a test
+-- how often a row occurs among those that pass a test
 count-where : (p : RowValue → Bool) (z : RowValue) (rows : List RowValue) → count z (filter p rows) ≡ cond (p z) (count z rows) 0
 count-where p z [] = nothing (p z)
 count-where p z (r ∷ rows) = where_step (is_eq (row_value_order z r)) (p r) (p z) z r (filter p rows) (count z rows) refl (same_where p z r) (count-where p z rows)
@@ -71,7 +71,7 @@ placed Less n = omega arith
 placed Equal n = refl
 placed Greater n = omega arith
 
--- a row that is put among others stands there once
+-- a row occurs once after it is inserted; the others occur as often as before
 pub count-inserted : (z r : RowValue) (rows : List RowValue) → count z (inserted row_value_order r rows) ≡ cond (is_eq (row_value_order z r)) 1 (count z rows)
 count-inserted z r rows =
     let turned : row_value_order z r ≡ ordering_reverse (row_value_order r z) = row_value_order_total.antisymm z r in
@@ -87,7 +87,7 @@ taken Less n = omega arith
 taken Equal n = refl
 taken Greater n = omega arith
 
--- a row that is taken out does not stand there any more
+-- a row does not occur after it is removed; the others occur as often as before
 pub count-removed : (z r : RowValue) (rows : List RowValue) → count z (removed (row_value_order r) rows) ≡ cond (is_eq (row_value_order z r)) 0 (count z rows)
 count-removed z r rows =
     let turned : row_value_order z r ≡ ordering_reverse (row_value_order r z) = row_value_order_total.antisymm z r in
@@ -100,14 +100,14 @@ none_below : (r : RowValue) (rows : List RowValue) → AllByRecursion (λ x. row
 none_below r [] h = tt
 none_below r (x ∷ rows) h = (ap is_gt h.0, none_below r rows h.1)
 
--- rows each of which is below all that come after it are in order
+-- rows that ascend are sorted
 pub ascends_rises : (rows : List RowValue) → Ascends row_value_order rows → Rises row_value_order rows
 ascends_rises [] h = tt
 ascends_rises (r ∷ rows) h = (none_below r rows h.0, ascends_rises rows h.1)
 
 -- ---- the rows of documents
 
--- the row of what is kept of an id, if it has one
+-- the row of the kept document of an id, if it has one
 abbrev pub row_at : List Steps → List ℕ → Option KeptDocument → Option RowValue
 row_at columns id None = None
 row_at columns id (Some d) = option_and_then (row_of columns) (doc_entry (id, d))
@@ -130,7 +130,7 @@ find_step Less b v o h rest = rest h
 find_step Equal b v o h rest = absurd h
 find_step Greater b v o h rest = absurd h
 
--- an id below all others is none of them
+-- an id below all ids is not among them
 find_below : (id : List ℕ) (es : List (List ℕ × KeptDocument)) → T (below_all bytes_cmp id es) → find bytes_cmp id es ≡ None
 find_below id [] h = refl
 find_below id (e ∷ es) h = find_step (bytes_cmp id e.0) (below_all bytes_cmp id es) e.1 (find bytes_cmp id es) h (find_below id es)
@@ -151,7 +151,7 @@ other_form : (columns : List Steps) (z : RowValue) (id : List ℕ) (o : Option V
 other_form columns z id None apart = refl
 other_form columns z id (Some form) apart = other_key z id (row_key columns form) apart
 
--- a row of another id is not there
+-- a row with another id is not the document's row
 other_id : (columns : List Steps) (z : RowValue) (id : List ℕ) (o : Option KeptDocument) → eq_by_cmp bytes_cmp z.1 id ≡ false → count_one z (row_at columns id o) ≡ 0
 other_id columns z id None apart = refl
 other_id columns z id (Some d) apart = other_form columns z id d.1 apart
@@ -186,7 +186,7 @@ pub count-unsorted : (columns : List Steps) (z : RowValue) (ds : KeptDocuments) 
 count-unsorted columns z ds =
     count-entries columns z (entries ds) (entries_sorted ds) ∙ ap (λ o. count_one z (row_at columns z.1 o)) (sym (get-entries ds z.1))
 
--- which rows stand in an index is known id by id
+-- a row occurs in an index exactly if it is the row of the document of its id
 pub count-rows : (columns : List Steps) (z : RowValue) (ds : KeptDocuments) → count z (rows_of columns (docs_of ds)) ≡ count_one z (row_at columns z.1 (get ds z.1))
 count-rows columns z ds =
     let unsorted = filter_map (row_of columns) (docs_of ds) in
@@ -233,7 +233,7 @@ mended_at columns z id k d o false is same =
     unchanged (is_row z (row_at columns id (Some k))) (is_row z (row_at columns id d)) (count_one z (row_at columns z.1 o))
     (sym (count_one-is z (row_at columns id (Some k))) ∙ other_id columns z id (Some k) is) (sym (count_one-is z (row_at columns id d)) ∙ other_id columns z id d is)
 
--- where a document changes, the row that it had gives way to the one that it has
+-- after a document changes, the index with its old row removed and its new row inserted is the index made from scratch
 pub rows_mended : (columns : List Steps) (ds : KeptDocuments) (id : List ℕ) (k : KeptDocument) (rows new : List RowValue) → rows ≡ rows_of columns (docs_of ds) → Rises row_value_order new
     → new ≡ with_row (row_at columns id (Some k)) (without_row (row_at columns id (get ds id)) rows) → new ≡ rows_of columns (docs_of (insert ds id k))
 rows_mended columns ds id k rows new were rises is =
@@ -254,7 +254,7 @@ left_at columns z id k d o true is same kept =
     ap₂ (λ i p. count_one z (row_at columns i p)) here (same refl) ∙ ap (count_one z) kept ∙ ap (λ i. count_one z (row_at columns i (Some k))) (sym here)
 left_at columns z id k d o false is same kept = refl
 
--- where a document changes and its row does not, the rows are left
+-- if a document changes and its row does not, the rows stay as they are
 pub rows_left : (columns : List Steps) (ds : KeptDocuments) (id : List ℕ) (k : KeptDocument) (rows : List RowValue) → rows ≡ rows_of columns (docs_of ds)
     → row_at columns id (get ds id) ≡ row_at columns id (Some k) → rows ≡ rows_of columns (docs_of (insert ds id k))
 rows_left columns ds id k rows were kept =
@@ -265,7 +265,7 @@ rows_left columns ds id k rows were kept =
     ∙ ap (λ o. count_one z (row_at columns z.1 o)) (sym (get-insert nat_list_cmp_total ds id k z.1))
     ∙ sym (count-rows columns z (insert ds id k)))
 
--- ---- rows that stand at most once
+-- ---- rows that occur at most once
 
 few_at : (b : Bool) → cond b 1 0 ≤ 1
 few_at true = omega arith
@@ -278,13 +278,13 @@ few z (Some r) n e = let at = few_at (is_eq (row_value_order z r)) in omega (ari
 pub at_most_once : (columns : List Steps) (z : RowValue) (ds : KeptDocuments) → count z (filter_map (row_of columns) (docs_of ds)) ≤ 1
 at_most_once columns z ds = few z (row_at columns z.1 (get ds z.1)) (count z (filter_map (row_of columns) (docs_of ds))) (count-unsorted columns z ds)
 
--- rows in order among which each stands as often as among others are those, sorted
+-- a sorted list in which each row occurs as often as in another list is that list, sorted
 pub sorted_is : (rows all : List RowValue) → Rises row_value_order rows → ((z : RowValue) → count z rows ≡ count z all) → rows ≡ sorted row_value_order all
 sorted_is rows all rises same =
     same_list row_value_order row_value_order_total same_rows rows (sorted row_value_order all) rises (rises_sorted row_value_order row_value_order_total all)
     (λ z. same z ∙ sym (times_permutation row_value_order z all (sorted row_value_order all) (permutation_sorted row_value_order all)))
 
--- the row of the form that is kept
+-- the row of a kept document is that of its form
 pub own_at : (columns : List Steps) (id : List ℕ) (o : Option KeptDocument) → own_row columns id (option_and_then (λ d. d.1) o) ≡ row_at columns id o
 own_at columns id None = refl
 own_at columns id (Some d) = refl
@@ -307,7 +307,7 @@ rises_where {X} order p (x ∷ xs) h = step (p x) (rises_where order p xs h.1)
     step true k = (all_where (λ y. is_gt (order x y) ≡ false) p xs h.0, k)
     step false k = k
 
--- to sort some of the rows is to leave out the others of the sorted ones
+-- rows may be left out before or after the sort
 pub sorted-where : (p : RowValue → Bool) (rows : List RowValue) → sorted row_value_order (filter p rows) ≡ filter p (sorted row_value_order rows)
 sorted-where p rows =
     sym (sorted_is (filter p (sorted row_value_order rows)) (filter p rows) (rises_where row_value_order p (sorted row_value_order rows) (rises_sorted row_value_order row_value_order_total rows))
@@ -316,16 +316,16 @@ sorted-where p rows =
 
 -- ---- rows that are sorted
 
--- what is in order and has the same rows is the list sorted
+-- a sorted permutation of a list is that list, sorted
 pub put_in_order : (old new : List RowValue) → IsPermutation old new → IsSorted row_value_order new → new ≡ sorted row_value_order old
 put_in_order old new same order =
     sorted_is new old (rises row_value_order row_value_order_total new order) (λ z.
     let counted = is_count_by (λ (rows : List RowValue). count z rows) (λ r. is_eq (row_value_order z r)) refl (λ _ _. refl) in
     counted new ∙ sum_by-IsPermutation (λ r. cond (is_eq (row_value_order z r)) 1 0) old new same ∙ sym (counted old))
 
--- ---- rows in order of which each stands once
+-- ---- sorted rows that occur once each
 
--- a row that is above none, and ties with none, is below
+-- a row that is not above another, nor ties with it, is below it
 strictly : (o : Ordering) (n : ℕ) → is_gt o ≡ false → cond (is_eq o) (1 + n) n ≡ 0 → (o ≡ Less) × (n ≡ 0)
 strictly Less n h e = (refl, e)
 strictly Equal n h e = absurd (omega (arith, e))
@@ -347,7 +347,7 @@ rises_strictly (r ∷ rows) h once = (
   rises_strictly rows h.1 (λ z. let all = once z in let one = count-cons z r rows in omega (arith, all, one)),
 )
 
--- rows that stand once each ascend when they are sorted
+-- rows that occur once each ascend once they are sorted
 pub sorted_ascends : (old new : List RowValue) → new ≡ sorted row_value_order old → ((z : RowValue) → count z old ≤ 1) → Ascends row_value_order new
 sorted_ascends old new is once =
     rises_strictly new (subst (Rises row_value_order) (sym is) (rises_sorted row_value_order row_value_order_total old)) (λ z.

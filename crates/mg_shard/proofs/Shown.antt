@@ -1,4 +1,4 @@
--- Documents in the order of their ids beside the finite map that they are seen as.
+-- A list of documents in the order of their ids, and the finite map that contracts see of it.
 use lib.Dec.{T}
 use Rattle.std.proofs.Common.{◌≡◌, ℕ, Bool, true, false, ◌&&◌, List, [], ◌∷◌, ◌++◌, Ordering, Less, Equal, Greater, Option, Some, None, option_map, map, cond, nat_cmp, is_eq, is_lt, is_gt, refl, ap, ap₂, sym, ◌∙◌}
 use Rattle.std.proofs.lemmas.Cmp.{nat_list_cmp_total}
@@ -10,7 +10,7 @@ use Rattle.std.specs.FinMap.Entries.{below_all, where_key, find-where_key}
 use Rattle.std.specs.FinMap.{IsAntisymmetric, entries, entries-from_sorted, find, from_sorted, get, get-from_entries, get-from_sorted, get-insert, insert, is_sorted, nat_cmp-IsAntisymmetric, same_map, slice_cmp-IsAntisymmetric}
 use Rattle.mg_pages.specs.Identified.{id_against, id_order}
 use Rattle.mg_pages.specs.Order.{Ascends, above, below, first_of_list, found, inserted}
-use Rattle.mg_shard.specs.Documents.{KeptDocument, doc_entry, docs_of, kept_entry, id_bytes, kept_of, served_docs, kept_documents}
+use Rattle.mg_shard.specs.Documents.{KeptDocument, doc_entry, docs_of, kept_entry, id_bytes, kept_of, docs_in, kept_documents}
 use Rattle.mg_shard.specs.declared.document.Document.{Document}
 
 abbrev pub bytes_cmp : List ℕ → List ℕ → Ordering
@@ -30,7 +30,7 @@ find-found : (q : List ℕ) (ds : List Document) → option_map kept_of (found (
 find-found q [] = refl
 find-found q (d ∷ ds) = found_step (is_eq (bytes_cmp q (id_bytes d))) d (filter (λ x. is_eq (id_against id_bytes q x)) ds) (find bytes_cmp q (map kept_entry ds)) (find-found q ds)
 
--- what is found among the documents is what the map has
+-- a look-up in the list finds what the map has
 pub get-kept_documents : (q : List ℕ) (ds : List Document) → option_map kept_of (found (id_against id_bytes q) ds) ≡ get (kept_documents ds) q
 get-kept_documents q ds = find-found q ds ∙ sym (get-from_entries nat_list_cmp_total (map kept_entry ds) q)
 
@@ -76,13 +76,13 @@ find-inserted q d ds =
     ∙ placed (bytes_cmp k q) (kept_of d) o
     ∙ ap (λ r. cond (is_eq r) (Some (kept_of d)) o) (sym turned)
 
--- a document that is put among the others is inserted under its id
+-- a document that is inserted into the list is inserted into the map under its id
 pub kept_documents-inserted : (d : Document) (ds : List Document) → kept_documents (inserted (id_order id_bytes) d ds) ≡ insert (kept_documents ds) (id_bytes d) (kept_of d)
 kept_documents-inserted d ds = same_map nat_list_cmp_total bytes_exact _ _ (λ q.
     get-from_entries nat_list_cmp_total (map kept_entry (inserted (id_order id_bytes) d ds)) q ∙ find-inserted q d ds
     ∙ sym (get-insert nat_list_cmp_total (kept_documents ds) (id_bytes d) (kept_of d) q ∙ ap (cond (eq_by_cmp bytes_cmp q (id_bytes d)) (Some (kept_of d))) (get-from_entries nat_list_cmp_total (map kept_entry ds) q)))
 
--- ---- all of them
+-- ---- all documents
 
 below_shown : (d : Document) (ds : List Document) → AllByRecursion (λ y. id_order id_bytes d y ≡ Less) ds → T (below_all bytes_cmp (id_bytes d) (map kept_entry ds))
 below_shown d [] h = tt
@@ -104,10 +104,10 @@ entries-kept_documents ds h =
     get-from_entries nat_list_cmp_total _ q ∙ sym (get-from_sorted bytes_cmp (map kept_entry ds) q sorted)))
     ∙ entries-from_sorted bytes_cmp (map kept_entry ds) sorted
 
-served_all : (ds : List Document) → filter_map doc_entry (map kept_entry ds) ≡ served_docs ds
+served_all : (ds : List Document) → filter_map doc_entry (map kept_entry ds) ≡ docs_in ds
 served_all [] = refl
 served_all (d ∷ ds) = rw (served_all ds)
 
--- the served ones among the documents, in order, are those of the map
-pub docs-kept_documents : (ds : List Document) → Ascends (id_order id_bytes) ds → served_docs ds ≡ docs_of (kept_documents ds)
+-- the served documents of the list are those of the map
+pub docs-kept_documents : (ds : List Document) → Ascends (id_order id_bytes) ds → docs_in ds ≡ docs_of (kept_documents ds)
 docs-kept_documents ds h = sym (served_all ds) ∙ ap (filter_map doc_entry) (sym (entries-kept_documents ds h))

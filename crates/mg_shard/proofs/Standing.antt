@@ -1,4 +1,4 @@
--- Documents that stand for histories: look-ups, insertions, and what is served of all.
+-- Documents that stand for histories: look-ups, insertions, and the served documents.
 use lib.Dec.{T}
 use Rattle.std.proofs.Common.{◌≡◌, ℕ, Bool, true, false, ◌&&◌, List, [], ◌∷◌, Ordering, Less, Equal, Greater, Option, Some, None, option_and_then, option_map, unwrap_or, map, cond, arith, refl, ap, sym, ◌∙◌, subst, is_eq, is_lt}
 use Rattle.std.proofs.lemmas.Cmp.{nat_list_cmp_total}
@@ -31,7 +31,7 @@ absent id (Some c) o e st = absurd cc
 pub tree_there : (ds : KeptDocuments) (hs : Histories) (id : List ℕ) (t : Tree) → tree_at ds id ≡ Some t → StandsAt id (get ds id) (get hs id) → StandsFor t (history_at hs id)
 tree_there ds hs id t e st = there id t (get ds id) (get hs id) e st
 
--- where there is no document, there is no history
+-- an id without a document has no history
 pub tree_absent : (ds : KeptDocuments) (hs : Histories) (id : List ℕ) → tree_at ds id ≡ None → StandsAt id (get ds id) (get hs id) → history_at hs id ≡ []
 tree_absent ds hs id e st = absent id (get ds id) (get hs id) e st
 
@@ -40,7 +40,7 @@ neither id None None e f = tt
 neither id None (Some h) e f = absurd cc
 neither id (Some d) o e f = absurd cc
 
--- no document stands for no history
+-- no documents stand for no histories
 pub stand_empty : StandFor empty empty
 stand_empty q = neither q (get empty q) (get empty q) (get-empty bytes_cmp q) (get-empty bytes_cmp q)
 
@@ -51,11 +51,11 @@ tied Less e = absurd (subst T (sym e) tt)
 tied Equal e = refl
 tied Greater e = absurd (subst T (sym e) tt)
 
--- ids that tie are one
+-- ids that tie are equal
 pub same_id : (q id : List ℕ) → eq_by_cmp bytes_cmp q id ≡ true → q ≡ id
 same_id q id e = bytes_exact q id (tied (bytes_cmp q id) e)
 
--- ---- what is served of all
+-- ---- the served documents
 
 module _ {X Y : Type 0} (f : List ℕ → X → Y) where
   abbrev seen : List (List ℕ × X) → List (List ℕ × Y)
@@ -79,7 +79,7 @@ module _ {X Y : Type 0} (f : List ℕ → X → Y) where
       ap (cond (eq_by_cmp bytes_cmp q e.0) (Some (f e.0 e.1))) (find_seen q es)
       ∙ out (eq_by_cmp bytes_cmp q e.0) q e.0 e.1 (find bytes_cmp q es) (same_id q e.0)
 
-  -- the map with each value's image in its place
+  -- the map with f applied to each id and value
   image : FinMap bytes_cmp X → FinMap bytes_cmp Y
   image m = from_sorted (seen (entries m))
 
@@ -122,11 +122,11 @@ docs_served : (es : List (List ℕ × Paths)) → filter_map served_entry es ≡
 docs_served [] = refl
 docs_served (e ∷ es) = rw (docs_served es)
 
--- the documents that are kept to be served are those that are served
+-- the served ones among the documents are the served documents of the histories
 pub same_docs : (ds : KeptDocuments) (hs : Histories) → StandFor ds hs → docs_of ds ≡ served_documents hs
 same_docs ds hs st = docs_kept (entries ds) ∙ ap (filter_map formed) (same_forms ds hs st) ∙ sym (docs_served (entries hs))
 
--- ---- histories for which one tree stands
+-- ---- two histories for which one tree stands
 
 winner_same : (h g : Paths) (ls : List Leaf) → AreLeaves h ls → AreLeaves g ls → winner_of h ≡ winner_of g
 winner_same h g [] p q = none_wins h [] refl p ∙ sym (none_wins g [] refl q)

@@ -1,4 +1,4 @@
--- Documents that are lent, and the shards that threads give, put together.
+-- Lists of lent documents, and the shards that threads make, in a list.
 use denote.Ref.{Bor}
 use Rattle.std.proofs.lemmas.List.{length-map}
 use Rattle.std.proofs.lemmas.Option.{get_or_from_slice_get, slice_get-map, slice_get_within}
@@ -32,7 +32,7 @@ read_alike (p ∷ ps) (suc k) a b l = read_alike ps k a b (omega (arith, l))
 ok_at : (ss : List ShardView) (i : ℕ) (s : ShardView) → slice_get ss i ≡ Some s → slice_get (map {B = Result ShardView NoMemory} Ok ss) i ≡ Some (Ok s)
 ok_at ss i s e = slice_get-map Ok ss i ∙ ap (option_map Ok) e
 
--- what threads gave is a shard for each number, where memory was refused to none
+-- if no thread was refused memory, there is a shard for each number
 pub shards_together : (P : ℕ → ShardView → Type 0) (n : ℕ) (rs : List (Result ShardView NoMemory)) (ss : List ShardView) → length rs ≡ n
     → ((i : ℕ) (r : Result ShardView NoMemory) → i < n → IfOk (get_or rs i r) (P i)) → rs ≡ map Ok ss
     → (length ss ≡ n) × ((i : ℕ) (s : ShardView) → slice_get ss i ≡ Some s → P i s)
@@ -44,7 +44,7 @@ shards_together P n rs ss long each all = (sym (length-map ss Ok) ∙ sym (ap le
         let less : i < n = subst (λ m. i < m) long (slice_get_within rs i (Ok s) there) in
         subst (λ r. IfOk r (P i)) (get_or_from_slice_get rs i (Ok s) (Ok s) there) (each i (Ok s) less)
 
--- one more
+-- one more result, which is a shard, moves to the shards
 pub one_given : (ss : List ShardView) (s : ShardView) (r : Result ShardView NoMemory) (rest : List (Result ShardView NoMemory)) → r ≡ Ok s
     → map Ok ss ++ r ∷ rest ≡ map Ok (ss ++ s ∷ []) ++ rest
 one_given [] s r rest e = ap (λ x. x ∷ rest) e

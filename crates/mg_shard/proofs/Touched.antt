@@ -1,4 +1,4 @@
--- Trees that a bulk has touched, and the histories for which they stand beside the documents.
+-- Trees that a bulk has touched, and the histories for which they stand together with the documents.
 use Rattle.std.proofs.Common.{◌≡◌, ℕ, zero, suc, ◌<◌, Bool, true, false, List, [], ◌∷◌, Ok, Err, Result, String, Global, Option, Some, None, option_map, unwrap_or, is_ok, map, length, cond, string_bytes, string_cmp, is_eq, refl, ap, sym, ◌∙◌, subst, arith}
 use Rattle.std.proofs.lemmas.Cmp.{nat_list_cmp_total, eq_by_cmp_equiv, tied_itself}
 use Rattle.std.proofs.lemmas.Map.Text.{btree_map_updates_text, is_eq-slice_cmp}
@@ -30,13 +30,13 @@ use Rattle.mg_shard.proofs.Standing.{same_id, still_stands, tree_absent, tree_th
 abbrev pub TreeMap : Type 0
 TreeMap = BTreeMap (String Global) Tree
 
--- ---- the map of the code
+-- ---- the code's map of touched trees
 
 find-trees : (q : List ℕ) (es : List (String Global × Tree)) → lookup (is_at (λ k. bytes_cmp q (string_bytes k))) es ≡ find bytes_cmp q (map (λ e. (string_bytes e.0, e.1)) es)
 find-trees q [] = refl
 find-trees q (e ∷ es) = ap (cond (is_eq (bytes_cmp q (string_bytes e.0))) (Some e.1)) (find-trees q es)
 
--- a look-up in the map of the code
+-- a look-up in that map
 pub get-touched : (m : TreeMap) (q : List ℕ) → get_by_text m q ≡ get (touched_of m.entries) q
 get-touched m q = find-trees q m.entries ∙ sym (get-from_entries nat_list_cmp_total _ q)
 
@@ -50,7 +50,7 @@ get-updated m n id w u q =
     sym (get-touched n q) ∙ btree_map_updates_text id m n w u q
     ∙ ap (λ b. cond b w (get_by_text m q)) (same_test id q) ∙ ap (cond (eq_by_cmp bytes_cmp q id) w) (get-touched m q)
 
--- a tree that is put under an id is inserted
+-- a change that puts a tree at an id is an insertion
 pub touched-put : (m n : TreeMap) (id : List ℕ) (t : Tree) → UpdatesBy string_cmp (λ k. slice_cmp nat_cmp id (string_bytes k)) m n (Some t)
     → touched_of n.entries ≡ insert (touched_of m.entries) id t
 touched-put m n id t u = same_map nat_list_cmp_total bytes_exact _ _ (λ q. get-updated m n id (Some t) u q ∙ sym (get-insert nat_list_cmp_total (touched_of m.entries) id t q))
@@ -65,24 +65,24 @@ kept_history h e (Err y) x is = refl
 pub refused_leaves : (h : Paths) (e : Edit) (x : EditRefusal) → outcome_of h e ≡ Err x → edited h e ≡ h
 refused_leaves h e x is = kept_history h e (accepted_by h e) x is
 
--- an edit that is done
+-- the histories after an edit that is done
 pub after_done : (hs : Histories) (e : Edit) (r : Revision) → outcome_in hs e ≡ Ok r → after_edit hs e ≡ insert hs (id_in e) (edited (history_at hs (id_in e)) e)
 after_done hs e r is = ap (history_put hs e) is
 
--- an edit that is refused
+-- the histories after an edit that is refused
 pub after_refused : (hs : Histories) (e : Edit) (x : EditRefusal) → outcome_in hs e ≡ Err x → after_edit hs e ≡ hs
 after_refused hs e x is = ap (history_put hs e) is
 
 -- ---- drafts
 
--- where nothing is touched, the documents stand
+-- if nothing is touched, the documents stand for the histories
 pub untouched : (ds : KeptDocuments) (hs : Histories) → StandFor ds hs → TouchedStandFor ds empty hs
 untouched ds hs st q = subst (λ (t : Option Tree). DraftAt q t (get ds q) (get hs q)) (sym (get-empty bytes_cmp q)) (st q)
 
 pub all_kept : (ds : KeptDocuments) (ts : Trees) (hs : Histories) → ts ≡ empty → TouchedStandFor ds ts hs → StandFor ds hs
 all_kept ds ts hs none st q = subst (λ (t : Option Tree). DraftAt q t (get ds q) (get hs q)) (ap (λ m. get m q) none ∙ get-empty bytes_cmp q) (st q)
 
--- the document of an id that is not touched
+-- the document of an id that is not touched stands for the id's history
 pub document_at : (ds : KeptDocuments) (ts : Trees) (hs : Histories) (id : List ℕ) → get ts id ≡ None → TouchedStandFor ds ts hs → StandsAt id (get ds id) (get hs id)
 document_at ds ts hs id none st = subst (λ (t : Option Tree). DraftAt id t (get ds id) (get hs id)) none (st id)
 
@@ -107,7 +107,7 @@ refused_at : (b : Bool) (q : List ℕ) (t : Tree) (h : Paths) (ot : Option Tree)
 refused_at true q t h ot kept o is s st = subst (λ (p : Option Paths). DraftAt q (Some t) kept p) (sym (is refl)) s
 refused_at false q t h ot kept o is s st = st
 
--- the tree that an edit leaves is kept among the touched ones. A refused edit left its history, if there was one
+-- the tree after an edit is put among the touched ones. A refused edit has to have had a history there, which it leaves
 pub edit_kept : (ds : KeptDocuments) (ts us : Trees) (hs : Histories) (e : Edit) (t : Tree) (r : Result Revision EditRefusal) → outcome_in hs e ≡ r
     → ((x : EditRefusal) → r ≡ Err x → (h : Paths) × (get hs (id_in e) ≡ Some h))
     → ((q : List ℕ) → get us q ≡ cond (eq_by_cmp bytes_cmp q (id_in e)) (Some t) (get ts q))
@@ -142,7 +142,7 @@ kept_at true q id t d ot kept o at is same served st =
     (subst (λ (x : Tree). StandsFor x had.0) (sym same) had.2, served had.0 had.2 ∙ ap (λ i. served_of i had.0) (sym (at refl)))
 kept_at false q id t d ot kept o at is same served st = st
 
--- a touched tree is kept as its document
+-- a touched tree becomes a document of the shard, and is no longer among the touched ones
 pub tree_kept : (ds cs : KeptDocuments) (ts us : Trees) (hs : Histories) (id : List ℕ) (t : Tree) (d : KeptDocument) → get ts id ≡ Some t → d.0 ≡ t
     → ((h : Paths) → StandsFor t h → d.1 ≡ served_of id h) → cs ≡ insert ds id d
     → ((q : List ℕ) → get us q ≡ cond (eq_by_cmp bytes_cmp q id) None (get ts q)) → TouchedStandFor ds ts hs → TouchedStandFor cs us hs
@@ -154,16 +154,16 @@ tree_kept ds cs ts us hs id t d is same served put at st q =
 
 -- ---- for the steps of a bulk
 
--- what was taken out is not there any more
+-- a tree that was taken out is no longer there
 pub touched_out : (m n : TreeMap) (id : List ℕ) → UpdatesBy string_cmp (λ k. slice_cmp nat_cmp id (string_bytes k)) m n None → get (touched_of n.entries) id ≡ None
 touched_out m n id u = get-updated m n id None u id ∙ ap (λ r. cond (is_eq r) None (get (touched_of m.entries) id)) (tied_itself nat_list_cmp_total id)
 
--- no trees
+-- an empty list of touched trees
 pub touched_none : (es : List (String Global × Tree)) → length es ≡ 0 → touched_of es ≡ empty
 touched_none [] e = refl
 touched_none (x ∷ es) e = absurd (omega arith)
 
--- a refused edit leaves all as it was
+-- after a refused edit the same trees stand
 pub refused_stands : (ds : KeptDocuments) (ts : Trees) (hs : Histories) (e : Edit) (r : Result Revision EditRefusal) → r ≡ outcome_in hs e → is_ok r ≡ false → TouchedStandFor ds ts hs → TouchedStandFor ds ts (after_edit hs e)
 refused_stands ds ts hs e (Ok r) is not st = absurd cc
 refused_stands ds ts hs e (Err x) is not st = subst (λ m. TouchedStandFor ds ts m) (sym (after_refused hs e x (sym is))) st
@@ -172,13 +172,13 @@ not_refused : (r : Result Revision EditRefusal) (x : EditRefusal) → is_ok r �
 not_refused (Ok r) x is e = absurd cc
 not_refused (Err y) x is e = absurd cc
 
--- the first edit of a document that is done keeps the tree that it leaves
+-- the first edit of a document, if it is done, puts its tree among the touched ones
 pub first_kept : (ds : KeptDocuments) (ts us : Trees) (hs : Histories) (e : Edit) (t : Tree) (r : Result Revision EditRefusal) → r ≡ outcome_in hs e → is_ok r ≡ true
     → us ≡ insert ts (id_in e) t → StandsFor t (edited (history_at hs (id_in e)) e) → TouchedStandFor ds ts hs → TouchedStandFor ds us (after_edit hs e)
 first_kept ds ts us hs e t r is done put s st =
     edit_kept ds ts us hs e t r (sym is) (λ x refused. absurd (not_refused r x done refused)) (λ q. ap (λ m. get m q) put ∙ get-insert nat_list_cmp_total ts (id_in e) t q) s st
 
--- a further edit keeps the tree that it leaves
+-- a further edit of a document replaces its touched tree
 pub next_kept : (ds : KeptDocuments) (ts out us : Trees) (hs : Histories) (e : Edit) (tree t : Tree) → get ts (id_in e) ≡ Some tree
     → ((q : List ℕ) → get out q ≡ cond (eq_by_cmp bytes_cmp q (id_in e)) None (get ts q)) → us ≡ insert out (id_in e) t
     → StandsFor t (edited (history_at hs (id_in e)) e) → TouchedStandFor ds ts hs → TouchedStandFor ds us (after_edit hs e)
@@ -187,12 +187,12 @@ next_kept ds ts out us hs e tree t is without put s st =
     (λ x refused. let had = touched_at ds ts hs (id_in e) tree is st in (had.0, had.1))
     (λ q. ap (λ m. get m q) put ∙ get-insert nat_list_cmp_total out (id_in e) t q ∙ replaced (eq_by_cmp bytes_cmp q (id_in e)) t (get ts q) (get out q) (without q)) s st
 
--- a draft of a shard stands for what the shard stands for
+-- a new draft stands for what its shard stands for
 pub new_draft : (d : DraftView) (s : ShardView) (hs : Histories) → d.shard ≡ s → d.touched ≡ empty → StandFor s.documents hs → DraftStandsFor d hs
 new_draft d s hs same none st =
     subst (λ (ts : Trees). TouchedStandFor d.shard.documents ts hs) (sym none) (subst (λ (v : ShardView). TouchedStandFor v.documents empty hs) (sym same) (untouched s.documents hs st))
 
--- nothing is left
+-- a number that cannot be above 0 is 0
 pub none_left : (n : ℕ) → (0 < n → false ≡ true) → n ≡ 0
 none_left zero h = refl
 none_left (suc n) h = let wrong = h (omega arith) in absurd cc
@@ -216,12 +216,12 @@ looked_stands ds ts hs e (Err x) is none s st q = subst (λ (m : Histories). Dra
 
 -- ---- for a look at an edit
 
--- the reply for an error says what becomes of the edit, which leaves the history
+-- the reply for an error reports the outcome of the edit, which leaves the history
 pub reply_refused : (h : Paths) (e : Edit) (o : Option EditRefusal) (r : Result Revision EditRefusal) → option_map Err o ≡ Some r → Refuses h e o → (r ≡ outcome_of h e) × (edited h e ≡ h)
 reply_refused h e None r is k = absurd cc
 reply_refused h e (Some x) r is k = let same : Err x ≡ r = cc in (sym same ∙ sym k, refused_leaves h e x k)
 
--- after a refusal the tree, if it is as it was, stands for what it stood for
+-- after a refusal an unchanged tree stands for the edited history, which is unchanged too
 pub refused_tree : (h : Paths) (e : Edit) (o : Option EditRefusal) (r : Result Revision EditRefusal) (s t : Tree) → option_map Err o ≡ Some r → Refuses h e o → t ≡ s → StandsFor s h
     → (r ≡ outcome_of h e) × StandsFor t (edited h e)
 refused_tree h e o r s t is k same st =
@@ -233,12 +233,12 @@ unknown_yet (New named) deleted body r known is = absurd cc
 unknown_yet (Replica []) deleted body r known is = absurd cc
 unknown_yet (Replica (q ∷ qs)) deleted body r known is = absurd cc
 
--- a path that is known whole is that of a document
+-- only a document with a history has a path that is known whole
 pub known_there : (e : Edit) (h : Paths) (r : Revision) → changes_nothing h e.change ≡ true → outcome_of h e ≡ Ok r → h ≡ [] → ⊥
 known_there e h r known is none =
     unknown_yet e.change e.deleted e.body r (subst (λ (g : Paths). changes_nothing g e.change ≡ true) none known) (subst (λ (g : Paths). outcome_of g e ≡ Ok r) none is)
 
--- ---- the first edit of a document: its tree, or the empty one, is looked at
+-- ---- the first edit of a document: the look is made at its tree, or at the empty one
 
 tree_or_none : (ds : KeptDocuments) (hs : Histories) (id : List ℕ) (none t : Tree) (o : Option Tree) → tree_at ds id ≡ o → t ≡ unwrap_or o none → StandsFor none [] → StandsAt id (get ds id) (get hs id)
     → StandsFor t (history_at hs id)
@@ -271,18 +271,18 @@ pub not_touched : (h : Paths) (e : Edit) (r : Result Revision EditRefusal) (ts u
 not_touched h e (Ok r) ts us not same = absurd cc
 not_touched h e (Err x) ts us not same = same
 
--- an edit that is done leaves its tree
+-- an edit that is done puts its tree among the touched ones
 pub now_touched : (h : Paths) (e : Edit) (r : Result Revision EditRefusal) (ts us : Trees) (t : Tree) → is_ok r ≡ true → StandsFor t (edited h e) → us ≡ insert ts (id_in e) t → Touches h e r ts us
 now_touched h e (Ok r) ts us t done s put = (t, s, put)
 now_touched h e (Err x) ts us t done s put = absurd cc
 
--- the trees after the first edit of a document stand beside the documents
+-- after the first edit of a document, the touched trees and the documents stand for the new histories
 pub first_stands : (ds : KeptDocuments) (ts us : Trees) (hs : Histories) (e : Edit) (r : Result Revision EditRefusal) → r ≡ outcome_in hs e → Touches (history_at hs (id_in e)) e r ts us
     → TouchedStandFor ds ts hs → TouchedStandFor ds us (after_edit hs e)
 first_stands ds ts us hs e (Ok r) is k st = first_kept ds ts us hs e k.0 (Ok r) is refl k.2 k.1 st
 first_stands ds ts us hs e (Err x) is k st = subst (λ (m : Trees). TouchedStandFor ds m (after_edit hs e)) (sym k) (refused_stands ds ts hs e (Err x) is refl st)
 
--- a refused edit of a document that was not touched leaves all as it was
+-- after a refused edit, as its reply reports it, the same trees stand
 pub reply_stands : (ds : KeptDocuments) (ts : Trees) (hs : Histories) (e : Edit) (o : Option EditRefusal) (r : Result Revision EditRefusal) → option_map Err o ≡ Some r → Refuses (history_at hs (id_in e)) e o
     → TouchedStandFor ds ts hs → TouchedStandFor ds ts (after_edit hs e)
 reply_stands ds ts hs e None r is k st = absurd cc

@@ -1,4 +1,4 @@
--- What comes after a place, seen through a map, and what is served of documents from the last to the first.
+-- The elements after a place, with a function applied to each; and the served documents from the last to the first.
 use Rattle.std.proofs.Common.{◌≡◌, List, [], ◌∷◌, ◌++◌, Bool, true, false, Ordering, Option, Some, None, cond, is_gt, is_lt, length, map, reverse, refl, ap, sym, ◌∙◌}
 use Rattle.std.proofs.lemmas.List.{length-reverse, reverse-append}
 use Rattle.std.specs.List.{cons_option, filter, filter_map}
@@ -27,7 +27,7 @@ module _ {A B : Type 0} (f : A → B) (against : A → Ordering) (order : B → 
   where-map p (x ∷ xs) =
       where_step f (p (against x)) (p (order (f x))) x (filter (λ y. p (against y)) xs) (ap p (same x)) ∙ ap (λ ys. cond (p (order (f x))) (f x ∷ ys) ys) (where-map p xs)
 
-  -- what comes after a place, seen through a map
+  -- a function may be applied before or after the elements beyond a place are taken
   pub beyond-map : (direction : Direction) (xs : List A) → map f (beyond direction against xs) ≡ beyond direction order (map f xs)
   beyond-map Asc xs = where-map is_lt xs
   beyond-map Desc xs = reverse-map f (filter (λ x. is_gt (against x)) xs) ∙ ap reverse (where-map is_gt xs)

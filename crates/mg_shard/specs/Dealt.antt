@@ -7,16 +7,16 @@ use Rattle.mg_shard.specs.Draft.{DraftView, DraftStandsFor}
 use Rattle.mg_shard.specs.Histories.{Histories}
 use Rattle.mg_shard.specs.Shard.{ShardView}
 
--- which shard an id is placed on, among this many
+-- a placement: the number of the shard on which an id is placed, given the id and how many shards there are
 abbrev pub Placing : Type 0
 Placing = List ℕ → ℕ → ℕ
 
--- the histories of the ids that are placed on shard i, of n
+-- the histories of the ids that are placed on shard i of n
 abbrev pub histories_on : Placing → ℕ → ℕ → Histories → Histories
 histories_on place n i hs = retain_keys hs (λ id. place id n == i)
 
 -- Values, one for each shard, together stand for histories if each id that has a history is placed on one of the shards, and each value
--- stands for the histories that are placed on its shard. Then a document is in its own shard, and nowhere else.
+-- stands for the histories that are placed on its shard. A document is then in the shard on which its id is placed, and in no other
 pub record AreDealt {X : Type 0} (Stands : X → Histories → Type 0) (place : Placing) (xs : List X) (hs : Histories) : Type 0 where
   pub placed : (id : List ℕ) (h : Paths) → get hs id ≡ Some h → place id (length xs) < length xs
   pub each : (i : ℕ) (x : X) → slice_get xs i ≡ Some x → Stands x (histories_on place (length xs) i hs)
@@ -25,14 +25,14 @@ pub record AreDealt {X : Type 0} (Stands : X → Histories → Type 0) (place : 
 abbrev pub ShardStandsFor : ShardView → Histories → Type 0
 ShardStandsFor s hs = StandFor s.documents hs
 
--- shards stand for histories that are dealt to them by this placement
+-- these shards together stand for the histories, which this placement deals to them
 abbrev pub ShardsStandFor : Placing → List ShardView → Histories → Type 0
 ShardsStandFor place shards hs = AreDealt ShardStandsFor place shards hs
 
--- drafts, while a bulk is applied, stand for histories that are dealt to them by this placement
+-- these drafts of shards together stand for the histories, which this placement deals to them
 abbrev pub DraftsStandFor : Placing → List DraftView → Histories → Type 0
 DraftsStandFor place drafts hs = AreDealt DraftStandsFor place drafts hs
 
--- the document of an id, as it is kept, on the shard where the id is placed
+-- the document of an id, as it is kept on the shard where the id is placed; `None` if that shard has no document of the id
 abbrev pub kept_at : Placing → List ShardView → List ℕ → Option KeptDocument
 kept_at place shards id = option_and_then (λ s. get s.documents id) (slice_get shards (place id (length shards)))

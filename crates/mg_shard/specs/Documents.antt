@@ -21,30 +21,32 @@ KeptDocument = Tree × Option Value
 abbrev pub KeptDocuments : Type 0
 KeptDocuments = FinMap (slice_cmp nat_cmp) KeptDocument
 
--- a document stands for a history if its tree does and it is kept in the form in which that history is served
+-- at an id there is neither a document nor a history; or there are both, the document's tree stands for the history, and the document is
+-- kept in the form in which the history is served
 abbrev pub StandsAt : List ℕ → Option KeptDocument → Option Paths → Type 0
 StandsAt id None None = Unit {0}
 StandsAt id None (Some h) = ⊥
 StandsAt id (Some d) None = ⊥
 StandsAt id (Some d) (Some h) = StandsFor d.0 h × (d.1 ≡ served_of id h)
 
--- documents stand for histories if each id has a document exactly if it has a history, and the document stands for the history
+-- documents stand for histories if, at each id, the document stands for the history or there is neither
 abbrev pub StandFor : KeptDocuments → Histories → Type 0
 StandFor ds hs = (id : List ℕ) → StandsAt id (get ds id) (get hs id)
 
--- the revision tree of an id, if it has a document
+-- the revision tree of the document with this id, if there is such a document
 abbrev pub tree_at : KeptDocuments → List ℕ → Option Tree
 tree_at ds id = option_map (λ d. d.0) (get ds id)
 
--- the form in which the document of an id is served, if it is served
+-- the form in which the document with this id is served; `None` if there is no such document, or it is deleted
 abbrev pub form_at : KeptDocuments → List ℕ → Option Value
 form_at ds id = option_and_then (λ d. d.1) (get ds id)
 
--- an id with the form in which its document is served, if it is served
+-- the served document of a kept one; `None` if it is deleted
 abbrev pub doc_entry : List ℕ × KeptDocument → Option ServedDocument
 doc_entry e = option_map (λ form. (e.0, form)) e.1.1
 
--- the served documents, in the order of their ids
+-- the served ones among kept documents, in the order of their ids. By the law `TheServedAreKept` they are the `served_documents` of
+-- the histories that the kept documents stand for
 abbrev pub docs_of : KeptDocuments → List ServedDocument
 docs_of ds = filter_map doc_entry (entries ds)
 
@@ -54,7 +56,7 @@ docs_of ds = filter_map doc_entry (entries ds)
 abbrev pub id_bytes : Document → List ℕ
 id_bytes d = d.id
 
--- the form in which a document is served
+-- the form in which a document is served; `None` if it is deleted
 abbrev pub form_of : Document → Option Value
 form_of d = form_in d.served
 
@@ -66,13 +68,13 @@ kept_of d = (d.tree, form_of d)
 abbrev pub kept_entry : Document → List ℕ × KeptDocument
 kept_entry d = (d.id, kept_of d)
 
--- documents by their ids
+-- the documents of a list, by their ids
 abbrev pub kept_documents : List Document → KeptDocuments
 kept_documents ds = from_entries (map kept_entry ds)
 
--- the served ones among these documents, in their order
-abbrev pub served_docs : List Document → List ServedDocument
-served_docs ds = filter_map (λ d. doc_entry (kept_entry d)) ds
+-- the served ones in a list of documents, in its order: what `docs_of` gives if the list is in the order of the ids
+abbrev pub docs_in : List Document → List ServedDocument
+docs_in ds = filter_map (λ d. doc_entry (kept_entry d)) ds
 
 -- a lent id with a form, as a served document
 abbrev pub lent_document : Bor (List ℕ) × Value → ServedDocument

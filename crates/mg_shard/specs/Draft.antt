@@ -26,17 +26,18 @@ pub record DraftView : Type 0 where
   pub shard : ShardView
   pub touched : Trees
 
--- how the logic stores it
+-- how the logic stores what a draft holds
 abbrev pub draft_code : Coded DraftView
 draft_code =
     code_by (ShardView × Trees) (coded× shard_code (finite.code (coded_list coded_ℕ) tree_code))
     (λ d. (d.shard, d.touched)) (λ p. record { shard = p.0; touched = p.1 }) (λ _. refl)
 
--- trees as the code keeps them, by the ids of their documents
+-- the code's list of touched trees, as trees by the ids of their documents
 abbrev pub touched_of : List (String Global × Tree) → Trees
 touched_of es = from_entries (map (λ e. (string_bytes e.0, e.1)) es)
 
--- at an id: if the bulk has touched the tree, the tree stands for the history; otherwise the document does
+-- at an id that the bulk has touched, there is a history, and the touched tree stands for it. At any other id, the kept document stands for
+-- the history, or there is neither
 abbrev pub DraftAt : List ℕ → Option Tree → Option KeptDocument → Option Paths → Type 0
 DraftAt id (Some t) kept None = ⊥
 DraftAt id (Some t) kept (Some h) = StandsFor t h
@@ -50,7 +51,8 @@ TouchedStandFor ds ts hs = (id : List ℕ) → DraftAt id (get ts id) (get ds id
 abbrev pub DraftStandsFor : DraftView → Histories → Type 0
 DraftStandsFor d hs = TouchedStandFor d.shard.documents d.touched hs
 
--- the touched trees after an edit: a refused edit leaves them; any other puts a tree that stands for the edited history under its id
+-- an edit that a look found ready changes the touched trees `ts` to `us`, by its outcome: if the edit is refused, `us` is `ts`; otherwise a
+-- tree that stands for the edited history is put under the edit's id
 abbrev pub Touches : Paths → Edit → Result Revision EditRefusal → Trees → Trees → Type 0
 Touches h e (Ok r) ts us = (t : Tree) × StandsFor t (edited h e) × (us ≡ insert ts (id_in e) t)
 Touches h e (Err x) ts us = us ≡ ts

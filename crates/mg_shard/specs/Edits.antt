@@ -10,7 +10,7 @@ use Rattle.mg_shard.specs.Histories.{Histories, history_at}
 use Rattle.mg_shard.specs.declared.reply.EditReply.{EditReply}
 use Rattle.mg_shard.specs.declared.reply.EditReply.TheVariants.{Done, Conflict, BadHistory}
 
--- the id of an edit that has one
+-- the id of an edit; empty if it has none
 abbrev pub id_in : Edit → List ℕ
 id_in e = unwrap_or e.id []
 

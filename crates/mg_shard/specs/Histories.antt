@@ -13,18 +13,18 @@ use Rattle.mg_doc.specs.Served.{served_of}
 abbrev pub Histories : Type 0
 Histories = FinMap (slice_cmp nat_cmp) Paths
 
--- the history of an id, which is empty where there is none
+-- the history of an id; empty if it has none
 abbrev pub history_at : Histories → List ℕ → Paths
 history_at hs id = unwrap_or (finite.get hs id) []
 
--- an id with the form in which its document is served
+-- a served document: its id, and the form in which it is served
 abbrev pub ServedDocument : Type 0
 ServedDocument = List ℕ × Value
 
--- the id with its served form, if it is served
+-- the served document of an id with this history, if it is served
 abbrev pub served_entry : List ℕ × Paths → Option ServedDocument
 served_entry e = option_map (λ form. (e.0, form)) (served_of e.0 e.1)
 
--- all served documents, in the order of their ids
+-- the served documents of these histories, in the order of their ids
 abbrev pub served_documents : Histories → List ServedDocument
 served_documents hs = filter_map served_entry (entries hs)

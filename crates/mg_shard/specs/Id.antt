@@ -8,7 +8,7 @@ abbrev pub held_id : HeldId → List ℕ
 held_id (Inline count bytes) = take count bytes
 held_id (Block id) = string_bytes id
 
--- an id in the value itself is text of at most 38 bytes
+-- an id that is stored in the value itself is UTF-8 text of at most 38 bytes; an id in a block is text by its type
 abbrev pub IsText : HeldId → Type 0
 IsText (Inline count bytes) = (count ≤ 38) × IsUtf8 (take count bytes)
 IsText (Block id) = Unit {0}

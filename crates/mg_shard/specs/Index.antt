@@ -15,7 +15,7 @@ use Rattle.mg_rows.specs.Code.{row_code}
 use Rattle.mg_shard.specs.Documents.{KeptDocuments, docs_of}
 use Rattle.mg_shard.specs.Rows.{rows_of}
 
--- an index: its definition, and the rows that are kept
+-- an index: its definition and its rows
 abbrev pub Index : Type 0
 Index = IndexDefinition × List RowValue
 
@@ -27,11 +27,11 @@ index_code = coded× definition_code (coded_list row_code)
 abbrev pub definitions_of : List Index → List IndexDefinition
 definitions_of xs = map (λ x. x.0) xs
 
--- the rows that are kept are those of an index made from scratch of the served documents
+-- the index's rows are those of an index made from scratch of the served documents
 abbrev pub HasRows : KeptDocuments → Index → Type 0
 HasRows ds x = x.1 ≡ rows_of x.0.columns (docs_of ds)
 
--- each index has its rows, and each design document and name occurs once, in the order of a catalog
+-- each index has its rows, and the definitions are a catalog: in the order of design document and name, and no two have both in common
 pub record AreIndexes (ds : KeptDocuments) (xs : List Index) : Type 0 where
   pub catalog : IsCatalog (definitions_of xs)
   pub rows : AllByRecursion (HasRows ds) xs
@@ -46,16 +46,19 @@ index_order x y = definition_order x.0 y.0
 abbrev pub name_against : List ℕ → List ℕ → Index → Ordering
 name_against ddoc name x = ordering_then (slice_cmp nat_cmp ddoc x.0.ddoc) (slice_cmp nat_cmp name x.0.name)
 
--- the order is total
+-- the order of definitions is total
 pub definition_order_total : IsTotalOrder definition_order
 definition_order_total = then_total (on_total (λ (d : IndexDefinition). d.ddoc) nat_list_cmp_total) (on_total (λ (d : IndexDefinition). d.name) nat_list_cmp_total)
 
+-- the order of indexes is total
 pub index_order_total : IsTotalOrder index_order
 index_order_total = on_total (λ (x : Index). x.0) definition_order_total
 
+-- the order of pairs of a design document and a name
 abbrev names_order : List ℕ × List ℕ → List ℕ × List ℕ → Ordering
 names_order = then_cmp (on (λ p. p.0) (slice_cmp nat_cmp)) (on (λ p. p.1) (slice_cmp nat_cmp))
 
+-- the order of these pairs is total
 names_order_total : IsTotalOrder names_order
 names_order_total = then_total (on_total (λ (p : List ℕ × List ℕ). p.0) nat_list_cmp_total) (on_total (λ (p : List ℕ × List ℕ). p.1) nat_list_cmp_total)
 

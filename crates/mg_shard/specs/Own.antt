@@ -1,4 +1,5 @@
--- Documents are served with their own ids. So the list of all documents by id is an index of the one column `_id`.
+-- If a document is served with an `_id`, this `_id` is the document's own id. Therefore the list of all documents, in the order of their
+-- ids, serves as an index of the one column `_id`.
 use Rattle.std.specs.Prelude.{◌≡◌, ⊤, ℕ, Bool, true, false, List, [], ◌∷◌, Option, Some, None, codes}
 use Rattle.std.specs.Coded.{Coded-set, coded_option, Unit-prop}
 use Rattle.mg_value.specs.Value.{Value, member_of, text}
@@ -18,7 +19,7 @@ HasOwnId id form = (part : Value) → part_of (codes "_id" ∷ []) form ≡ Some
 
 -- ---- of the code's documents
 
--- the form in which a document is served, if it is
+-- the form in which a document is served; `None` if it is deleted
 abbrev pub form_in : Served → Option Value
 form_in Deleted = None
 form_in (WithId form) = Some form
@@ -30,12 +31,14 @@ has_own_id Deleted = false
 has_own_id (WithId form) = true
 has_own_id (WithoutId form) = false
 
--- the case says rightly whether the form has an `_id`; if it has one, the `_id` is this id
+-- the variant of `Served` is the right one for its form: `WithId` only if the form has an `_id` that is this id; `WithoutId` only
+-- if it has no `_id`
 abbrev pub IsServedOwn : List ℕ → Served → Type 0
 IsServedOwn id Deleted = ⊤
 IsServedOwn id (WithId form) = member_of (codes "_id") form ≡ Some (text id)
 IsServedOwn id (WithoutId form) = member_of (codes "_id") form ≡ None
 
+-- all proofs of `IsServedOwn` are equal
 pub IsServedOwn-prop : (id : List ℕ) (served : Served) → IsProp (IsServedOwn id served)
 IsServedOwn-prop id Deleted = Unit-prop
 IsServedOwn-prop id (WithId form) = Coded-set (coded_option value_code) (member_of (codes "_id") form) (Some (text id))

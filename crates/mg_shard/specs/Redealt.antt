@@ -16,7 +16,7 @@ use Rattle.mg_shard.specs.declared.document.Document.{Document}
 abbrev pub documents_in : List ShardView → List KeptDocuments
 documents_in shards = map (λ s. s.documents) shards
 
--- the document of an id on any of these shards; if several have one, that of the last
+-- the document of an id on any of these shards: the one of the last shard that has one; `None` if no shard has one
 abbrev pub kept_in : List KeptDocuments → List ℕ → Option KeptDocument
 kept_in [] id = None
 kept_in (ds ∷ more) id = option_or (kept_in more id) (get ds id)
@@ -30,11 +30,11 @@ pub record AreRedealt (place : Placing) (from to : List KeptDocuments) : Type 0 
 
 -- ---- for private clauses
 
--- the documents that are lent
+-- the documents behind lent references
 abbrev pub documents_seen : List (Bor Document) → List Document
 documents_seen documents = map (λ d. d.now) documents
 
--- the last of these documents with this id, as it is kept
+-- the last of these documents with this id, as it is kept; `None` if none of them has the id
 abbrev pub last_kept : List Document → List ℕ → Option KeptDocument
 last_kept [] id = None
 last_kept (d ∷ ds) id = option_or (last_kept ds id) (cond (eq_by_cmp (slice_cmp nat_cmp) id (id_bytes d)) (Some (kept_of d)) None)
@@ -43,20 +43,21 @@ last_kept (d ∷ ds) id = option_or (last_kept ds id) (cond (eq_by_cmp (slice_cm
 abbrev pub IsPlace : Placing → ℕ → Document → ℕ → Type 0
 IsPlace place n d i = (i ≡ place (id_bytes d) n) × (i < n)
 
--- the documents are placed on these of n shards, one number for each document
+-- each document is placed on the shard, of n, whose number stands at the document's position in the list of places
 abbrev pub ArePlaces : Placing → ℕ → List Document → List ℕ → Type 0
 ArePlaces place n ds places = AllZip (IsPlace place n) ds places
 
--- `to` has the documents whose ids are placed on the i-th shard, and no others, by every placement that gives these places
+-- for every placement that gives the documents these places, `to` has the documents whose ids are placed on the i-th shard, and no others;
+-- of several documents with one id it has the last
 abbrev pub KeepsThose : List Document → List ℕ → ℕ → KeptDocuments → Type 0
 KeepsThose ds places i to =
     (place : Placing) (n : ℕ) → ArePlaces place n ds places → (id : List ℕ) → get to id ≡ cond (place id n == i) (last_kept ds id) None
 
--- the i-th shard has the documents that are placed there, and indexes of these definitions
+-- the shard `s` has the documents that are placed on the i-th shard, and indexes of these definitions
 pub record IsMade (ds : List Document) (places : List ℕ) (definitions : List IndexDefinition) (i : ℕ) (s : ShardView) : Type 0 where
   pub keeps : KeepsThose ds places i s.documents
   pub indexes : s.definitions ≡ definitions
 
--- each of these shards has the documents that are placed there, and indexes of these definitions
+-- each of these shards has the documents that are placed on the shard of its position, and indexes of these definitions
 abbrev pub AreMade : List Document → List ℕ → List IndexDefinition → List ShardView → Type 0
 AreMade ds places definitions shards = (i : ℕ) (s : ShardView) → slice_get shards i ≡ Some s → IsMade ds places definitions i s

@@ -1,5 +1,5 @@
--- The rows of an index made from scratch, after the JSON indexes of the CouchDB 3.x API reference: those of the documents that have
--- every column.
+-- The rows of an index made from scratch, after the JSON indexes of the CouchDB 3.x API reference: a document has a row if it has every
+-- column.
 use Rattle.std.specs.Prelude.{List, Option, option_map}
 use Rattle.std.specs.List.{filter_map}
 use Rattle.mg_value.specs.Value.{Value, Items}
@@ -10,7 +10,7 @@ use Rattle.mg_index.specs.Definition.{Steps}
 use Rattle.mg_index.specs.Key.{key_of}
 use Rattle.mg_shard.specs.Histories.{ServedDocument}
 
--- the key of a document as a row holds it
+-- the key of a document as a row holds it; `None` if the document lacks a column
 abbrev pub row_key : List Steps → Value → Option Items
 row_key columns form = option_map items_of (key_of columns form)
 
@@ -18,6 +18,6 @@ row_key columns form = option_map items_of (key_of columns form)
 abbrev pub row_of : List Steps → ServedDocument → Option RowValue
 row_of columns d = option_map (λ key. (key, d.0)) (row_key columns d.1)
 
--- the rows of these documents, by key and id
+-- the rows of those documents that have every column, in the order of key, then id
 abbrev pub rows_of : List Steps → List ServedDocument → List RowValue
 rows_of columns ds = sorted row_value_order (filter_map (row_of columns) ds)

@@ -13,8 +13,8 @@ use Rattle.mg_index.specs.Definition.{IndexDefinition, definition_code}
 use Rattle.mg_shard.specs.Documents.{KeptDocuments, docs_of}
 use Rattle.mg_shard.specs.Rows.{rows_of}
 
--- what a shard holds: its documents, and the definitions of its indexes in the order of a catalog. The rows of an index follow from
--- its definition and the documents, so they are no part of this
+-- what a shard holds: its documents, and the definitions of its indexes in the order of a catalog. The rows of an index are left out,
+-- since they follow from its definition and the documents
 pub record ShardView : Type 0 where
   pub documents : KeptDocuments
   pub definitions : List IndexDefinition
@@ -33,7 +33,7 @@ shard_code =
 abbrev pub rows_at : List ℕ → List ℕ → ShardView → Option (List RowValue)
 rows_at ddoc name s = option_map (λ d. rows_of d.columns (docs_of s.documents)) (definition_at ddoc name s.definitions)
 
--- what the shared shards hold
+-- what the shards behind these `Arc`s hold
 abbrev pub shards_seen : List (Arc ShardView Global) → List ShardView
 shards_seen shards = map arc_value shards
 

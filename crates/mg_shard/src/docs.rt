@@ -2,14 +2,14 @@
 ghost use Rattle.std.specs.Prelude.{◌≡◌, length};
 ghost use Rattle.std.specs.Iterator.{at_most};
 ghost use Rattle.std.specs.Map.Iter.{TakesFirst};
-ghost use Rattle.mg_shard.specs.Documents.{lent_document, served_docs};
+ghost use Rattle.mg_shard.specs.Documents.{lent_document, docs_in};
 
 use crate::walk::Documents;
 use mg_packed::Part;
 use std::marker::Model;
 
-/// The served documents that are left, each as its id and the form in which it is served, in the order of the ids or in the reverse
-/// order. Deleted documents are skipped. Takes no memory.
+/// Lists the served documents, each as its id and its form, in the order of the ids or in the reverse order. It skips deleted
+/// documents. Takes no memory. Cost: a step for each document, deleted ones too.
 #[derive(Drop)]
 pub struct Docs<'a> {
     documents: Documents<'a>,
@@ -26,14 +26,15 @@ impl<'a> Model for Docs<'a> {
 
     ghost coded = { coded_list (coded× (coded_list coded_ℕ) value_code) };
 
-    ghost use Rattle.mg_shard.specs.Documents.{served_docs};
+    ghost use Rattle.mg_shard.specs.Documents.{docs_in};
 
-    ghost view = { λ d. served_docs d.documents };
+    ghost view = { λ d. docs_in d.documents };
 }
 
 impl<'a> Docs<'a> {
+    // Lists those of these documents that are served, in their order.
     pub(crate) fn over(documents: Documents<'a>) -> Docs<'a>
-        ensures { result ≡ served_docs documents.entry }
+        ensures { result ≡ docs_in documents.entry }
     {
         Docs { documents }
     }

@@ -33,8 +33,8 @@ impl Identified for Document {
     }
 }
 
-// The form in which the document with this id is served, with its text. The winner's body moves into the form's block, as for
-// `serve_form`.
+// Makes the form in which the document with this id is served, with the form's text; `Deleted` if the winner is deleted or the tree is
+// empty. The winner's body moves into the form's block, as for `serve_form`.
 fn served_in(alloc: Global, id: &str, tree: &mut RevTree) -> Result<Served, NoMemory>
     ensures own { IfOk result (λ served. IsServedOwn id.now served) }
     ensures served { IfOk result
@@ -58,11 +58,10 @@ impl Document {
     ghost use Rattle.mg_shard.specs.Rows.{row_key};
     ghost use Rattle.mg_shard.specs.Own.{id_columns};
 
-    /// The document with this id and this revision tree. The winner's body moves into the block of the form in which the document
+    /// Makes the document with this id and this revision tree. The winner's body moves into the block of the form in which the document
     /// is served, as for `serve_form`.
     ///
-    /// Errors: those of `serve_form`, or `NoMemory` if an allocation fails. Cost: that of `serve_form`, and a look-up of the form's member
-    /// `_id`.
+    /// Errors: `NoMemory` as for `serve_form`. Cost: that of `serve_form`, and a look-up of the form's member `_id`.
     pub(crate) fn of(alloc: Global, id: String, mut tree: RevTree) -> Result<Document, NoMemory>
         ensures id { IfOk result (λ d. d.id ≡ string_bytes id) }
         ensures tree { IfOk result (λ d. d.tree ≡ tree) }
@@ -74,21 +73,21 @@ impl Document {
         Ok(Document { id, tree, served })
     }
 
-    /// Its id. Takes no memory.
+    /// Returns the document's id. Takes no memory.
     pub fn id(&self) -> &str
         ensures { result.now ≡ id_bytes self.now }
     {
         self.id.as_str()
     }
 
-    /// Its revision tree. Takes no memory.
+    /// Returns the document's revision tree. Takes no memory.
     pub fn tree(&self) -> &RevTree
         ensures { result.now ≡ (kept_of self.now).0 }
     {
         &self.tree
     }
 
-    /// The form in which it is served; `None` if it is deleted. Takes no memory.
+    /// Returns the form in which the document is served; `None` if it is deleted. Takes no memory.
     pub fn form(&self) -> Option<Part<'_>>
         ensures { result ≡ form_of self.now }
     {
@@ -98,26 +97,27 @@ impl Document {
         }
     }
 
-    /// The block of the form in which it is served, with the form's text; `None` if it is deleted. Takes no memory.
+    /// Returns the block of the form in which the document is served, with the form's text; `None` if the document is deleted. Takes no
+    /// memory.
     pub fn written(&self) -> Option<&Written>
         ensures { option_map (λ v. v.now) result ≡ form_of self.now }
     {
         self.served.written()
     }
 
-    /// The compact text of the form in which it is served; `None` if it is deleted. The text was made when the document was last
-    /// edited. Takes no memory.
-    pub fn text(&self) -> Option<&[u8]>
+    /// Returns the compact text of the form in which the document is served; `None` if the document is deleted. The text was made when
+    /// the bulk that last touched the document was finished. Takes no memory.
+    pub fn compact_text(&self) -> Option<&[u8]>
         ensures { option_map (λ t. t.now) result ≡ option_map compact (form_of self.now) }
     {
         match self.written() {
-            Some(form) => Some(form.text()),
+            Some(form) => Some(form.compact_text()),
             None => None,
         }
     }
 
-    /// Its id, as the key of its row in the list of all documents; `None` if it has no such row, because it is deleted or its form has
-    /// no `_id`. Takes no memory. Cost: constant.
+    /// Returns the document's id, which is the key of its row in the list of all documents; `None` if it has no such row, because it is
+    /// deleted or its form has no `_id`. Takes no memory. Cost: constant.
     pub fn id_key(&self) -> Option<&str>
         ensures key { option_map (λ id. item (text id.now) no_items) result
             ≡ option_and_then (row_key id_columns) (form_of self.now) }

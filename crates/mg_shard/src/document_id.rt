@@ -36,7 +36,7 @@ impl Model for DocumentId {
 }
 
 impl DocumentId {
-    /// The id with this text. Takes no memory. Cost: a copy of up to 38 bytes.
+    /// Makes the id with this text. Takes no memory: a text of more than 38 bytes keeps its block. Cost: a copy of up to 38 bytes.
     pub(crate) fn of(id: String) -> DocumentId
         ensures { result ≡ string_bytes id }
     {
@@ -44,7 +44,7 @@ impl DocumentId {
         DocumentId { held }
     }
 
-    /// The text of the id. Takes no memory.
+    /// Returns the text of the id. Takes no memory.
     pub(crate) fn as_str(&self) -> &str
         ensures { result.now ≡ self.now }
     {
@@ -52,6 +52,7 @@ impl DocumentId {
     }
 }
 
+// Copies a text of up to 38 bytes into the value itself, and keeps a longer text in its block.
 fn hold(id: String) -> HeldId
     ensures bytes { held_id result ≡ string_bytes id }
     ensures text { IsText result }
@@ -63,7 +64,7 @@ fn hold(id: String) -> HeldId
     HeldId::Block(id)
 }
 
-// The bytes, with zeros after them.
+// Fills an array of 38 bytes with these bytes and zeros after them.
 fn pad(bytes: &[u8]) -> [u8; 38]
     requires { length bytes.now ≤ 38 }
     ensures { take (length bytes.now) result ≡ bytes.now }
@@ -73,6 +74,7 @@ fn pad(bytes: &[u8]) -> [u8; 38]
     filled
 }
 
+// Lends the text of the id. `IsText` says that the bytes are UTF-8, so they are not checked.
 fn lend(held: &HeldId) -> &str
     requires { IsText held.now }
     ensures { result.now ≡ held_id held.now }

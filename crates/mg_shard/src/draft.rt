@@ -14,8 +14,8 @@ ghost use Rattle.mg_shard.specs.Edits.{after_edit, after_edits, id_in, outcome_i
 ghost use Rattle.mg_shard.specs.Histories.{Histories};
 
 use crate::document::Document;
-use crate::entry::IndexEntry;
-use crate::indexes::{list_in_pages, mend_all, share_indexes};
+use crate::index_entry::IndexEntry;
+use crate::index_list::{list_in_pages, mend_all, share_indexes};
 use crate::reply::EditReply;
 use crate::shard::Shard;
 use mg_doc::{Edit, EditError, Look, ReadyEdit};
@@ -44,7 +44,7 @@ impl<'a> Model for Draft<'a> {
     ghost view = { λ d. record { shard = d.shard.now; touched = touched_of d.touched.entries } };
 }
 
-/// The id of an edit; the empty text if it has none. Takes no memory.
+/// Returns the id of an edit; the empty text if it has none. Takes no memory.
 pub fn id_in(edit: &Edit) -> &str
     ensures { result.now ≡ id_in edit.now }
 {
@@ -55,7 +55,7 @@ pub fn id_in(edit: &Edit) -> &str
 }
 
 impl<'a> Draft<'a> {
-    /// A draft of the shard that has touched no document yet. Takes no memory.
+    /// Makes a draft of the shard, which has touched no document yet. Takes no memory.
     pub fn new(alloc: Global, shard: &'a Shard) -> Draft<'a>
         ensures shard { result.shard ≡ shard.now }
         ensures touched { result.touched ≡ finite.empty }
@@ -69,7 +69,8 @@ impl<'a> Draft<'a> {
     /// Applies one edit that has an id, and moves its body into the tree of its document. An edit that is refused, or whose path is
     /// known whole, touches no document.
     ///
-    /// Errors: `NoMemory` if an allocation fails. The draft then stands for nothing, and is only good to drop.
+    /// Errors: `NoMemory` if an allocation fails, or at a limit that `RevTree::merge` lists. The draft may then have lost a tree, and must
+    /// not be used again. A refused edit is not an error: the reply is `Conflict` or `BadHistory`.
     /// Cost: that of `Edit::look` and `ReadyEdit::apply`, and a copy of the document's tree if the draft has not touched the
     /// document yet. No copy of the body.
     pub fn apply(&mut self, alloc: Global, edit: Edit) -> Result<EditReply, NoMemory>
@@ -85,9 +86,10 @@ impl<'a> Draft<'a> {
         }
     }
 
-    /// Applies copies of edits that have ids, in order, and returns what became of each.
+    /// Applies copies of edits that have ids, in order, and returns the outcome of each.
     ///
-    /// Errors: those of `apply`. Cost: that of `apply`, and a copy of each edit, with its body.
+    /// Errors: those of `apply`. Cost: that of `apply`, and a copy of each edit, with its body. The copy of a new edit has no id made
+    /// ahead, so `apply` makes the id from the text of the body.
     pub fn apply_all(&mut self, alloc: Global, edits: &[Edit]) -> Result<Vec<EditReply>, NoMemory>
         ensures outcomes { IfOk result
             (λ rs. (hs : Histories) → DraftStandsFor self.old hs
@@ -105,11 +107,12 @@ impl<'a> Draft<'a> {
         Ok(replies)
     }
 
-    /// The shard after the bulk; `None` if the bulk has touched no document: the shard is then as it was. The form, text and rows of
-    /// a document are made once, however often it was edited.
+    /// Returns the shard after the bulk; `None` if the bulk has touched no document: the shard is then as it was. The form, text and rows
+    /// of a document are made once, however often it was edited.
     ///
-    /// Errors: `NoMemory` if an allocation fails. Cost: for each touched document its form and text, as for `Document::of`, and
-    /// the pages on the way to it and to its rows; and a new list of the indexes.
+    /// Errors: `NoMemory` if an allocation fails, or as for `serve_form`; the draft is dropped. Cost: for each touched document its form
+    /// and text, as for `Document::of`, its rows that change, and the pages on the way to it and to these rows; the top level of the
+    /// documents; and a new list of the indexes.
     pub fn finish(self, alloc: Global) -> Result<Option<Shard>, NoMemory>
         ensures stands { IfOk result
             (λ s. (hs : Histories) → DraftStandsFor self.entry hs
@@ -124,7 +127,7 @@ impl<'a> Draft<'a> {
     }
 }
 
-// The reply to an edit that this error refuses. `NoMemory` has no reply, and stays an error.
+// Turns the refusal of an edit into a reply. `NoMemory` has no such reply, and stays an error.
 fn reply_of(error: EditError) -> Result<EditReply, NoMemory>
     ensures { IfOk result (λ r. option_map Err (refusal_in error) ≡ Some (outcome_seen r)) }
 {
@@ -135,8 +138,8 @@ fn reply_of(error: EditError) -> Result<EditReply, NoMemory>
     }
 }
 
-// Applies an edit that was looked at on this tree, or on the tree of which this one is a copy. Returns what became of the edit, and
-// the tree after it, into which its body moved.
+// Applies an edit after a look at this tree, or at the tree of which this one is a copy. Returns the outcome of the edit, and the tree
+// after it. Unless the edit is refused, its body moved into the tree.
 fn apply_ready(
     alloc: Global,
     ready: ReadyEdit,
@@ -153,7 +156,8 @@ fn apply_ready(
     }
 }
 
-// Looks at an edit and applies it. Returns what became of the edit, and the tree after it, into which its body moved.
+// Looks at an edit and applies it. Returns the outcome of the edit, and the tree after it. If the edit is refused or its path is known
+// whole, the tree is unchanged and the edit's body is dropped.
 fn apply_edit(alloc: Global, edit: Edit, tree: RevTree) -> Result<(EditReply, RevTree), NoMemory>
     ensures { IfOk result
         (λ r. (h : Paths) → StandsFor tree h → (outcome_seen r.0 ≡ outcome_of h edit)
@@ -166,7 +170,8 @@ fn apply_edit(alloc: Global, edit: Edit, tree: RevTree) -> Result<(EditReply, Re
     }
 }
 
-// Applies an edit to the tree of a document that was touched before. The caller has taken the tree out of `touched`; it goes back there.
+// Applies an edit to the tree of a document that was touched before. The caller has taken the tree out of `touched`; it goes back there,
+// unless an allocation fails.
 fn edit_touched(
     alloc: Global,
     touched: &mut BTreeMap<String, RevTree>,
@@ -210,7 +215,7 @@ fn edit_first(
     }
 }
 
-// The tree of the document of this id; `other` if there is no such document.
+// Returns the tree of the document with this id; `other` if there is no such document.
 fn tree_or<'a>(shard: &'a Shard, id: &str, other: &'a RevTree) -> &'a RevTree
     ensures { result.now ≡ unwrap_or (tree_at shard.now.documents id.now) other.now }
 {
@@ -220,8 +225,8 @@ fn tree_or<'a>(shard: &'a Shard, id: &str, other: &'a RevTree) -> &'a RevTree
     }
 }
 
-// Applies an edit to a copy of the tree on which it was looked at. Unless the edit is refused, its document is then touched, with
-// the copy as its tree.
+// Applies an edit to a copy of `before`, the tree at which its look was made. Unless the edit is refused, its document is then
+// touched, with the copy as its tree.
 fn touch(
     alloc: Global,
     touched: &mut BTreeMap<String, RevTree>,
@@ -246,7 +251,7 @@ fn touch(
     Ok(reply)
 }
 
-// The shard, with each of these trees under the id of its document.
+// Makes the shard in which each of these trees is the tree of its document.
 fn keep_trees(
     alloc: Global,
     shard: &Shard,

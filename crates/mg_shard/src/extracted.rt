@@ -1,16 +1,16 @@
-//! Rows of an index that several threads extract from documents, and pages that they make of them.
+//! Makes the rows of an index from documents, and pages from the rows, by several threads.
 ghost use Rattle.std.specs.Prelude.{◌≡◌, ◌<◌, ◌++◌, [], IfOk, List, OnOk, length};
 ghost use Rattle.std.specs.List.{AllByRecursion, cons_option, filter_map, flat_map};
 ghost use Rattle.std.specs.List.Sorted.{IsPermutation, IsSorted};
 ghost use Rattle.mg_collate.specs.Row.{RowValue, row_value_order};
 ghost use Rattle.mg_pages.specs.Order.{Ascends};
 ghost use Rattle.mg_pages.specs.Runs.{lent_elements};
-ghost use Rattle.mg_shard.specs.Documents.{served_docs};
+ghost use Rattle.mg_shard.specs.Documents.{docs_in};
 ghost use Rattle.mg_shard.specs.Extracted.{document_row, rows_in};
 ghost use Rattle.mg_shard.specs.Rows.{row_of};
 
 use crate::document::Document;
-use crate::index::row_in;
+use crate::index_rows::row_in;
 use mg_pages::{NewPage, PAGE_FILL, Pages, Shared};
 use mg_path::Path;
 use mg_rows::{KeyBytes, RowBytes};
@@ -19,13 +19,14 @@ use rayon::prelude::*;
 use std::alloc::Global;
 use std::thread::Threads;
 
-/// The least number of documents for which several threads extract the rows of a shard: for fewer, a thread costs more than it saves.
+/// The least number of documents for which several threads extract the rows of a shard, or make the shards of a `redeal`: for fewer, a
+/// thread costs more than it saves.
 pub(crate) const MANY_DOCUMENTS: usize = 1_000;
 
 /// The least number of pages of documents that one thread takes.
 const LEAST_PIECE: usize = 2;
 
-// The row of a document; `None` if it is deleted or lacks a column.
+// Makes the row of a document; `None` if the document is deleted or lacks a column.
 fn row_if_served(
     alloc: Global,
     scratch: &mut KeyBytes,
@@ -40,7 +41,7 @@ fn row_if_served(
     }
 }
 
-// Adds a row, if there is one.
+// Appends a row, if there is one.
 fn add_row(rows: &mut Vec<RowBytes>, row: Option<RowBytes>) -> Result<(), NoMemory>
     ensures { OnOk result (rows.new.items ≡ rows.old.items ++ cons_option row []) }
 {
@@ -50,7 +51,7 @@ fn add_row(rows: &mut Vec<RowBytes>, row: Option<RowBytes>) -> Result<(), NoMemo
     Ok(())
 }
 
-// The rows of those documents of a page that are served and have every column, in the order of the documents.
+// Makes the rows of those documents of a page that are served and have every column, in the order of the documents.
 fn rows_of_run(
     alloc: Global,
     scratch: &mut KeyBytes,
@@ -67,7 +68,7 @@ fn rows_of_run(
     Ok(rows)
 }
 
-// Joins lists of rows, one after the other. The list gets room for `count` rows at once, so that it does not grow.
+// Joins lists of rows, one after the other. The joined list gets room for `count` rows at once, so that it need not grow.
 fn join_lists(
     alloc: Global,
     count: usize,
@@ -83,7 +84,7 @@ fn join_lists(
     Ok(all)
 }
 
-// The rows of the documents of these pages, a list for each page. Threads extract pieces of several pages, each with a scratch of its own.
+// Makes the rows of the documents of these pages, a list for each page. A thread takes a piece of several pages and has its own scratch.
 fn lists_by_threads<R: Threads + Sync>(
     rt: &R,
     alloc: Global,
@@ -91,7 +92,7 @@ fn lists_by_threads<R: Threads + Sync>(
     runs: &[&[Shared<Document>]],
 ) -> Result<Vec<Vec<RowBytes>>, NoMemory>
     ensures { IfOk result (λ v. flat_map (λ list. list.items) v.items
-        ≡ filter_map (row_of columns.now) (served_docs (lent_elements runs.now))) }
+        ≡ filter_map (row_of columns.now) (docs_in (lent_elements runs.now))) }
 {
     let lists: Result<Vec<Vec<RowBytes>>, NoMemory> = runs
         .par_iter()
@@ -118,14 +119,14 @@ pub(crate) fn rows_by_threads<R: Threads + Sync>(
     count: usize,
 ) -> Result<Vec<RowBytes>, NoMemory>
     ensures { IfOk result (λ rows. rows.items
-        ≡ filter_map (row_of columns.now) (served_docs (lent_elements runs.now))) }
+        ≡ filter_map (row_of columns.now) (docs_in (lent_elements runs.now))) }
 {
     let lists = lists_by_threads(rt, alloc, columns, runs)?;
     let rows = join_lists(alloc, count, lists)?;
     Ok(rows)
 }
 
-/// The rows sorted by key and id, by several threads. Takes no memory. Cost: that of a sort, shared among up to two threads for each
+/// Sorts the rows by key, then id, by several threads. Takes no memory. Cost: that of a sort, shared among up to two threads for each
 /// processor.
 pub(crate) fn sorted_by_threads<R: Threads + Sync>(rt: &R, mut rows: Vec<RowBytes>) -> Vec<RowBytes>
     ensures permutation { IsPermutation rows.items result.items }
@@ -135,7 +136,7 @@ pub(crate) fn sorted_by_threads<R: Threads + Sync>(rt: &R, mut rows: Vec<RowByte
     rows
 }
 
-// The pages of these rows, made by several threads. All but the last have `PAGE_FILL` rows.
+// Makes pages of these rows, by several threads. All pages but the last have `PAGE_FILL` rows.
 fn new_pages<R: Threads + Sync>(
     rt: &R,
     alloc: Global,
@@ -155,7 +156,7 @@ fn new_pages<R: Threads + Sync>(
     pages
 }
 
-/// Pages of rows that ascend, made by several threads. All but the last have `PAGE_FILL` rows.
+/// Puts rows that ascend into pages, by several threads. All pages but the last have `PAGE_FILL` rows.
 ///
 /// Errors: `NoMemory` if an allocation fails. Cost: a step a row, shared among up to two threads for each processor, and a step a page.
 pub(crate) fn pages_by_threads<R: Threads + Sync>(

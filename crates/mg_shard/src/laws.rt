@@ -1,7 +1,7 @@
 //! Laws of what shards stand for, each the contract of a function that changes nothing.
 ghost use Rattle.std.specs.Prelude.{All};
 ghost use Rattle.mg_index.specs.Catalog.{IsCatalog};
-ghost use Rattle.mg_shard.specs.Laws.{DraftsBecomeShards, EachEditIsDecidedThere, EachEditIsMadeThere, EachIdHasItsShard, NothingIsDealt, ShardsBecomeDrafts, TheServedAreKept};
+ghost use Rattle.mg_shard.specs.Laws.{DraftsBecomeShards, ItsShardDecidesEachEdit, ItsShardMakesEachEdit, EachIdHasItsShard, NothingIsDealt, ShardsBecomeDrafts, TheServedAreKept};
 ghost use Rattle.mg_shard.specs.Shard.{shards_seen};
 
 use crate::shard::Shard;
@@ -12,32 +12,33 @@ pub fn the_served_are_kept()
     ensures { TheServedAreKept }
 {}
 
-/// Shards without documents stand for no histories.
+/// Shards that have no document stand for the empty map of histories.
 pub fn nothing_is_dealt()
     ensures { NothingIsDealt }
 {}
 
-/// The document of an id, on the shard where the id is placed, stands for its history; there is none if there is no history.
+/// The shard on which an id is placed has the document that stands for the id's history, or no document of the id if it has no history.
 pub fn each_id_has_its_shard()
     ensures { EachIdHasItsShard }
 {}
 
 /// The outcome of an edit depends only on the draft of its shard.
-pub fn each_edit_is_decided_there()
-    ensures { EachEditIsDecidedThere }
+pub fn its_shard_decides_each_edit()
+    ensures { ItsShardDecidesEachEdit }
 {}
 
-/// Drafts stand for the histories after an edit if the draft of its shard has applied it and the others are unchanged.
-pub fn each_edit_is_made_there()
-    ensures { EachEditIsMadeThere }
+/// If drafts stand for histories, and then the draft of an edit's shard applies the edit and the others do not change, the drafts stand for
+/// the histories after the edit.
+pub fn its_shard_makes_each_edit()
+    ensures { ItsShardMakesEachEdit }
 {}
 
-/// If each draft stands for what the shard with its number stands for, all drafts stand for what all shards do.
+/// If each draft stands for what the shard at its position stands for, the drafts together stand for what the shards together stand for.
 pub fn shards_become_drafts()
     ensures { ShardsBecomeDrafts }
 {}
 
-/// If each shard stands for what the draft with its number stands for, all shards stand for what all drafts do.
+/// If each shard stands for what the draft at its position stands for, the shards together stand for what the drafts together stand for.
 pub fn drafts_become_shards()
     ensures { DraftsBecomeShards }
 {}
@@ -48,7 +49,7 @@ pub fn definitions_are_catalogs(shards: &[Arc<Shard>])
 {
     for i in 0..shards.len() {
         let shard: &Shard = &shards[i];
-        // only for its contract, which says it of one shard
+        // called only for its contract, which states this for one shard
         let _ = shard.indexes();
     }
 }

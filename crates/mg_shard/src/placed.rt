@@ -16,7 +16,7 @@ use mg_value::NoMemory;
 use std::alloc::Global;
 use std::sync::Arc;
 
-/// The documents of all these shards, deleted ones too, lent one shard after the other.
+/// Lists the documents of all these shards, deleted ones too, one shard after the other. They are lent, not copied.
 ///
 /// Errors: `NoMemory` if an allocation fails. Cost: a step a document.
 pub(crate) fn all_documents<'a>(
@@ -34,7 +34,7 @@ pub(crate) fn all_documents<'a>(
     Ok(all)
 }
 
-// Adds the documents of one more shard.
+// Appends the documents of one more shard to `all`.
 fn add_documents<'a>(shard: &'a Shard, all: &mut Vec<&'a Shared<Document>>) -> Result<(), NoMemory>
     ensures { OnOk result ((id : List ℕ) → last_kept (documents_seen all.new.items) id
         ≡ option_or (get shard.now.documents id) (last_kept (documents_seen all.old.items) id)) }
@@ -46,7 +46,7 @@ fn add_documents<'a>(shard: &'a Shard, all: &mut Vec<&'a Shared<Document>>) -> R
     Ok(())
 }
 
-/// The place of each of these documents among the given number of shards. Only the caller's thread asks the placement, which
+/// Finds the shard of each of these documents, among the given number of shards. Only the caller's thread asks the placement, which
 /// therefore need not be `Sync`.
 ///
 /// Errors: `NoMemory` if an allocation fails. Cost: the placement of each document.
@@ -67,7 +67,7 @@ pub(crate) fn places_of<P: Placement>(
     Ok(places)
 }
 
-// Inserts a document into `there`, the documents of the shard `place`, if its own shard, `own`, is that one.
+// Inserts a document of the shard `own` into `there`, the documents of the shard `place`, if `own` is `place`.
 fn put_if(
     alloc: Global,
     there: &mut Pages<Shared<Document>>,
@@ -85,7 +85,7 @@ fn put_if(
     Ok(())
 }
 
-/// The documents that are placed on this shard. If several have one id, the last of them is kept.
+/// Collects the documents whose number in `places` is `place`. If several of them have one id, the last is kept.
 ///
 /// Errors: `NoMemory` if an allocation fails. Cost: a step a document, and an insertion for each that is placed there.
 pub(crate) fn documents_at(

@@ -8,7 +8,7 @@ pub trait Placement {
     // the shard of an id, among this many shards
     ghost place: { Self → List ℕ → ℕ → ℕ };
 
-    /// The number of the shard of an id, counted from 0 and below `shards`, which is at least 1. Takes no memory.
+    /// Returns the number of the shard of an id. Shards are counted from 0, and there are `shards` of them, at least 1. Takes no memory.
     fn shard_of(&self, id: &str, shards: usize) -> usize
         requires { 0 < shards }
         ensures place { result ≡ place self.now id.now shards }

@@ -13,9 +13,9 @@ ghost use Rattle.mg_shard.specs.Redealt.{AreMade, AreRedealt, IsMade, documents_
 ghost use Rattle.mg_shard.specs.Shard.{ShardView, shards_seen};
 
 use crate::document::Document;
-use crate::entry::IndexEntry;
 use crate::extracted::MANY_DOCUMENTS;
-use crate::indexes::{list_in_pages, share_indexes};
+use crate::index_entry::IndexEntry;
+use crate::index_list::{list_in_pages, share_indexes};
 use crate::placed::{all_documents, documents_at, places_of};
 use crate::placement::Placement;
 use crate::shard::Shard;
@@ -29,14 +29,15 @@ use std::thread::Threads;
 
 /// Deals the documents of these shards to a new number of shards: each document goes, with its tree, to the shard that the placement
 /// gives, whatever placement dealt it before. Each new shard has the indexes of the first of these shards, with the rows of its own
-/// documents. Documents, trees and definitions are shared with the lent shards, not copied.
+/// documents; if there is no former shard, the new ones are empty. Documents, trees and definitions are shared with the lent shards, not
+/// copied.
 ///
-/// The shards are the same for every number of workers. With one worker, or fewer than 1,000 documents, no thread is started;
-/// otherwise each shard is made by a thread of its own. If there are at least twice as many workers as shards, further threads extract
-/// and sort the rows of each shard that has 1,000 documents or more.
+/// The result does not depend on the number of workers. With fewer than two workers, or fewer than 1,000 documents, no thread is started;
+/// otherwise each new shard is made by a thread of its own. If there are at least twice as many workers as new shards, further threads
+/// extract and sort the rows of each new shard that has 1,000 documents or more.
 ///
 /// Errors: `NoMemory` if an allocation fails. Cost: for each document its placement, a step for each new shard, an insertion, and the
-/// bytes of its row in each index; and a sort of the rows of each shard.
+/// bytes of its row in each index; and a sort of the rows of each index in each shard.
 pub fn redeal<P: Placement, R: Threads + Sync>(
     rt: &R,
     alloc: Global,
@@ -74,7 +75,7 @@ pub fn redeal<P: Placement, R: Threads + Sync>(
     Ok(made)
 }
 
-// The indexes of the first shard, if there is one, in a list, with their rows shared.
+// Lists the indexes of the first shard, with their rows shared. The list is empty if there is no shard.
 fn first_indexes(alloc: Global, shards: &[Arc<Shard>]) -> Result<Vec<IndexEntry>, NoMemory>
     ensures catalog { IfOk result (λ v. IsCatalog (definitions_of v.items)) }
     ensures first { IfOk result
@@ -184,7 +185,7 @@ fn make_in_turn<R: Threads + Sync>(
     Ok(shards)
 }
 
-// The shards; `NoMemory` if one of them was refused memory.
+// Takes the shards out of the results; `NoMemory` if one of the results is this error.
 fn all_of(alloc: Global, results: Vec<Result<Shard, NoMemory>>) -> Result<Vec<Shard>, NoMemory>
     ensures { IfOk result (λ v. results.items ≡ map Ok v.items) }
 {
@@ -226,7 +227,7 @@ fn make_at_once<R: Threads + Sync>(
     Ok(shards)
 }
 
-// Makes the new shards: in turn if there is one worker, else at once, with the workers shared out among them.
+// Makes the new shards: one after the other with fewer than two workers; otherwise at once, with the workers shared out among them.
 fn make_all<R: Threads + Sync>(
     rt: &R,
     alloc: Global,

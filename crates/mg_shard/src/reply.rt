@@ -11,7 +11,7 @@ pub enum EditReply {
     /// The named revision is not a leaf; or none is named, but the winner is not deleted; or the revision that the edit makes is
     /// already known.
     Conflict,
-    /// The path gives a known revision another parent, or the extended leaf has the last position, 4,294,967,295.
+    /// The path gives a known revision a parent other than the known one, or the extended leaf has the last position, 4,294,967,295.
     BadHistory,
 }
 

@@ -5,8 +5,8 @@ ghost use Rattle.mg_shard.specs.Own.{form_in, has_own_id, HasOwnId, IsServedOwn}
 use mg_packed::Written;
 use mg_revtree::Form;
 
-/// The form in which a document is served, in one block with its compact text, if the document is not deleted. The case says whether
-/// the form has a member `_id`, because a search among all documents asks it of each document.
+/// The form in which a document is served, in one block with its compact text, if the document is not deleted. The variant says whether
+/// the form has a member `_id`, because a search among all documents checks this for each document.
 #[derive(Drop)]
 pub(crate) enum Served {
     Deleted,
@@ -14,11 +14,11 @@ pub(crate) enum Served {
     WithoutId(Form),
 }
 
-// Every document has one, so its size counts.
+// Every document has a `Served`, so the size of this type counts.
 const _: () = prove!(size_of::<Served>() == 16);
 
 impl Served {
-    /// The form of a document that is not deleted. Finds whether it has an `_id`. Takes no memory. Cost: a look-up of a member.
+    /// Wraps the form of a document that is not deleted, by whether it has a member `_id`. Takes no memory. Cost: a look-up of a member.
     pub(crate) fn of(form: Form) -> Served
         ensures form { form_in result ≡ Some form }
         ensures own { (id : List ℕ) → HasOwnId id form → IsServedOwn id result }
@@ -30,7 +30,7 @@ impl Served {
         }
     }
 
-    /// The block of the form, if the document is not deleted. Takes no memory.
+    /// Returns the block of the form; `None` if the document is deleted. Takes no memory.
     pub(crate) fn written(&self) -> Option<&Written>
         ensures { option_map (λ form. form.now) result ≡ form_in self.now }
     {
@@ -40,7 +40,7 @@ impl Served {
         }
     }
 
-    /// Whether the form has a member `_id`. Takes no memory.
+    /// Whether the document has a form with a member `_id`. Takes no memory.
     pub(crate) fn has_id(&self) -> bool
         ensures { result ≡ has_own_id self.now }
     {

@@ -18,8 +18,8 @@ ghost use Rattle.mg_shard.specs.Index.{definitions_of};
 use crate::docs::Docs;
 use crate::document::Document;
 use crate::draft::Draft;
-use crate::entry::IndexEntry;
-use crate::indexes::rows_there;
+use crate::index_entry::IndexEntry;
+use crate::index_list::rows_there;
 use crate::reply::EditReply;
 use crate::walk::{Documents, Rows, Walk, count_beyond};
 use mg_collate::Direction;
@@ -33,10 +33,10 @@ use std::alloc::Global;
 use std::cmp::Ordering;
 use std::marker::Model;
 
-/// Documents by their ids and the rows of indexes, in shared pages: sharing a shard copies only the top levels, and an edit copies a
-/// document, a row or two for each index, and the pages on the way to them.
+/// Documents by their ids and the rows of indexes, in shared pages. Sharing a shard copies only the top levels. An edit makes its document
+/// anew, with a copy of the tree, removes at most one row from each index and adds at most one, and copies the pages on the way to them.
 ///
-/// After any edits, the rows of each index are those that an index made from scratch of the served documents has, by key and id.
+/// The rows of an index are always those of an index that is made from scratch of the served documents, in the order of key, then id.
 #[derive(Drop)]
 pub struct Shard {
     pub(crate) documents: Pages<Shared<Document>>,
@@ -60,7 +60,7 @@ impl Model for Shard {
 }
 
 impl Shard {
-    /// A shard without documents and indexes. Takes no memory.
+    /// Makes a shard without documents and indexes. Takes no memory.
     pub fn new(alloc: Global) -> Shard
         ensures documents { result.documents ≡ finite.empty }
         ensures indexes { result.definitions ≡ [] }
@@ -71,7 +71,7 @@ impl Shard {
         }
     }
 
-    /// A second shard with these documents and indexes, which both shards share.
+    /// Makes a second shard with these documents and indexes, which both shards then share.
     ///
     /// Errors: `NoMemory` if an allocation fails. Cost: the top levels of the documents and of the list of indexes, as for `Pages::share`.
     pub fn share(&self, alloc: Global) -> Result<Shard, NoMemory>
@@ -82,7 +82,7 @@ impl Shard {
         Ok(Shard { documents, indexes })
     }
 
-    /// The document of an id, if there is one, deleted or not. Takes no memory. Cost: one look-up.
+    /// Returns the document with this id, deleted or not; `None` if there is no such document. Takes no memory. Cost: one look-up.
     #[inline(always)]
     pub fn document(&self, id: &str) -> Option<&Document>
         ensures kept { option_map (λ d. kept_of d.now) result ≡ get self.now.documents id.now }
@@ -94,8 +94,8 @@ impl Shard {
         }
     }
 
-    /// The form in which the document of an id is served; `None` if there is no such document, or it is deleted. Takes no memory.
-    /// Cost: one look-up.
+    /// Returns the form in which the document with this id is served; `None` if there is no such document, or it is deleted. Takes no
+    /// memory. Cost: one look-up.
     pub fn served(&self, id: &str) -> Option<Part<'_>>
         ensures { result ≡ form_at self.now.documents id.now }
     {
@@ -105,7 +105,8 @@ impl Shard {
         }
     }
 
-    /// The revision tree of the document of an id, if there is one. Takes no memory. Cost: one look-up.
+    /// Returns the revision tree of the document with this id, deleted or not; `None` if there is no such document. Takes no memory.
+    /// Cost: one look-up.
     pub fn tree(&self, id: &str) -> Option<&RevTree>
         ensures { option_map (λ t. t.now) result ≡ tree_at self.now.documents id.now }
     {
@@ -115,7 +116,7 @@ impl Shard {
         }
     }
 
-    /// The served documents in the order of their ids. Takes no memory. Cost: a step a document.
+    /// Lists the served documents in the order of their ids. Takes no memory. Cost: a step a document, deleted ones too.
     pub fn docs(&self) -> Docs<'_>
         ensures { result ≡ docs_of self.now.documents }
     {
@@ -124,7 +125,7 @@ impl Shard {
         Docs::over(documents)
     }
 
-    /// The served documents from the last id to the first. Takes no memory. Cost: as for `docs`.
+    /// Lists the served documents from the last id to the first. Takes no memory. Cost: as for `docs`.
     pub fn docs_back(&self) -> Docs<'_>
         ensures { result ≡ reverse (docs_of self.now.documents) }
     {
@@ -133,8 +134,9 @@ impl Shard {
         Docs::over(documents)
     }
 
-    /// The documents that come after a place in a direction, deleted ones too: ascending those above it; descending those below it, from
-    /// the last to the first. A place need not be a document. Takes no memory. Cost: one look-up, and then a step a document.
+    /// Lists the documents that come after a place in a direction, deleted ones too: ascending, those above the place; descending, those
+    /// below it, from the last to the first. There need not be a document at the place. Takes no memory. Cost: one look-up, and then a
+    /// step a document.
     pub fn documents_beyond<Q: Probe<Shared<Document>>>(
         &self,
         place: &Q,
@@ -148,7 +150,7 @@ impl Shard {
         Documents::beyond(&self.documents, place, direction)
     }
 
-    /// How many documents, deleted ones too, `documents_beyond` lists after a place in a direction. They are not read one by one.
+    /// Counts the documents, deleted ones too, that `documents_beyond` lists after a place in a direction. They are not read one by one.
     /// Takes no memory. Cost: one look-up, and a read of the count of each part before the place, at most 64 for each level below the top.
     pub fn count_documents_beyond<Q: Probe<Shared<Document>>>(
         &self,
@@ -163,16 +165,17 @@ impl Shard {
         count_beyond(&self.documents, place, direction)
     }
 
-    /// Does nothing: its contract tells proofs of callers that a document that is served with an `_id` is served with its own.
+    /// Does nothing. From its contract the proofs of callers know that the `_id` of a served document, if there is one, is the document's
+    /// own id.
     pub fn ids_are_own(&self)
         ensures { (id : List ℕ) (form : Value) → form_at self.now.documents id ≡ Some form
             → HasOwnId id form }
     {
-        // only for the invariant of the shard
+        // read only because the contract follows from the shard's invariant
         let _ = &self.documents;
     }
 
-    // Its indexes. Takes no memory.
+    // Returns the shard's indexes. Takes no memory.
     pub(crate) fn indexes(&self) -> &Pages<IndexEntry>
         ensures catalog { IsCatalog self.now.definitions }
         ensures definitions { definitions_of result.now ≡ self.now.definitions }
@@ -180,7 +183,7 @@ impl Shard {
         &self.indexes
     }
 
-    // The shard `next`; without it, a shard that shares the pages of this one.
+    // Returns `next`; if it is `None`, a shard that shares the pages of this one.
     fn or_shared(&self, alloc: Global, next: Option<Shard>) -> Result<Shard, NoMemory>
         ensures { IfOk result (λ s. s ≡ unwrap_or next self.now) }
     {
@@ -190,11 +193,11 @@ impl Shard {
         }
     }
 
-    /// Applies edits that have ids, in order, and returns the shard after them and what became of each. This shard does not change.
+    /// Applies edits that have ids, in order, and returns the shard after them and the outcome of each. This shard does not change.
     ///
-    /// Errors: `NoMemory` if an allocation fails. Cost: a copy of each edit, whose body is moved into its document's tree; and for
-    /// each document that they touch a copy of its tree, its form and text, and the pages on the way to it and to its rows. If they
-    /// touch none, only the top levels are copied. `Draft::apply` takes an edit by value, and does not copy it.
+    /// Errors: `NoMemory` if an allocation fails, or at a limit that `RevTree::merge` or `serve_form` has. A refused edit is not an
+    /// error. Cost: that of `Draft::apply_all`, which copies each edit and moves the copy's body into the tree of its document; and that of
+    /// `Draft::finish` or, if the edits touch no document, that of `share`. `Draft::apply` takes an edit by value, and does not copy it.
     pub fn apply(&self, alloc: Global, edits: &[Edit]) -> Result<(Shard, Vec<EditReply>), NoMemory>
         ensures stands { IfOk result
             (λ r. (hs : Histories) → StandFor self.now.documents hs
@@ -210,9 +213,9 @@ impl Shard {
         Ok((self.or_shared(alloc, next)?, replies))
     }
 
-    /// The rows of the index of this design document and name, by key and id; `None` if there is no such index. They are the rows
-    /// that the served documents have, as if made from scratch. Takes no memory. Cost: that of finding the index, which is a comparison
-    /// of names with each index, or one look-up if the indexes are in several pages; and then a step a row.
+    /// Lists the rows of the index of this design document and name, in the order of key, then id; `None` if there is no such index. They
+    /// are the rows of an index that is made from scratch of the served documents. Takes no memory. Cost: that of finding the index, which
+    /// is a comparison of names with each index, or one look-up if the indexes are in several pages; and then a step a row.
     pub fn rows(&self, ddoc: &str, name: &str) -> Option<Rows<'_>>
         ensures { result ≡ rows_at ddoc.now name.now self.now }
     {
@@ -222,7 +225,7 @@ impl Shard {
         }
     }
 
-    /// The rows of the index of this design document and name from the last to the first; `None` if there is no such index.
+    /// Lists the rows of the index of this design document and name from the last to the first; `None` if there is no such index.
     /// Takes no memory. Cost: as for `rows`.
     pub fn rows_back(&self, ddoc: &str, name: &str) -> Option<Rows<'_>>
         ensures { result ≡ option_map reverse (rows_at ddoc.now name.now self.now) }
@@ -233,10 +236,10 @@ impl Shard {
         }
     }
 
-    /// The rows that come after a place in a direction, in the index of this design document and name; `None` if there is no such
-    /// index. Ascending they are those above the place, descending those below it, from the last to the first. A place need not be a
-    /// row: the beginning of a range of keys is one too. Takes no memory. Cost: that of finding the index, as for `rows`, one look-up
-    /// of the place, and then a step a row.
+    /// Lists the rows that come after a place in a direction, in the index of this design document and name; `None` if there is no such
+    /// index. Ascending, these are the rows above the place; descending, those below it, from the last to the first. There need not be a
+    /// row at the place, which may be the beginning of a range of keys. Takes no memory. Cost: that of finding the index, as for `rows`,
+    /// one look-up of the place, and then a step a row.
     pub fn rows_beyond<Q: Probe<RowBytes>>(
         &self,
         ddoc: &str,
@@ -253,9 +256,9 @@ impl Shard {
         }
     }
 
-    /// How many rows `rows_beyond` lists after a place in a direction; `None` if there is no such index. The rows are not read one by
-    /// one. Takes no memory. Cost: that of finding the index, as for `rows`, one look-up of the place, and a read of the count of each
-    /// part before it, at most 64 for each level below the top.
+    /// Counts the rows that `rows_beyond` lists after a place in a direction; `None` if there is no such index. The rows are not read one
+    /// by one. Takes no memory. Cost: that of finding the index, as for `rows`, one look-up of the place, and a read of the count of each
+    /// part before the place, at most 64 for each level below the top.
     pub fn count_rows_beyond<Q: Probe<RowBytes>>(
         &self,
         ddoc: &str,
@@ -272,7 +275,7 @@ impl Shard {
         }
     }
 
-    /// The rows strictly after a row in a direction, in the index of this design document and name; `None` if there is no such
+    /// Lists the rows strictly after a row in a direction, in the index of this design document and name; `None` if there is no such
     /// index. The index need not have that row. Takes no memory. Cost: as for `rows_beyond`.
     pub fn rows_after(
         &self,

@@ -38,7 +38,7 @@ impl<'a, T: Keyed> Model for Walk<'a, T> {
 }
 
 impl<'a, T: Keyed> Walk<'a, T> {
-    // All elements of a collection.
+    // Makes a walk over all elements of a collection.
     pub(crate) fn over(pages: &'a Pages<T>, direction: Direction) -> Walk<'a, T>
         ensures { result ≡ in_direction direction pages.now }
     {
@@ -49,7 +49,7 @@ impl<'a, T: Keyed> Walk<'a, T> {
         Walk { way }
     }
 
-    // The elements that come after a key in the direction.
+    // Makes a walk over the elements that come after a key in the direction. No element need tie with the key.
     pub(crate) fn beyond<Q: Probe<T>>(
         pages: &'a Pages<T>,
         key: &Q,
@@ -75,8 +75,8 @@ impl<'a, T: Keyed> Walk<'a, T> {
         }
     }
 
-    /// Where the run that is being read ends: the place of its last element among the elements that are left, counted from 0, and that
-    /// element; `None` if nothing is left. The run is the rest of one page. Takes no memory. Cost: constant.
+    /// Finds the end of the current run, which is the rest of one page: the element that the walk reads last in the run, with its place
+    /// among the elements that are left, counted from 0. `None` if no element is left. Takes no memory. Cost: constant.
     pub fn run_end(&self) -> Option<(usize, &'a T)>
         ensures { MatchOption result (self.now ≡ []) (λ end. slice_get self.now end.0 ≡ Some end.1.now) }
     {
@@ -87,7 +87,7 @@ impl<'a, T: Keyed> Walk<'a, T> {
     }
 }
 
-// How many elements come after a key in the direction.
+// Counts the elements that come after a key in the direction.
 #[tactic(auto, using(crate::proofs::Walks::reversed_length))]
 pub(crate) fn count_beyond<T: Keyed, Q: Probe<T>>(
     pages: &Pages<T>,
@@ -139,7 +139,7 @@ impl<'a> Model for Documents<'a> {
 }
 
 impl<'a> Documents<'a> {
-    // All documents of a collection.
+    // Makes an iterator over all documents of a collection.
     pub(crate) fn over(pages: &'a Pages<Shared<Document>>, direction: Direction) -> Documents<'a>
         ensures { result ≡ in_direction direction pages.now }
     {
@@ -147,7 +147,7 @@ impl<'a> Documents<'a> {
         Documents { documents }
     }
 
-    // The documents that come after a key in the direction.
+    // Makes an iterator over the documents that come after a key in the direction. No document need tie with the key.
     pub(crate) fn beyond<Q: Probe<Shared<Document>>>(
         pages: &'a Pages<Shared<Document>>,
         key: &Q,

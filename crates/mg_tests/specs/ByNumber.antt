@@ -1,7 +1,7 @@
 -- The placement of the tests: the documents of the worked examples are `d1`, `d2` .., each on the shard of its number.
 use Rattle.std.specs.Prelude.{ℕ, ◌-◌, ◌%◌, List, [], ◌∷◌}
 
--- the digit after the first character of an id; 0 if there is none
+-- the value of the second byte of an id as a digit; 0 if there is no such byte
 abbrev pub number_of : List ℕ → ℕ
 number_of [] = 0
 number_of (_ ∷ []) = 0

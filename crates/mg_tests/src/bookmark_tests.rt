@@ -1,5 +1,5 @@
-//! A bookmark as a text and read back. The program writes the text from parts that it borrows. The text is URL-safe base64 of a JSON array,
-//! computed by another program. Other tests of bookmarks are in tests/conversations/queries.txt.
+//! A bookmark is written as a text and read back. The program itself writes the text from parts that it borrows. The expected text is
+//! URL-safe base64 of a JSON array, computed by another program. Other tests of bookmarks are in tests/conversations/queries.txt.
 use crate::given::string;
 use mg_bookmark::Bookmark;
 use mg_collate::Direction;
@@ -10,7 +10,7 @@ use std::process::Abort;
 // `["_design/by","price","desc",[5],"pear"]`
 const TEXT: &str = "WyJfZGVzaWduL2J5IiwicHJpY2UiLCJkZXNjIixbNV0sInBlYXIiXQ";
 
-fn pear_below_six<R: Abort>(rt: &R, alloc: Global) -> Bookmark {
+fn bookmark_of_pear<R: Abort>(rt: &R, alloc: Global) -> Bookmark {
     let mut key = Vec::new(alloc);
     key.push(Json::Whole(5)).expect(rt, "memory");
     Bookmark {
@@ -25,10 +25,18 @@ fn pear_below_six<R: Abort>(rt: &R, alloc: Global) -> Bookmark {
 #[test]
 fn a_bookmark_is_written(rt: HostRuntime) {
     let alloc = rt.alloc();
-    let text = pear_below_six(&rt, alloc)
+    let text = bookmark_of_pear(&rt, alloc)
         .encode(alloc)
         .expect(&rt, "memory");
     assert!(rt; text.as_str() == TEXT);
+}
+
+// Whether this is the design document of the index in `TEXT`.
+fn is_by(ddoc: &Option<String>) -> bool {
+    match ddoc {
+        Some(name) => name.as_str() == "_design/by",
+        None => false,
+    }
 }
 
 #[test]
@@ -37,7 +45,7 @@ fn a_bookmark_is_read_back(rt: HostRuntime) {
     let Ok(Some(read)) = Bookmark::decode(alloc, TEXT) else {
         rt.panic("no bookmark")
     };
-    assert!(rt; read.id.as_str() == "pear" && read.name.as_str() == "price");
+    assert!(rt; is_by(&read.ddoc) && read.name.as_str() == "price" && read.id.as_str() == "pear");
     assert!(rt;
         read.direction == Direction::Desc && read.key.as_slice() == [Json::Whole(5)].as_slice()
     );

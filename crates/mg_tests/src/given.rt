@@ -1,4 +1,4 @@
-//! What the tests share: JSON values, texts, and a check. A test that fails with the message `memory` was refused memory by some call.
+//! What the tests share: JSON values, texts, and a check. A test fails with the message `memory` if one of its calls is refused memory.
 use mg_packed::Packed;
 use mg_value::{Json, read};
 use std::alloc::Global;
@@ -14,7 +14,7 @@ pub(crate) fn packed<R: Abort>(rt: &R, alloc: Global, text: &str) -> Packed {
     Packed::of(alloc, &json(rt, alloc, text)).expect(rt, "memory")
 }
 
-/// An owned copy of a text.
+/// Copies a text.
 pub(crate) fn string<R: Abort>(rt: &R, alloc: Global, text: &str) -> String {
     String::from_str(alloc, text).expect(rt, "memory")
 }

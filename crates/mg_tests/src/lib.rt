@@ -1,7 +1,7 @@
-//! Tests of the libraries up to mg_machine that need Rust: states that share pages, a placement of the tests' own, lists of events, calls of
-//! `run` that are refused memory, and public calls that the program does not make. Whole conversations are data, in the folder tests/
-//! at the top; tests of threads and seats are in mg_thread_tests. A failing test ends the process, and so does a call that is refused memory.
-//! So no function needs an exit for such a call, which keeps the proofs of the tests small.
+//! Tests of the libraries up to mg_machine that need code: states that share pages, a placement of the tests' own, lists of events, a call
+//! of `run` that is refused memory, and public calls that the program does not make. Whole conversations are data, in the folder tests/
+//! at the top; tests of threads and seats are in mg_thread_tests. A failing test ends the process, and so does a call that is refused
+//! memory: no function needs an exit for such a call, which keeps the proofs of the tests small.
 #![tactic(auto)]
 
 #[cfg(test)]

@@ -22,7 +22,8 @@ const BODIES: [&str; 10] = [
     r#"{"selector":{"n":1}}"#,
 ];
 
-fn body_command<R: Abort>(rt: &R, alloc: Global, number: usize, text: &str) -> Command {
+// Makes a command from 0 to 9, with this body.
+fn command_with_body<R: Abort>(rt: &R, alloc: Global, number: usize, text: &str) -> Command {
     match number {
         0..=4 => Command::Bulk(packed(rt, alloc, text)),
         5 | 6 => Command::CreateIndex(json(rt, alloc, text)),
@@ -31,7 +32,8 @@ fn body_command<R: Abort>(rt: &R, alloc: Global, number: usize, text: &str) -> C
     }
 }
 
-fn plain_command<R: Abort>(rt: &R, alloc: Global, number: usize) -> Command {
+// Makes a command from 10 to 13: 10 and 13 get a document, 11 drops the index, 12 lists the indexes.
+fn command_without_body<R: Abort>(rt: &R, alloc: Global, number: usize) -> Command {
     match number {
         10 | 13 => Command::Get {
             id: string(rt, alloc, if number == 10 { "a" } else { "b" }),
@@ -45,15 +47,15 @@ fn plain_command<R: Abort>(rt: &R, alloc: Global, number: usize) -> Command {
     }
 }
 
-// The command with a number from 0 to 13.
+// Makes the command with a number from 0 to 13.
 fn command_of<R: Abort>(rt: &R, alloc: Global, number: usize) -> Command {
     match BODIES.get(number) {
-        Some(text) => body_command(rt, alloc, number, text),
-        None => plain_command(rt, alloc, number),
+        Some(text) => command_with_body(rt, alloc, number, text),
+        None => command_without_body(rt, alloc, number),
     }
 }
 
-// An event: its kind, its seat, and the number of its command or of the seat from which it learns.
+// An event: its kind, its seat, and the number of its command or of the seat that it learns from.
 #[derive(Clone, Copy, Drop)]
 struct Draw {
     kind: u64,
@@ -61,7 +63,7 @@ struct Draw {
     by: usize,
 }
 
-// The event of a draw. Of six kinds, two publish, two answer, one enters and one learns from another seat.
+// Makes the event of a draw. Of the six kinds, two publish, two answer, one enters, and one learns from one of the three seats.
 fn event_of<R: Abort>(rt: &R, alloc: Global, draw: &Draw) -> Event {
     let Draw { kind, seat, by } = *draw;
     match kind {
@@ -86,7 +88,7 @@ fn events_of<R: Abort>(rt: &R, alloc: Global, draws: &[Draw]) -> Vec<Event> {
     events
 }
 
-// The replies to the events, at three seats.
+// Returns the replies to the events, at three seats.
 fn replies_to<R: Threads + Sync + Abort>(
     rt: &R,
     alloc: Global,
@@ -102,8 +104,8 @@ const MISSING: &str = "{\"error\":\"not_found\",\"reason\":\"missing\"}\n";
 const INDEXES: &str =
     "{\"indexes\":[{\"ddoc\":null,\"def\":{\"fields\":[{\"_id\":\"asc\"}]},\"name\":\"_all_docs\",\"type\":\"special\"}],\"total_rows\":1}\n";
 
-// The second seat enters, the first writes, and the second reads before and after it learns of the write. Then it drops an index that
-// does not exist, and the first lists the indexes.
+// The second seat enters, the first writes, and the second reads before and after it learns of the write. Then the second asks to drop an
+// index that does not exist, and the first lists the indexes.
 const TELLING: [Draw; 7] = [
     Draw {
         kind: 4,
@@ -142,7 +144,7 @@ const TELLING: [Draw; 7] = [
     },
 ];
 
-// The status and the body of a reply; 0 and an empty body if there is none.
+// Returns the status and the body of a reply; 0 and an empty body if there is no reply.
 fn status_and_body(reply: Option<&Option<Reply>>) -> (u16, &[u8]) {
     match reply {
         Some(Some(reply)) => (reply.status(), reply.body()),
@@ -150,7 +152,7 @@ fn status_and_body(reply: Option<&Option<Reply>>) -> (u16, &[u8]) {
     }
 }
 
-// The replies to these events: the number of the event, the status and the body.
+// The replies to these events: the number of the event, the status and the body (0 and empty: the event has no reply).
 const REPLIES: &[(usize, u16, &str)] = &[
     (0, 0, ""),
     (1, 201, "[]\n"),
@@ -204,7 +206,7 @@ fn check_answered<R: Abort>(rt: &R, replies: &[Reply]) {
     }
 }
 
-// The reply of a new engine to the command, after it ran the commits.
+// Returns the reply of a new engine to the command, after it executed the commits. Fails the test if a reply is out of memory.
 pub(crate) fn plain_reply<R: Threads + Sync + Abort>(
     rt: &R,
     alloc: Global,
@@ -219,7 +221,8 @@ pub(crate) fn plain_reply<R: Threads + Sync + Abort>(
 }
 
 impl Plain {
-    // The expected reply to a command: from what its seat has seen, which is every commit if the command is published or writes.
+    // Executes a command. Returns the expected reply: that of an engine after the commits that the seat has seen. If the command is
+    // published or is a write, the seat first sees every commit. A write that is accepted is one more commit, which the seat has seen.
     fn command<R: Threads + Sync + Abort>(
         &mut self,
         rt: &R,
@@ -240,7 +243,7 @@ impl Plain {
         reply
     }
 
-    // The expected reply to an event, if it has one.
+    // Executes an event, and returns the expected reply; `None` if the event has no reply.
     fn happens<R: Threads + Sync + Abort>(
         &mut self,
         rt: &R,
@@ -257,7 +260,7 @@ impl Plain {
     }
 }
 
-// A pseudorandom number below the limit.
+// Returns a pseudorandom number below the limit, and changes the state.
 fn below(state: &mut u64, limit: u64) -> u64 {
     *state = state
         .wrapping_mul(6364136223846793005)
@@ -279,7 +282,7 @@ fn draw_events<R: Abort>(rt: &R, alloc: Global, seed: u64) -> Vec<Draw> {
     draws
 }
 
-// Whether each reply is the one expected, and there were more than 5 commits.
+// Whether each reply is the expected one. There must be more than 5 commits, so that the replies can differ.
 fn are_plain<R: Threads + Sync + Abort>(
     rt: &R,
     alloc: Global,

@@ -1,3 +1,4 @@
+//! Merges of lists of rows: the rows taken, and the work that is counted.
 use crate::given::{check, string};
 use mg_collate::{Direction, Row};
 use mg_merge::{are_in_order, merge};
@@ -7,7 +8,8 @@ use std::process::Abort;
 
 type Given = &'static [(i64, &'static str)];
 
-// A case: lists of keys and ids, and what their merge must give.
+// A case: lists of keys and ids, their direction, how many rows to take, the rows that the merge must give, and how many rows each list
+// hands over, which is its length.
 #[derive(Clone, Copy, Drop)]
 struct Merge {
     name: &'static str,
@@ -135,7 +137,7 @@ fn lists<R: Abort>(rt: &R, alloc: Global, given: &[Given]) -> Vec<Vec<Row>> {
     lists
 }
 
-// Whether the merge of the lists gives the wanted rows, and counts its work rightly. The lists must be in order.
+// Whether the merge of the lists gives the wanted rows and the right `Work`. The lists must be in order.
 fn merges<R: Abort>(rt: &R, alloc: Global, case: &Merge) -> bool {
     let lists = lists(rt, alloc, case.lists);
     assert!(rt; are_in_order(&lists, case.direction));

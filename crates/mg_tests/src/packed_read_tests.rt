@@ -1,5 +1,5 @@
-//! Tests of values in one block: an object without the members whose names begin with a given byte, also if other bytes follow the object
-//! in its block; copies of a block; and texts that are read into a block.
+//! Tests of values in one block: copies of an object without the members whose names begin with a given byte, where other bytes follow the
+//! object in its block; and texts that are read into a block.
 use crate::given::{check, json};
 use mg_packed::{Kind, Packed};
 use mg_value::{ReadBuffer, ReadError};
@@ -38,7 +38,7 @@ fn without_names_beginning<R: Abort>(rt: &R, alloc: Global, object: &str, text: 
         .without_names_beginning(alloc, b'_')
         .expect(rt, "memory");
     let copy = left.copy(alloc).expect(rt, "memory");
-    let found = copy.part().text(alloc).expect(rt, "memory");
+    let found = copy.part().compact_text(alloc).expect(rt, "memory");
     found.as_slice() == text.as_bytes()
 }
 
@@ -53,7 +53,7 @@ fn members_are_left_out_by_the_first_byte_of_their_names(rt: HostRuntime) {
     }
 }
 
-// A text, and the compact text of its value. If a name is repeated, the last member with it counts.
+// A text, and the compact text of its value. If a name is repeated, only the last member with this name counts.
 const READ: &[(&str, &str)] = &[
     (" null ", "null"),
     (
@@ -73,7 +73,7 @@ fn texts_are_read_into_a_block(rt: HostRuntime) {
     let mut buffer = ReadBuffer::new(rt.alloc());
     for (given, text) in READ {
         let packed = Packed::read_in(rt.alloc(), given.as_bytes(), &mut buffer).expect(&rt, "text");
-        let found = packed.part().text(rt.alloc()).expect(&rt, "memory");
+        let found = packed.part().compact_text(rt.alloc()).expect(&rt, "memory");
         check(&rt, found.as_slice() == text.as_bytes(), given);
     }
 }

@@ -13,7 +13,7 @@ const GIVEN: &str =
 pub(crate) const COMPACT: &str =
     r#"{"a":[],"ab":{},"list":[-7,"q\"",null,true,[false,"é"]],"n":{"":0}}"#;
 
-// The names of the members in order, with their texts; `None`: there is no such member.
+// The names of the members in order, with the texts of their values; `None`: there is no such member.
 const MEMBERS: &[(&str, Option<&str>)] = &[
     ("a", Some("[]")),
     ("ab", Some("{}")),
@@ -45,7 +45,7 @@ pub(crate) fn block<R: Abort>(rt: &R, alloc: Global) -> Packed {
     Packed::of(alloc, &value).expect(rt, "memory")
 }
 
-// Whether the part exists and has this text, or does not exist if no text is given.
+// Whether the part exists and has this text; without a text, whether there is no part.
 pub(crate) fn is_part<R: Abort>(
     rt: &R,
     alloc: Global,
@@ -54,7 +54,7 @@ pub(crate) fn is_part<R: Abort>(
 ) -> bool {
     match (part, text) {
         (Some(part), Some(text)) => {
-            let found = part.text(alloc).expect(rt, "memory");
+            let found = part.compact_text(alloc).expect(rt, "memory");
             found.as_slice() == text.as_bytes()
         }
         (None, None) => true,
@@ -73,7 +73,7 @@ fn is_at<R: Abort>(
     is_part(rt, alloc, whole.get(&path), text)
 }
 
-// The item at a place, by `item`, which needs a place below the length.
+// Returns the item at a place, found by `item`; `None` past the last item.
 fn item_at<'a>(items: &Array<'a>, place: usize) -> Option<Part<'a>> {
     if place < items.len() {
         Some(items.item(place))
@@ -94,7 +94,7 @@ fn is_item(place: usize, item: &Part<'_>) -> bool {
     }
 }
 
-// Whether the list has its five items, by `item` and by `get`, and no sixth.
+// Whether both `item` and `get` find the five items of the list, and there is no sixth.
 fn has_items(list: &Part<'_>) -> bool {
     let Kind::List(items) = list.kind() else {
         return false;
@@ -110,7 +110,7 @@ fn has_items(list: &Part<'_>) -> bool {
     items.len() == 5 && items.get(5).is_none()
 }
 
-// The name and the value of the member at a place; `None` past the last one.
+// Returns the name and the value of the member at a place; `None` past the last member.
 fn member_at<'a>(members: &Object<'a>, place: usize) -> Option<(&'a str, Part<'a>)> {
     if place < members.len() {
         Some((members.name(place), members.value(place)))
@@ -119,7 +119,8 @@ fn member_at<'a>(members: &Object<'a>, place: usize) -> Option<(&'a str, Part<'a
     }
 }
 
-// Whether the member is found by its place and by its name, in the object and in the part.
+// Whether the member of `MEMBERS` at this place is found by its place and by its name, in the object and in the part; for a member that
+// does not exist, whether it is not found.
 fn is_member<R: Abort>(rt: &R, alloc: Global, whole: &Part<'_>, place: usize) -> bool {
     let Kind::Object(members) = whole.lend().kind() else {
         return false;

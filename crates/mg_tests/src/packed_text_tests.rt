@@ -1,4 +1,4 @@
-//! The text and a copy of a packed value.
+//! The compact text of a packed value, its copy as a `Json`, and its written form.
 use crate::given::json;
 use crate::packed_tests::{COMPACT, block, is_part};
 use mg_packed::{Packed, Part, Written};
@@ -6,16 +6,16 @@ use mg_value::Json;
 use std::alloc::Global;
 use std::process::Abort;
 
-// Whether the text of the part is appended to a given text.
+// Whether the compact text of the part is appended to the bytes that are given.
 fn is_added<R: Abort>(rt: &R, alloc: Global, whole: &Part<'_>) -> bool {
     let front = Vec::from_slice(alloc, b"[").expect(rt, "memory");
-    let all = whole.append_text(front).expect(rt, "memory");
+    let all = whole.append_compact_text(front).expect(rt, "memory");
     all.first() == Some(&b'[') && all.get(1..) == Some(COMPACT.as_bytes())
 }
 
-// A copy of a packed value. The packed value is dropped.
-fn left_over<R: Abort>(rt: &R, alloc: Global, gone: Packed) -> Json {
-    gone.part().copy(alloc).expect(rt, "memory")
+// Makes a `Json` of a packed value, and drops the packed value.
+fn copy_and_drop<R: Abort>(rt: &R, alloc: Global, gone: Packed) -> Json {
+    gone.part().to_json(alloc).expect(rt, "memory")
 }
 
 #[test]
@@ -28,13 +28,13 @@ fn a_block_has_the_text_of_its_value(rt: HostRuntime) {
 
 #[test]
 fn a_copy_outlives_its_block(rt: HostRuntime) {
-    let copy = left_over(&rt, rt.alloc(), block(&rt, rt.alloc()));
+    let copy = copy_and_drop(&rt, rt.alloc(), block(&rt, rt.alloc()));
     assert!(rt; copy == json(&rt, rt.alloc(), COMPACT));
 }
 
 #[test]
 fn a_written_value_has_its_text_behind_it(rt: HostRuntime) {
     let written = Written::of(rt.alloc(), &block(&rt, rt.alloc())).expect(&rt, "memory");
-    assert!(rt; written.text() == COMPACT.as_bytes());
+    assert!(rt; written.compact_text() == COMPACT.as_bytes());
     assert!(rt; is_part(&rt, rt.alloc(), Some(written.part()), Some(COMPACT)));
 }

@@ -1,5 +1,5 @@
-//! A text that is put at a name of an object in one block: before, between and after its members, and in place of the first member, of one
-//! in the middle and of the last. A value that is not an object stays as it is.
+//! An object in one block gets a text as the value of a name: before, between and after its members, and in place of the first member, of
+//! one in the middle and of the last. A value that is not an object stays as it is.
 use crate::given::{check, json};
 use mg_packed::Packed;
 use std::alloc::Global;
@@ -46,7 +46,7 @@ const TEXTS: &[(&str, &str, &str)] = &[
 fn has_text<R: Abort>(rt: &R, alloc: Global, value: &str, name: &str, text: &str) -> bool {
     let packed = Packed::of(alloc, &json(rt, alloc, value)).expect(rt, "memory");
     let with_text = packed.with_text(alloc, name, "t").expect(rt, "memory");
-    let found = with_text.part().text(alloc).expect(rt, "memory");
+    let found = with_text.part().compact_text(alloc).expect(rt, "memory");
     found.as_slice() == text.as_bytes()
 }
 

@@ -1,3 +1,4 @@
+//! States that share their pages: a change of one does not show in the others.
 use mg_pages::{Identified, Pages, Shared};
 use std::alloc::Global;
 use std::process::Abort;
@@ -37,7 +38,7 @@ fn take_out<R: Abort>(rt: &R, alloc: Global, notes: &mut Notes, number: u64) {
     let _ = notes.remove(alloc, &id.as_str()).expect(rt, "memory");
 }
 
-// Notes with every second number below a limit, inserted out of order.
+// Makes notes with the even numbers below a limit, inserted out of order.
 fn even_notes<R: Abort>(rt: &R, alloc: Global, limit: u64) -> Notes {
     let mut notes = Pages::new(alloc);
     for k in 0..limit {
@@ -49,7 +50,7 @@ fn even_notes<R: Abort>(rt: &R, alloc: Global, limit: u64) -> Notes {
     notes
 }
 
-// Inserts each note anew, the odd ones too, and removes every fourth.
+// Inserts a note for each number below the limit, with version 2, and removes every fourth.
 fn change_all<R: Abort>(rt: &R, alloc: Global, notes: &mut Notes, limit: u64) {
     for number in 0..limit {
         put(rt, alloc, notes, number, 2);
@@ -69,7 +70,7 @@ fn are_all(notes: &Notes, count: usize, version: u64) -> bool {
     notes.len() == count
 }
 
-// The greatest id that is not above an id.
+// Returns the greatest id of a note that is not above an id; `none` if there is no such note.
 fn last_id<'a>(notes: &'a Notes, id: &str) -> &'a str {
     match notes.upto(&id).next() {
         Some(one) => one.id.as_str(),
@@ -77,7 +78,7 @@ fn last_id<'a>(notes: &'a Notes, id: &str) -> &'a str {
     }
 }
 
-// Whether the notes are still those of `even_notes`, in order.
+// Whether the notes are still those of `even_notes`, in order. The limit is 6000.
 fn are_as_they_were<R: Abort>(rt: &R, alloc: Global, notes: &Notes, limit: u64) -> bool {
     let mut number = 0u64;
     for one in notes.iter() {
@@ -89,15 +90,15 @@ fn are_as_they_were<R: Abort>(rt: &R, alloc: Global, notes: &Notes, limit: u64) 
     number == limit && are_all(notes, 3000, 1) && last_id(notes, "n05999") == "n05998"
 }
 
-// A state that shared its pages with these notes, and was then changed throughout.
-fn changed<R: Abort>(rt: &R, alloc: Global, notes: &Notes) -> Notes {
+// Makes a state that shares its pages with these notes, and changes all of it.
+fn change_shared<R: Abort>(rt: &R, alloc: Global, notes: &Notes) -> Notes {
     let mut other = notes.share(alloc).expect(rt, "memory");
     change_all(rt, alloc, &mut other, 6000);
     other
 }
 
-// A state that shared its pages with one that was dropped. It is checked against that one, and then changed throughout.
-fn left_over<R: Abort>(rt: &R, alloc: Global, gone: Notes) -> Notes {
+// Makes a state that shares its pages with `gone`, and drops `gone`. The state must be as `gone` was; then all of it is changed.
+fn change_survivor<R: Abort>(rt: &R, alloc: Global, gone: Notes) -> Notes {
     let mut left = gone.share(alloc).expect(rt, "memory");
     drop(gone);
     assert!(rt; are_as_they_were(rt, alloc, &left, 6000));
@@ -105,14 +106,13 @@ fn left_over<R: Abort>(rt: &R, alloc: Global, gone: Notes) -> Notes {
     left
 }
 
-// Three states that share their pages: a change of one does not show in the others.
 #[test]
 fn a_shared_state_stays_as_it_was(rt: HostRuntime) {
     let alloc = rt.alloc();
     let first = even_notes(&rt, alloc, 6000);
-    let second = changed(&rt, alloc, &first);
+    let second = change_shared(&rt, alloc, &first);
     assert!(rt; are_as_they_were(&rt, alloc, &first, 6000));
-    let third = left_over(&rt, alloc, first);
+    let third = change_survivor(&rt, alloc, first);
     assert!(rt; are_all(&second, 4500, 2));
     assert!(rt; are_all(&third, 4500, 2));
 }

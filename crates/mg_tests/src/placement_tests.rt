@@ -1,5 +1,5 @@
-//! Worked examples over a placement of the tests' own: document `d1` is on shard 1 modulo the number of shards, and so on. The bookmarks
-//! were made with Python's base64 and json, the revision with its hashlib.
+//! Worked examples over a placement of the tests' own: document `d1` is on shard 1 modulo the number of shards, `d2` on shard 2, and so on.
+//! The bookmarks were made with Python's base64 and json, the revision with its hashlib.
 ghost use Rattle.std.specs.Prelude.{◌≡◌};
 ghost use Rattle.mg_tests.specs.ByNumber.{number_of, number_place};
 
@@ -16,7 +16,7 @@ use std::thread::Threads;
 #[derive(Clone, Copy, Drop)]
 struct ByNumber;
 
-// The digit after an id's first character.
+// Returns the value of an id's second byte as a digit; 0 if there is no such byte.
 fn number_of(id: &str) -> usize
     ensures { result ≡ number_of id.now }
 {
@@ -60,7 +60,7 @@ const INDEX: Step = Step(
     "{\"id\":\"_design/x\",\"name\":\"k_idx\",\"result\":\"created\"}\n",
 );
 
-// An index on the same column that a query prefers to `k_idx`, since its name is smaller.
+// Another index on `k`. A query prefers it to `k_idx`, since its name is smaller.
 const PREFERRED_INDEX: Step = Step(
     Ask::CreateIndex,
     r#"{"index":{"fields":["k"]},"ddoc":"x","name":"a_idx"}"#,
@@ -176,7 +176,8 @@ fn command_of<R: Abort>(rt: &R, alloc: Global, step: &Step) -> Command {
     }
 }
 
-fn answers<R: Threads + Sync + Abort>(
+// Executes the command of a step, and fails the test unless its reply is the expected one.
+fn check_step<R: Threads + Sync + Abort>(
     rt: &R,
     alloc: Global,
     engine: &mut Engine<ByNumber>,
@@ -188,11 +189,11 @@ fn answers<R: Threads + Sync + Abort>(
     check(rt, holds, step.1);
 }
 
-// A new engine of four shards after these steps. Each reply is checked.
+// Makes an engine of four shards and executes these steps. Fails the test unless each reply is the expected one.
 fn after<R: Threads + Sync + Abort>(rt: &R, alloc: Global, steps: &[Step]) -> Engine<ByNumber> {
     let mut engine = Engine::new(alloc, "db", ByNumber, 4).expect(rt, "memory");
     for step in steps {
-        answers(rt, alloc, &mut engine, step);
+        check_step(rt, alloc, &mut engine, step);
     }
     engine
 }
@@ -256,7 +257,7 @@ fn shows<R: Abort>(rt: &R, alloc: Global, page: Page, text: &str) -> bool {
     shown.as_slice() == text.as_bytes()
 }
 
-// Whether the page and its work are as expected. The catalog lacks the preferred index, though the shards may have it.
+// Whether the page and its work are as expected. The catalog that is given lacks the preferred index, though the shards may have it.
 fn has_page<R: Threads + Sync + Abort>(
     rt: &R,
     alloc: Global,
@@ -286,7 +287,8 @@ fn is_paged<R: Threads + Sync + Abort>(
     }
 }
 
-fn are_paged<R: Threads + Sync + Abort>(rt: &R, alloc: Global, steps: &[Step], all: &[Paged]) {
+// Fails the test unless a new engine gives all these pages after these steps.
+fn check_pages<R: Threads + Sync + Abort>(rt: &R, alloc: Global, steps: &[Step], all: &[Paged]) {
     let engine = after(rt, alloc, steps);
     for paged in all {
         check(rt, is_paged(rt, alloc, &engine, paged), paged.0);
@@ -295,11 +297,11 @@ fn are_paged<R: Threads + Sync + Abort>(rt: &R, alloc: Global, steps: &[Step], a
 
 #[test]
 fn rows_handed_over_by_each_shard(rt: HostRuntime) {
-    are_paged(&rt, rt.alloc(), &[PUTS, INDEX], OVER_FOUR);
-    are_paged(&rt, rt.alloc(), &[PUTS, INDEX, SEVEN], OVER_SEVEN);
+    check_pages(&rt, rt.alloc(), &[PUTS, INDEX], OVER_FOUR);
+    check_pages(&rt, rt.alloc(), &[PUTS, INDEX, SEVEN], OVER_SEVEN);
 }
 
 #[test]
 fn a_page_ignores_an_index_that_the_catalog_lacks(rt: HostRuntime) {
-    are_paged(&rt, rt.alloc(), &[PUTS, INDEX, PREFERRED_INDEX], OVER_FOUR);
+    check_pages(&rt, rt.alloc(), &[PUTS, INDEX, PREFERRED_INDEX], OVER_FOUR);
 }

@@ -1,4 +1,4 @@
-//! The list of leaves, and the served document as a `Json`. The program itself shows only the winner, from its block, and the conflicts.
+//! The list of leaves, and the served document as a `Json`. The program shows only the winner, read from its block, and the conflicts.
 //! Other tests of trees are in tests/trees.py and tests/conversations/revisions.txt.
 use crate::given::{json, packed, string};
 use mg_doc::served;
@@ -40,12 +40,12 @@ fn are_best_first<R: Abort>(rt: &R, tree: &RevTree) -> bool {
 }
 
 #[test]
-fn leaves_best_first(rt: HostRuntime) {
+fn leaves_are_listed_best_first(rt: HostRuntime) {
     let tree = tree_of_roots(&rt, rt.alloc());
     assert!(rt; are_best_first(&rt, &tree));
 }
 
-// A tree of one revision, 1-x.
+// Makes a tree of one revision, 1-x.
 fn tree_of_one<R: Abort>(rt: &R, alloc: Global, deleted: bool, body: &str) -> RevTree {
     let mut tree = RevTree::new(alloc);
     let path = path_of(rt, alloc, "x");

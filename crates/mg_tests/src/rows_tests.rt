@@ -11,7 +11,7 @@ use std::process::Abort;
 #[derive(Clone, Copy, Drop)]
 struct RowCase(&'static str, &'static str, &'static [u8]);
 
-// Rows in order: null, false, true, numbers, texts, arrays, objects. A key, a text and an array are above each of their prefixes.
+// Rows in order: null, false, true, numbers, texts, arrays, objects. Each key, text and array is above its own prefixes.
 const ROWS: &[RowCase] = &[
     RowCase("[]", "z", &[0, 122]),
     RowCase("[null]", "b", &[1, 0, 98]),
@@ -73,7 +73,7 @@ fn row_of<R: Abort>(rt: &R, alloc: Global, written: &RowCase) -> RowBytes {
     RowBytes::of(alloc, &key, written.1).expect(rt, "memory")
 }
 
-// Puts columns into a key, in place of those that it may have of an earlier row.
+// Puts these columns into a key, in place of those of an earlier row.
 fn put_columns<R: Abort>(rt: &R, alloc: Global, key: &mut KeyBytes, columns: &str) {
     key.clear();
     for column in &values_of(rt, alloc, columns) {
@@ -102,7 +102,7 @@ fn all_rows<R: Abort>(rt: &R, alloc: Global) -> Vec<RowBytes> {
     rows
 }
 
-// Whether the row compares with each of `rows` as the row at this place among them must.
+// Whether the row compares with each of `rows` as the row at this place does.
 fn is_in_place(rows: &[RowBytes], row: &RowBytes, place: usize) -> bool {
     for (other_place, other) in rows.iter().enumerate() {
         let wanted = place.cmp(&other_place);
@@ -163,27 +163,27 @@ fn a_bound_is_between_rows_and_never_on_one(rt: HostRuntime) {
     }
 }
 
-// An id, and how many of the rows are below its row in `_all_docs`.
-const IDS: &[(&str, usize)] = &[
-    ("", 9),
-    ("a", 10),
-    ("aa", 11),
-    ("b", 12),
-    ("xx", 12),
-    ("é", 13),
-    ("êêê", 14),
+// An id, how many of the rows are below its row in `_all_docs`, and how the next row compares with it.
+const IDS: &[(&str, usize, Ordering)] = &[
+    ("", 9, Ordering::Greater),
+    ("a", 10, Ordering::Greater),
+    ("aa", 11, Ordering::Greater),
+    ("b", 12, Ordering::Greater),
+    ("xx", 12, Ordering::Greater),
+    ("é", 13, Ordering::Equal),
+    ("êêê", 14, Ordering::Greater),
 ];
 
-// Whether exactly the first `below` rows are below the row of the id in `_all_docs`.
-fn parts_by_id(rows: &[RowBytes], id: &str, below: usize) -> bool {
+// Whether the first `below` rows are below the row of the id in `_all_docs`, the next row compares with it as `next` says, and the others
+// are above it.
+fn parts_by_id(rows: &[RowBytes], id: &str, below: usize, next: Ordering) -> bool {
     for (place, row) in rows.iter().enumerate() {
-        let wanted = if place < below {
-            Ordering::Less
-        } else {
-            Ordering::Greater
+        let wanted = match place.cmp(&below) {
+            Ordering::Less => Ordering::Less,
+            Ordering::Equal => next,
+            Ordering::Greater => Ordering::Greater,
         };
-        let tied = row.id() == id && row.compare_to_id(id) == Ordering::Equal;
-        if row.compare_to_id(id) != wanted && !tied {
+        if row.compare_to_id(id) != wanted {
             return false;
         }
     }
@@ -193,8 +193,8 @@ fn parts_by_id(rows: &[RowBytes], id: &str, below: usize) -> bool {
 #[test]
 fn the_row_of_an_id_has_the_id_alone_as_its_key(rt: HostRuntime) {
     let rows = all_rows(&rt, rt.alloc());
-    for (id, below) in IDS {
-        check(&rt, parts_by_id(&rows, id, *below), id);
+    for (id, below, next) in IDS {
+        check(&rt, parts_by_id(&rows, id, *below, *next), id);
     }
 }
 
@@ -245,11 +245,11 @@ fn hints_do_not_fall_along_the_rows(rt: HostRuntime) {
         }
         last = row.hint();
     }
-    // Hints that are all the same would say nothing.
+    // Equal hints would pass the checks above, but would not tell rows apart.
     check(&rt, rises > 1, "hints tell rows apart");
 }
 
-// Whether the hints of the rows below the bound are at most the bound's hint, and those of all other rows at least that.
+// Whether the hint of each row below the bound is at most the bound's hint, and the hint of each other row at least the bound's hint.
 fn parts_hints(rows: &[RowBytes], bound: &RowBound) -> bool {
     for row in rows {
         let wanted = match bound.against(row) {

@@ -1,4 +1,5 @@
-//! A call of `Engine::run`. tests/refused_calls.py repeats the test while memory is refused; without a refusal, each command is answered.
+//! A call of `Engine::run`. If no memory is refused, the test checks the reply to each command. tests/refused_calls.py repeats the test for
+//! each request for memory that it makes, refuses that request, and accepts a failure only if the message says that memory was refused.
 use crate::machine_tests::{commands_of, plain_reply};
 use mg_engine::{Command, Engine, Reply};
 use mg_shard::Md5Placement;
@@ -6,10 +7,11 @@ use std::alloc::Global;
 use std::process::Abort;
 use std::thread::Threads;
 
-// Creates an index, writes two bulks, queries by the index, reads a document, explains a query, lists the indexes, drops the index.
+// The numbers of the commands, which create an index, write two bulks, query by the index, get a document, explain a query, list the
+// indexes and drop the index.
 const NUMBERS: [usize; 8] = [5, 0, 3, 8, 10, 9, 12, 11];
 
-// The replies to the commands, and whether the first call was refused memory. Such a call has executed no command, so it is repeated.
+// Returns the replies to the commands, and whether the first call was refused memory. Such a call has executed no command; it is repeated.
 fn replies_to<R: Threads + Sync + Abort>(
     rt: &R,
     alloc: Global,
@@ -23,6 +25,7 @@ fn replies_to<R: Threads + Sync + Abort>(
     (replies, true)
 }
 
+// Whether the reply is the one that a new engine gives to the command with this number, after it executed the commands `before`.
 fn is_plain<R: Threads + Sync + Abort>(
     rt: &R,
     alloc: Global,
@@ -36,7 +39,7 @@ fn is_plain<R: Threads + Sync + Abort>(
     }
 }
 
-// How many of the replies are out of memory. The others must be those that the other commands alone would get.
+// Counts the replies that are out of memory. Fails the test unless the other commands got the replies that they would get alone.
 fn refused_of<R: Threads + Sync + Abort>(rt: &R, alloc: Global, replies: &[Reply]) -> u32 {
     let mut before = Vec::new(alloc);
     let mut refused = 0u32;

@@ -71,7 +71,7 @@ fn holds_in_a_block<R: Abort>(rt: &R, alloc: Global, selector: &str, document: &
 }
 
 #[test]
-fn selections_of_documents_in_one_block(rt: HostRuntime) {
+fn a_selector_matches_packed_documents(rt: HostRuntime) {
     let alloc = rt.alloc();
     for (selector, document, wanted) in SELECTIONS {
         let found = holds_in_a_block(&rt, alloc, selector, document);
@@ -87,7 +87,7 @@ fn holds_in_normal_form<R: Abort>(rt: &R, alloc: Global, selector: &str, documen
 }
 
 #[test]
-fn selections_by_the_normal_form(rt: HostRuntime) {
+fn a_normal_form_matches_what_its_selector_matches(rt: HostRuntime) {
     let alloc = rt.alloc();
     for (selector, document, wanted) in SELECTIONS {
         let found = holds_in_normal_form(&rt, alloc, selector, document);

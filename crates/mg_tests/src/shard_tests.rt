@@ -1,4 +1,4 @@
-//! Places of documents, and what a shard lends: a served form, and its documents and rows in both directions.
+//! The placement of documents, and what a shard lends: a served form, and its documents and rows in both directions.
 use crate::given::{check, json, packed};
 use mg_collate::Direction;
 use mg_engine::{Command, Engine};
@@ -10,8 +10,8 @@ use std::alloc::Global;
 use std::process::Abort;
 use std::thread::Threads;
 
-// The expected shards for 1, 2, 7 and 64 shards, from another implementation of MD5: its first eight bytes, as a big-endian number, modulo
-// the number of shards.
+// Ids, and the expected shard of each among 1, 2, 7 and 64 shards. They were computed with another implementation of MD5: the first eight
+// bytes of the digest, as a big-endian number, modulo the number of shards.
 const PLACES: &[(&str, [usize; 4])] = &[
     ("a", [0, 0, 6, 40]),
     ("abc", [0, 0, 0, 48]),
@@ -45,7 +45,7 @@ const BULK: &str =
 
 const INDEX: &str = r#"{"index":{"fields":["k"]},"ddoc":"x","name":"k_idx"}"#;
 
-// An engine of one shard with the documents and the index.
+// Makes an engine of one shard with the documents and the index.
 fn engine_of<R: Threads + Sync + Abort>(rt: &R, alloc: Global) -> Engine<Md5Placement> {
     let mut engine = Engine::new(alloc, "db", Md5Placement, 1).expect(rt, "memory");
     let bulk = Command::Bulk(packed(rt, alloc, BULK));
@@ -129,7 +129,7 @@ fn lends_rows<R: Abort>(rt: &R, alloc: Global, shard: &Shard) {
 }
 
 #[test]
-fn what_a_shard_lends(rt: HostRuntime) {
+fn a_shard_lends_its_forms_documents_and_rows(rt: HostRuntime) {
     let engine = engine_of(&rt, rt.alloc());
     match engine.shards() {
         [shard] => {

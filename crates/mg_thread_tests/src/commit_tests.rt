@@ -14,7 +14,7 @@ use std::sync::ledger::Blank;
 use std::thread;
 use std::thread::Threads;
 
-// Writes 25 bulks of one document at a seat.
+// Writes 25 bulks of one document at a seat. Writes none if the body cannot be read.
 fn write_25<D: Database, C: EndsWriter, R: Wait + Threads + Sync>(
     rt: &R,
     alloc: Global,
@@ -84,7 +84,7 @@ enum Ask {
     Reshard,
 }
 
-// The number of the seat, the command, its id or body, and the status and the body of the expected reply.
+// The number of the seat, the command, its id, body or index name (empty: it has none), and the status and the body of the expected reply.
 #[derive(Clone, Copy, Drop)]
 struct Call(usize, Ask, &'static str, u16, &'static str);
 
@@ -126,7 +126,7 @@ const BEFORE: &[Call] = &[
     Call(0, Ask::Find, ALL, 200, FIRST),
 ];
 
-// The calls after that. Here the second seat also finds a later write of the first, of which it learned nothing.
+// The calls after that. Each call sees the latest commit: the second seat also finds later writes of the first, which it did not learn of.
 const AFTER: &[Call] = &[
     Call(1, Ask::Find, ALL, 200, FIRST),
     Call(
@@ -191,7 +191,8 @@ fn reply_to<D: Database, C: EndsWriter, R: Wait + Threads + Sync>(
     }
 }
 
-// Whether the seat gives the expected reply. If it is refused memory, the call is made once more, since the first had no effect.
+// Whether the seat gives the expected reply. If the call is refused memory, this is counted and the call is made once more, since it had
+// no effect.
 fn is_answered<D: Database, C: EndsWriter, R: Wait + Threads + Sync>(
     rt: &R,
     alloc: Global,
@@ -228,7 +229,7 @@ fn are_answered<D: Database, C: EndsWriter, R: Wait + Threads + Sync>(
     true
 }
 
-// Lets the second seat learn what the first has seen; false if that was refused memory.
+// Lets the second seat learn what the first has seen; false if `share` was refused memory.
 fn teach<D: Database, C: EndsWriter, R: Wait>(
     rt: &R,
     a: &mut Seat<D, C>,
@@ -258,7 +259,7 @@ fn is_bare<D: Database, C: EndsWriter>(seat: &mut Seat<D, C>, refused: &mut u32)
     }
 }
 
-// Whether the two seats give all expected replies.
+// Whether the two seats give all expected replies, and the second then has no index and one shard.
 fn both_answer<D: Database, C: EndsWriter, R: Wait + Threads + Sync>(
     rt: &R,
     alloc: Global,
@@ -293,8 +294,8 @@ fn close<D: Database, C: EndsWriter, R: Wait + Abort>(
     closed.commits()
 }
 
-// Makes the calls of `BEFORE` and `AFTER`, and then these, at two seats, and checks the number of commits. If a call is refused memory, all
-// the rest must still be as expected, and only then does the test fail.
+// Makes the calls of `BEFORE` and `AFTER`, and then these, at two seats, and checks the number of commits. If a call is refused memory, the
+// test fails with that message only at the end: all the rest must still be as expected.
 fn run_two<D: Database + Send + Sync, R: Threads + Wait + Abort + Sync + Send + Drop + Copy>(
     rt: R,
     alloc: Global,
@@ -336,7 +337,7 @@ fn run_two<D: Database + Send + Sync, R: Threads + Wait + Abort + Sync + Send + 
 }
 
 #[test]
-fn one_seat_learns_from_another_and_both_close(rt: HostRuntime) {
+fn two_seats_see_each_others_writes_and_close(rt: HostRuntime) {
     let alloc = rt.alloc();
     let db = string(&rt, alloc, "db");
     run_two::<Brand, _>(rt, alloc, Blank::new(2), CommitLog::new(), db, &[], 4)

@@ -18,7 +18,7 @@ pub(crate) const IDS: &str = r#"{"selector":{},"fields":["_id"]}"#;
 pub(crate) const PAGE: &str =
     "{\"bookmark\":\"W251bGwsIl9hbGxfZG9jcyIsImFzYyIsWyJkMiJdLCJkMiJd\",\"docs\":[{\"_id\":\"a\"},{\"_id\":\"b\"},{\"_id\":\"d1\"},{\"_id\":\"d2\"}]}\n";
 
-// An engine with these documents on two shards.
+// Makes an engine with these documents on two shards.
 pub(crate) fn two_shards<R: Threads + Sync + Abort>(rt: &R, alloc: Global) -> Engine<Md5Placement> {
     let bulk = Command::Bulk(packed(rt, alloc, DOCUMENTS));
     let mut engine = Engine::new(alloc, "db", Md5Placement, 2).expect(rt, "memory");
@@ -38,7 +38,8 @@ fn is_answered<R: Threads + Sync + Abort>(
     reply.body() == PAGE.as_bytes() && gate.is_passed()
 }
 
-// Whether each shard hands over two rows for the page of two documents after a skip of one, and three of them are taken.
+// Whether the page has two documents, each shard hands over two rows for it, and three rows are taken, since one is skipped; and whether
+// both shards began before one was done.
 fn has_page<R: Threads + Sync>(
     rt: &R,
     alloc: Global,
@@ -57,7 +58,7 @@ fn has_page<R: Threads + Sync>(
         && gate.is_passed()
 }
 
-// Reads the query for a page of two documents after a skip of one. Whether its page is as expected.
+// Whether a query for two documents after a skip of one is answered as `has_page` says.
 fn is_paged<R: Threads + Sync + Abort>(
     rt: &R,
     alloc: Global,
@@ -71,7 +72,7 @@ fn is_paged<R: Threads + Sync + Abort>(
 }
 
 #[test]
-fn two_shards_begun_by_an_answer_and_by_a_page(rt: HostRuntime) {
+fn an_answer_and_a_page_begin_both_shards_before_one_is_done(rt: HostRuntime) {
     let engine = two_shards(&rt, rt.alloc());
     assert!(rt; is_answered(&rt, rt.alloc(), &engine));
     assert!(rt; is_paged(&rt, rt.alloc(), &engine));

@@ -1,4 +1,4 @@
-//! A write while a query is held at its snapshot, by seats on two threads. A wait that gives up, after 100,000,000 tries, fails the test.
+//! A write while a query is held at its snapshot, by seats on two threads. A wait that gives up after 100,000,000 tries fails the test.
 ghost use Rattle.std.specs.Prelude.{◌≡◌, string_bytes};
 
 use crate::given::string;
@@ -37,7 +37,7 @@ struct Held {
     faults: AtomicU64,
 }
 
-// Waits until a value is 1; false if it gave up.
+// Waits until a value is 1. Returns false if the wait gives up.
 fn wait_for(flag: &AtomicU64) -> bool {
     for _turn in 0..TRIES {
         if flag.load(Ordering::SeqCst) == 1 {
@@ -84,7 +84,8 @@ enum During {
 }
 
 impl During {
-    // The reply to the query without the write. The database is empty before the bulk; before the reshard it has one document.
+    // Returns the expected reply to the query, which does not see the write. The database is empty before the bulk; before the reshard it
+    // has one document.
     fn page(self) -> &'static str {
         match self {
             During::Bulk => "{\"bookmark\":\"nil\",\"docs\":[]}\n",
@@ -102,7 +103,7 @@ impl During {
     }
 }
 
-// Queries the ids of all documents, and is held.
+// Queries the ids of all documents once the writer is ready. The gate holds the query at its snapshot.
 fn ask<D: Database, C: EndsWriter, R: Wait + Threads + Sync>(
     rt: &R,
     alloc: Global,
@@ -121,7 +122,7 @@ fn ask<D: Database, C: EndsWriter, R: Wait + Threads + Sync>(
     seat
 }
 
-// Writes while the query is held.
+// Makes the write while the query is held. Before a reshard, a document is written first, and then the query may begin.
 fn write<D: Database, C: EndsWriter, R: Wait + Threads + Sync>(
     rt: &R,
     alloc: Global,
@@ -154,6 +155,7 @@ fn write<D: Database, C: EndsWriter, R: Wait + Threads + Sync>(
     seat
 }
 
+// Queries if this thread is the first to start; otherwise writes.
 fn act<D: Database, C: EndsWriter, R: Wait + Threads + Sync>(
     rt: &R,
     alloc: Global,
@@ -168,6 +170,7 @@ fn act<D: Database, C: EndsWriter, R: Wait + Threads + Sync>(
     }
 }
 
+// Makes the write during a query, at two seats of a database of one shard. Fails the test unless both replies are as expected.
 fn write_during_query<
     D: Database + Send + Sync,
     R: Threads + Wait + Abort + Sync + Send + Drop + Copy,
@@ -209,7 +212,7 @@ fn a_bulk_is_answered_during_a_query(rt: HostRuntime) {
     write_during_query::<Brand, _>(rt, alloc, Blank::new(2), CommitLog::new(), db, During::Bulk)
 }
 
-// A reshard is answered while a query is held at its snapshot. The query's reply is the same as without the reshard.
+// A reshard is answered while a query is held at its snapshot. The query's page does not depend on the number of shards.
 #[test]
 fn a_reshard_is_answered_during_a_query(rt: HostRuntime) {
     let alloc = rt.alloc();

@@ -11,7 +11,7 @@ use mg_value::Json;
 use std::alloc::Global;
 use std::process::Abort;
 
-// The key range of an index on `a` for the selector.
+// Makes the key range of an index on `a` for the selector.
 fn range_of<R: Abort>(rt: &R, alloc: Global, selector: &str) -> KeyRange {
     let text = json(rt, alloc, selector);
     let Ok(selector) = Sel::read(alloc, &text) else {
@@ -62,7 +62,7 @@ fn a_range_of_two_fixed_values_is_empty(rt: HostRuntime) {
     assert!(rt; !one.is_empty());
 }
 
-// The direction of the index that the body of an `_index` defines.
+// Returns the direction of the index that the body of an `_index` defines.
 fn direction_of<R: Abort>(rt: &R, alloc: Global, body: &str) -> Direction {
     let body = json(rt, alloc, body);
     let definition = IndexDef::read(alloc, &body).expect(rt, "a definition");

@@ -15,8 +15,8 @@ use std::sync::Arc;
 use std::sync::atomic::{AtomicU64, Ordering};
 use std::thread::Threads;
 
-// Holds the first shard that begins until the second has begun. Counts faults: a shard begins twice, is done before it began, or is done
-// twice.
+// Holds the first shard that begins until the second has begun. Counts faults: a shard begins twice, is done before it began or is done
+// twice, or a wait gives up.
 #[derive(Drop)]
 pub(crate) struct BothBegin {
     begun: AtomicU64,
@@ -84,7 +84,7 @@ impl Gate for BothBegin {
     }
 }
 
-// The normal form of the selector for documents with an n above 1.
+// Makes the normal form of the selector for documents with an n above 1.
 pub(crate) fn above_one<R: Abort>(rt: &R, alloc: Global) -> Normal {
     let text = json(rt, alloc, r#"{"n":{"$gt":1}}"#);
     let Ok(selector) = Sel::read(alloc, &text) else {
@@ -93,7 +93,7 @@ pub(crate) fn above_one<R: Abort>(rt: &R, alloc: Global) -> Normal {
     Normal::of(alloc, &selector).expect(rt, "memory")
 }
 
-// The range of ids of a normal form.
+// Makes the range of ids of a normal form.
 pub(crate) fn ids_of<R: Abort>(rt: &R, alloc: Global, normal: &Normal) -> KeyRange {
     let path = Path::parse(alloc, "_id").expect(rt, "a path");
     let mut columns = Vec::new(alloc);
@@ -101,13 +101,13 @@ pub(crate) fn ids_of<R: Abort>(rt: &R, alloc: Global, normal: &Normal) -> KeyRan
     KeyRange::of(alloc, &columns, normal).expect(rt, "memory")
 }
 
-// The id of the row at a place of a shard's list; `None` past its end.
+// Returns the id of the row at a place of a shard's list; `None` past the last row or the last shard.
 fn id_at(lists: &[Vec<Row>], shard: usize, place: usize) -> Option<&str> {
     let row = lists.get(shard)?.get(place)?;
     Some(row.id.as_str())
 }
 
-// The rows that a search of all documents of the shards finds for an n above 1.
+// Returns, for each shard, the rows of the documents with an n above 1. They are searched by two workers.
 fn find_rows<R: Threads + Sync + Abort>(
     rt: &R,
     alloc: Global,
@@ -158,7 +158,7 @@ fn is_built<R: Threads + Sync + Abort>(rt: &R, alloc: Global, shards: &[Arc<Shar
 }
 
 #[test]
-fn two_shards_begun_by_a_scan_and_by_a_build(rt: HostRuntime) {
+fn a_scan_and_a_build_begin_both_shards_before_one_is_done(rt: HostRuntime) {
     let engine = two_shards(&rt, rt.alloc());
     assert!(rt; is_scanned(&rt, rt.alloc(), engine.shards()));
     assert!(rt; is_built(&rt, rt.alloc(), engine.shards()));

@@ -1,4 +1,4 @@
-//! A scan reads as many shards at a time as there are workers, never more, and each shard once.
+//! A scan reads as many shards at a time as it has workers, never more, and reads each shard once.
 
 use crate::engine_tests::DOCUMENTS;
 use crate::given::packed;
@@ -13,8 +13,8 @@ use std::sync::Arc;
 use std::sync::atomic::{AtomicU64, Ordering};
 use std::thread::Threads;
 
-// Counts the shards that are being read, and holds each one that begins until as many have begun as there are workers. Counts faults: a
-// shard begins while every worker is reading another, begins or is done out of turn, or waits in vain.
+// Counts the shards that are being read, and holds each shard that begins until as many have begun as there are workers. Counts faults: a
+// shard begins while every worker is reading another, a shard begins or is done twice or out of order, or a wait gives up.
 #[derive(Drop)]
 struct AtOnce {
     workers: u64,
@@ -96,7 +96,7 @@ impl Gate for AtOnce {
     }
 }
 
-// An engine with four documents on four shards.
+// Makes an engine with four documents on four shards.
 fn four_shards<R: Threads + Sync + Abort>(rt: &R, alloc: Global) -> Engine<Md5Placement> {
     let bulk = Command::Bulk(packed(rt, alloc, DOCUMENTS));
     let mut engine = Engine::new(alloc, "db", Md5Placement, 4).expect(rt, "memory");
@@ -104,7 +104,7 @@ fn four_shards<R: Threads + Sync + Abort>(rt: &R, alloc: Global) -> Engine<Md5Pl
     engine
 }
 
-// How many documents a scan with this number of workers finds.
+// Counts the documents with an n above 1 that a scan with this number of workers finds.
 fn count_rows<R: Threads + Sync + Abort>(
     rt: &R,
     alloc: Global,
@@ -149,7 +149,7 @@ fn is_scanned<R: Threads + Sync + Abort>(
 }
 
 #[test]
-fn four_shards_read_by_one_worker_and_by_two(rt: HostRuntime) {
+fn a_scan_reads_as_many_shards_at_once_as_it_has_workers(rt: HostRuntime) {
     let engine = four_shards(&rt, rt.alloc());
     assert!(rt; is_scanned(&rt, rt.alloc(), engine.shards(), Workers::exactly(1)));
     assert!(rt; is_scanned(&rt, rt.alloc(), engine.shards(), Workers::exactly(2)));

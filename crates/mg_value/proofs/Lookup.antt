@@ -30,7 +30,7 @@ pub members_view-remove_entry : (name : List ℕ) (es : List Entry) → members_
 members_view-remove_entry name [] = refl
 members_view-remove_entry name (e ∷ es) = kept_or (slice_cmp nat_cmp name (string_bytes e.0)) e es _ _ (members_view-remove_entry name es)
 
--- a view through a reference
+-- viewing what a reference holds is viewing the referenced value
 pub view_of_ref : (r : Option (Bor Json)) → option_map (λ x. view x.now) r ≡ option_map view (option_map (λ x. x.now) r)
 view_of_ref None = refl
 view_of_ref (Some x) = refl

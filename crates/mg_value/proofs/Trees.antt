@@ -17,7 +17,7 @@ number_parts_at : (o : Option Num) (z : ℤ) → option_and_then as_i64 o ≡ So
 number_parts_at None z e = absurd cc
 number_parts_at (Some n) z e = (n, refl, e)
 
--- a numeral that is whole is a number that is held as an i64
+-- a numeral whose whole number is z is read as a number, which is z as an i64
 pub number_parts : (s : List ℕ) (z : ℤ) → whole_number_of s ≡ Some z → (n : Num) × (number_of s ≡ Some n) × (as_i64 n ≡ Some z)
 number_parts s z e = number_parts_at (number_of s) z e
 
@@ -48,7 +48,7 @@ whole_items-after (parsed.item e ds) d vs v all one =
     let s = split_value (whole_of e) (whole_items ds) vs all in
     rw (s.2, whole_items-after ds d s.1 v s.3 one) (ap (λ ws. Some (after ws v)) s.4)
 
--- one more whole item
+-- the items so far with one more whole item: their data, and the values of the data
 pub push_whole : (ts : List (Tree Global)) (t : Tree Global) (vs : List Json) (v : Json) (ds : parsed.Items) (d : Data)
     → of_items (tree_items ts) ≡ Some ds → whole_items ds ≡ Some (items_view vs) → of_json (value_view t) ≡ Some d → whole_of d ≡ Some (view v)
     → (es : parsed.Items) × (of_items (tree_items (ts ++ t ∷ [])) ≡ Some es) × (whole_items es ≡ Some (items_view (vs ++ v ∷ [])))

@@ -1,4 +1,4 @@
--- Borrowed parse trees all of whose numbers are whole.
+-- The values that borrowed parse trees of JSON texts (RFC 8259) stand for. This project also requires that each number is an i64.
 use Rattle.std.specs.Prelude.{◌≡◌, ℕ, ℤ, List, Option, Some, option_and_then}
 use Rattle.json.specs.Json as json
 use Rattle.serde_json.specs.Data as parsed
@@ -15,10 +15,10 @@ whole_number_of s = option_and_then as_i64 (number_of s)
 abbrev pub IsTreeOf : json.Json → Value → Type 0
 IsTreeOf j v = (d : parsed.Data) × (of_json j ≡ Some d) × (whole_of d ≡ Some v)
 
--- the items of an array in the tree stand for the items vs
+-- the items of an array in a tree stand for the items vs
 abbrev pub AreItemTreesOf : json.Items → Items → Type 0
 AreItemTreesOf js vs = (ds : parsed.Items) × (of_items js ≡ Some ds) × (whole_items ds ≡ Some vs)
 
--- the members of an object in the tree stand for the members ms; the last of a repeated name counts
+-- the members of an object in a tree stand for the members ms; of members with one name the last counts
 abbrev pub AreMemberTreesOf : json.Members → Members → Type 0
 AreMemberTreesOf js ms = (ds : parsed.Members) × (of_members js parsed.no_members ≡ Some ds) × (whole_members ds ≡ Some ms)

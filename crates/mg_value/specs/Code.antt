@@ -16,29 +16,30 @@ Stacks = List Value × List Items × List Members
 abbrev push : Value → Stacks → Stacks
 push v s = (v ∷ s.0, s.1, s.2)
 
--- the value on top becomes the first item of the array on top
+-- the value on top becomes the first item of the array on top; nothing changes if either is missing
 abbrev join_item : List Value → List Items → List Members → Stacks
 join_item (v ∷ a) (vs ∷ b) c = (a, item v vs ∷ b, c)
 join_item [] b c = ([], b, c)
 join_item (v ∷ a) [] c = (v ∷ a, [], c)
 
--- the array on top becomes a value
+-- the array on top becomes a value; nothing changes without an array
 abbrev join_list : List Value → List Items → List Members → Stacks
 join_list a (vs ∷ b) c = (list vs ∷ a, b, c)
 join_list a [] c = (a, [], c)
 
--- the value on top becomes the first member of the object on top, at the name k
+-- the value on top becomes the first member of the object on top, at the name k; nothing changes if either is missing
 abbrev join_member : List ℕ → List Value → List Items → List Members → Stacks
 join_member k (v ∷ a) b (ms ∷ c) = (a, b, member k v ms ∷ c)
 join_member k [] b c = ([], b, c)
 join_member k (v ∷ a) b [] = (v ∷ a, b, [])
 
--- the object on top becomes a value
+-- the object on top becomes a value; nothing changes without an object
 abbrev join_object : List Value → List Items → List Members → Stacks
 join_object a b (ms ∷ c) = (object ms ∷ a, b, c)
 join_object a b [] = (a, b, [])
 
--- the stacks after one step; the tags: 0 null, 1 a new array, 2 joins an item, 3 ends an array, 4 a new object, 5 ends an object
+-- the stacks after one step; the tags: 0 null, 1 a new array, 2 joins an item, 3 ends an array, 4 a new object, any other (`steps` has 5)
+-- ends an object
 abbrev build : Step → Stacks → Stacks
 build (inl (inl b)) s = push (flag b) s
 build (inl (inr z)) s = push (whole z) s

@@ -39,7 +39,7 @@ abbrev mutual
   MembersAreHeld no_members = ⊤
   MembersAreHeld (member k v ms) = AllAfter k ms × IsHeld v × MembersAreHeld ms
 
--- the tokens of the compact text
+-- the tokens of the compact text of a value
 abbrev pub tokens_of : Value → List Token
 tokens_of v = json_tokens (outline (data_of v))
 

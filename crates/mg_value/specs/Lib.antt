@@ -7,3 +7,4 @@ pub mod Stored
 pub mod Borrowed
 pub mod Kind
 pub mod Weight
+pub mod Results

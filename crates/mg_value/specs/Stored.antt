@@ -1,4 +1,4 @@
--- What a `Json` can hold: each number has 64 bits, texts and names are UTF-8, and the names of an object ascend.
+-- What a `Json` can hold: each number is an i64, texts and names are UTF-8, and the names of an object ascend.
 use Rattle.std.specs.Prelude.{FitsSigned, IsUtf8, ⊤}
 use Rattle.std.specs.Int.{w64}
 use Rattle.mg_value.specs.Held.{AllAfter}

@@ -55,7 +55,7 @@ abbrev mutual
   data_members no_members = parsed.no_members
   data_members (member k v ms) = parsed.member k (data_of v) (data_members ms)
 
--- the text without white space; strings have the shortest escapes, with lower-case hex digits
+-- the compact text of a value: no white space, strings with the shortest escapes, hex digits in lower case
 abbrev mutual
   pub compact : Value → List ℕ
   compact null = token_text Token.null

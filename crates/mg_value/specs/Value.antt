@@ -25,7 +25,7 @@ mutual
     no_members : Members
     member : List ℕ → Value → Members → Members
 
--- the members with v at the name k: a value that stood there is replaced, a new name goes to its place in the order
+-- the members with v at the name k: a member that has this name is replaced, a new name goes to its place in the order
 abbrev pub put : List ℕ → Value → Members → Members
 put k v no_members = member k v no_members
 put k v (member l w ms) = match_ordering (slice_cmp nat_cmp k l) (member k v (member l w ms)) (member l v ms) (member l w (put k v ms))
@@ -75,12 +75,12 @@ abbrev mutual
   depth (list vs) = suc (items_depth vs)
   depth (object ms) = suc (members_depth ms)
 
-  -- the depth of the deepest item
+  -- the depth of the deepest item; 0 without items
   pub items_depth : Items → ℕ
   items_depth no_items = 0
   items_depth (item v vs) = max (depth v) (items_depth vs)
 
-  -- the depth of the deepest member
+  -- the depth of the deepest member; 0 without members
   pub members_depth : Members → ℕ
   members_depth no_members = 0
   members_depth (member k v ms) = max (depth v) (members_depth ms)

@@ -2,7 +2,7 @@
 use Rattle.std.specs.Prelude.{ℕ, ◌+◌}
 use Rattle.mg_value.specs.Value.{Value, null, flag, whole, text, list, object, Items, no_items, item, Members, no_members, member}
 
--- 1 for each value inside, and 1 for the end of each array and object
+-- 1 for the value, 1 for each value inside, and 1 for the end of each array and object
 abbrev mutual
   pub weight : Value → ℕ
   weight null = 1

@@ -23,7 +23,7 @@ pub const MAX_DEPTH: usize = 127;
 pub const LONGEST_KEPT: usize = 65_536;
 
 /// Memory that reading needs besides the value, kept from one text to the next: a table of 16 KiB, which is cleared
-/// when the buffer is made, and room for as many bytes as the longest text that was read with it, at most
+/// when the buffer is made, and room for as many bytes as the longest text that was read with the buffer, at most
 /// `LONGEST_KEPT`. The room grows by doubling, so it takes less than 128 KiB.
 #[derive(Drop)]
 pub struct ReadBuffer {
@@ -31,21 +31,21 @@ pub struct ReadBuffer {
 }
 
 impl ReadBuffer {
-    /// A new buffer. It clears its table of 16 KiB, which is part of the buffer itself, and allocates nothing.
+    /// Makes a buffer, and clears its table of 16 KiB, which is part of the buffer itself. Allocates nothing.
     pub fn new(alloc: Global) -> ReadBuffer {
         ReadBuffer {
             scratch: Scratch::new(alloc),
         }
     }
 
-    /// The memory for `read_tree`. The buffer keeps as much as the longest text needed, so lend it only for texts of at
-    /// most `LONGEST_KEPT` bytes.
+    /// Lends the memory for `read_tree`. The buffer keeps as much as the longest text needs, so use it only for texts of
+    /// at most `LONGEST_KEPT` bytes.
     pub fn scratch(&mut self) -> &mut Scratch {
         &mut self.scratch
     }
 }
 
-// The value of the text; `None` if it is not JSON, any of its numbers is not an `i64`, or memory ran out.
+// Reads the value of the text; `None` if the text is not JSON, one of its numbers is not an `i64`, or memory ran out.
 pub(crate) fn read_fast(alloc: Global, text: &str, buffer: &mut ReadBuffer) -> Option<Json>
     ensures { IfSome result (λ v. Reads text.now (view v)) }
 {
@@ -56,7 +56,7 @@ pub(crate) fn read_fast(alloc: Global, text: &str, buffer: &mut ReadBuffer) -> O
     read_with(alloc, text, &mut buffer.scratch)
 }
 
-// The value of the text, read with this scratch; `None` as for `read_fast`.
+// Does what `read_fast` does, with this scratch for a text of any length.
 fn read_with(alloc: Global, text: &str, scratch: &mut Scratch) -> Option<Json>
     ensures { IfSome result (λ v. Reads text.now (view v)) }
 {
@@ -64,8 +64,9 @@ fn read_with(alloc: Global, text: &str, scratch: &mut Scratch) -> Option<Json>
     whole(alloc, &tree)
 }
 
-/// The parse tree of a JSON text; `None` if the text is not JSON, nests more than 127 deep, or memory ran out. A number
-/// stays text, and its size is not checked. A string is borrowed from the text, or from `scratch` if it has an escape.
+/// Reads the parse tree of a JSON text; `None` if the text is not JSON, nests more than 127 deep, or memory ran out. A
+/// number stays text, and its size is not checked. A string is borrowed from the text, or from `scratch` if it has an
+/// escape.
 ///
 /// Cost: the length of the text. `scratch` grows to hold as many bytes as the text has.
 pub fn read_tree<'a>(alloc: Global, text: &'a str, scratch: &'a mut Scratch) -> Option<Tree<'a>>
@@ -125,8 +126,8 @@ fn whole_members(alloc: Global, members: &[(&str, Tree<'_>)]) -> Option<BTreeMap
     Some(copies)
 }
 
-/// The number that a JSON numeral stands for; `None` if it is not an `i64`: `1.0`, `1e2` and `-0` are not. The text must
-/// be a numeral; this is not checked, and bytes after the numeral are ignored. Cost: the length of the text.
+/// Returns the number that a JSON numeral stands for; `None` if it is not an `i64`: `1.0`, `1e2` and `-0` are not. The
+/// text must be a numeral; this is not checked, and bytes after the numeral are ignored. Cost: the length of the text.
 pub fn whole_number(text: &str) -> Option<i64>
     ensures { IfSome result (λ z. whole_number_of text.now ≡ Some z) }
 {

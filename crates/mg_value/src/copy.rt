@@ -6,7 +6,7 @@ use crate::value::Json;
 use std::alloc::Global;
 use std::collections::BTreeMap;
 
-// A deep copy: it shares no memory with the value.
+// Does the work of `Json::copy`.
 #[cycle(copy_value)]
 pub(crate) fn copy_value(alloc: Global, value: &Json) -> Result<Json, NoMemory>
     ensures { IfOk result (λ v. view v ≡ view value.now) }
@@ -23,7 +23,7 @@ pub(crate) fn copy_value(alloc: Global, value: &Json) -> Result<Json, NoMemory>
 
 /// Copies the values, deeply, into a new list.
 ///
-/// Errors: `NoMemory` if an allocation fails. Cost: the size of the values.
+/// Errors: `NoMemory` if an allocation fails. Cost: that of `Json::copy` for each value.
 #[cycle(copy_value)]
 pub fn copy_items(alloc: Global, items: &[Json]) -> Result<Vec<Json>, NoMemory>
     ensures { IfOk result (λ v. items_view v.items ≡ items_view items.now) }

@@ -1,7 +1,7 @@
 use std::alloc::{AllocError, AllocFailed};
 use thiserror::Error;
 
-/// An allocation failed, or would have been over a limit on its size.
+/// An allocation failed, or a limit was reached: on the size of an allocation, or on the number of references to one block.
 #[derive(Clone, Copy, PartialEq, Eq, Debug, Drop, Error)]
 #[error("out of memory")]
 pub struct NoMemory;

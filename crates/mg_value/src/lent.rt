@@ -9,8 +9,9 @@ use std::collections::{BTreeMap, btree_map};
 /// A borrowed JSON value, read in place from a tree of `Json` or from a block of memory.
 /// Code that is generic over it serves every way to keep values.
 ///
-/// Only `to_json` takes memory. Cost: constant, except for `member` and `to_json`. Items and members are
-/// reached through what `kind` returns, so that a caller checks the kind once.
+/// Only `to_json` takes memory. Cost: `member` and `to_json` state theirs; that of `next` is constant on average, and
+/// all others are constant. Items and members are reached through what `kind` returns, so that a caller checks the
+/// kind once.
 pub trait LentValue: Sized + Drop {
     ghost use Rattle.std.specs.Prelude.{◌≡◌, ◌<◌, ℕ, List, Some, IfOk, MatchOption, length, option_map, slice_get};
     ghost use Rattle.mg_value.specs.Value.{Value, Items, Members, no_members, member, item_list, get_member};
@@ -43,28 +44,29 @@ pub trait LentValue: Sized + Drop {
 
     /// Copies the value into a `Json` that owns its memory.
     ///
-    /// Errors: `NoMemory` if an allocation fails. Cost: the size of the value.
+    /// Errors: `NoMemory` if an allocation fails. Cost: that of `Json::copy`.
     fn to_json(&self, alloc: Global) -> Result<Json, NoMemory>
         ensures { IfOk result (λ copy. view copy ≡ value self.now) };
 
-    /// The kind of the value, with its text, items or members.
+    /// Returns the kind of the value, with its text, items or members.
     fn kind(&self) -> Kind<Self::Text, Self::List, Self::Object>
         ensures { kind_value bytes items members result ≡ value self.now };
 
-    /// The text as a `str`.
+    /// Lends the text as a `str`.
     fn as_str(text: &Self::Text) -> &str
         ensures { result.now ≡ bytes text.now };
 
-    /// How many items there are.
+    /// Returns the number of items.
     fn len(list: &Self::List) -> usize
         ensures { result ≡ length (item_list (items list.now)) };
 
-    /// The item at an index, from 0. The index must be below `len`.
+    /// Returns the item at an index, from 0. The index must be below `len`.
     fn item(list: &Self::List, index: usize) -> Self
         requires { index < length (item_list (items list.now)) }
         ensures { slice_get (item_list (items list.now)) index ≡ Some (value result) };
 
-    /// The member with this name, if there is one. Cost: the logarithm of the count of members.
+    /// Returns the value of the member with this name; `None` if there is no such member. Cost: the logarithm of
+    /// the count of members.
     fn member(object: &Self::Object, name: &str) -> Option<Self>
         ensures { option_map value result ≡ get_member name.now (members object.now) };
 
@@ -76,7 +78,7 @@ pub trait LentValue: Sized + Drop {
     fn ascends(object: &Self::Object)
         ensures { NamesAscend (members object.now) };
 
-    /// The name and the value of the next member of a walk; `None` at its end.
+    /// Returns the name and the value of the next member of a walk, and goes past it; `None` at the end of the walk.
     fn next(walk: &mut Self::Rest) -> Option<(Self::Text, Self)>
         ensures { MatchOption result (rest walk.old ≡ no_members)
             (λ m. rest walk.old ≡ member (bytes m.0) (value m.1) (rest walk.new)) };

@@ -20,8 +20,9 @@ use std::collections::BTreeMap;
 /// `NotWhole` if they are such a text, but a number of the value is not an `i64` (`1.5`, `1.0`, `1e2`,
 /// `-0` and `9223372036854775808` are not); `NoMemory` if an allocation fails. Bytes that are not UTF-8,
 /// and the empty text, are `NotJson` even where there is no memory.
-/// Cost: the length of the text, and for each object its members times the logarithm of their count. A
-/// text in UTF-8 is read twice if it is refused, or has a number that is not an `i64`.
+/// Cost: the length of the text, for each object its members times the logarithm of their count, and a table
+/// of 16 KiB that is cleared (`read_in` saves this). A text in UTF-8 is read twice if it is refused, has a
+/// number that is not an `i64`, or memory runs out.
 pub fn read(alloc: Global, bytes: &[u8]) -> Result<Json, ReadError>
     ensures ok { IfOk result (λ v. Reads bytes.now (view v)) }
     ensures not_json { result ≡ Err ReadError.NotJson → (d : Data) → ¬ IsText bytes.now d }
@@ -36,8 +37,8 @@ pub fn read(alloc: Global, bytes: &[u8]) -> Result<Json, ReadError>
 
 /// Reads a JSON text as `read` does, with a buffer that is kept from text to text.
 ///
-/// Errors: those of `read`. Cost: that of `read`; but where `read` clears a table of 16 KiB for each text, this does
-/// so only for a text that has more than `LONGEST_KEPT` bytes, or is read twice.
+/// Errors: those of `read`. Cost: that of `read`, but the table of 16 KiB is cleared only for a text that has more than
+/// `LONGEST_KEPT` bytes or is read twice.
 pub fn read_in(alloc: Global, bytes: &[u8], buffer: &mut ReadBuffer) -> Result<Json, ReadError>
     ensures ok { IfOk result (λ v. Reads bytes.now (view v)) }
     ensures not_json { result ≡ Err ReadError.NotJson → (d : Data) → ¬ IsText bytes.now d }
@@ -65,8 +66,8 @@ fn read_text(alloc: Global, text: &str, buffer: &mut ReadBuffer) -> Result<Json,
     }
 }
 
-// The slow path of `read`, over a parse tree that has each number's value. It finds why a text is refused,
-// and reads texts where a number that is not whole belongs to a member that a later one replaces.
+// The slow path of `read`, over a parse tree that has each number's value. It finds why a text is refused, and accepts
+// texts such as `{"a":1.5,"a":1}`, where a later member replaces the number that is not an `i64`.
 fn read_again(alloc: Global, text: &str) -> Result<Json, ReadError>
     ensures ok { IfOk result (λ v. Reads text.now (view v)) }
     ensures not_json { result ≡ Err ReadError.NotJson → (d : Data) → ¬ IsText text.now d }
@@ -84,7 +85,8 @@ fn read_again(alloc: Global, text: &str) -> Result<Json, ReadError>
     }
 }
 
-// Moves the texts and the names, and copies none.
+// Makes a `Json` from parsed data. It moves the texts and the names, and copies none. Errors: `NotWhole` if a number is
+// not an `i64`; `NoMemory` if an allocation fails.
 #[cycle(whole)]
 fn whole(alloc: Global, value: Value) -> Result<Json, ReadError>
     ensures ok { IfOk result (λ v. whole_of (data_view value) ≡ Some (view v)) }

@@ -10,8 +10,8 @@ use std::mem::replace;
 
 /// A JSON value (RFC 8259) whose numbers are whole: what documents, selectors and replies are made of.
 ///
-/// Every number is an `i64`. Texts and names are UTF-8. An object has each name once, and its members
-/// are ordered by the code points of their names, in whatever order they were put in.
+/// Every number is an `i64`. Texts and names are UTF-8. An object has each name once. Its members are ordered
+/// by the code points of their names, whatever the order in which they were inserted.
 #[derive(PartialEq, Debug, Drop)]
 pub enum Json {
     /// `null`.
@@ -29,24 +29,25 @@ pub enum Json {
 }
 
 impl Json {
-    /// The object without members. Takes no memory.
+    /// Makes the object without members. Takes no memory.
     pub fn empty_object(alloc: Global) -> Json
         ensures { view result ≡ object no_members }
     {
         Json::Object(BTreeMap::new(alloc))
     }
 
-    /// A deep copy.
+    /// Copies the value deeply: the copy shares no memory with it.
     ///
-    /// Errors: `NoMemory` if an allocation fails. Cost: the size of the value.
+    /// Errors: `NoMemory` if an allocation fails.
+    /// Cost: the size of the value, and for each object its members times the logarithm of their count.
     pub fn copy(&self, alloc: Global) -> Result<Json, NoMemory>
         ensures { IfOk result (λ v. view v ≡ view self.now) }
     {
         copy::copy_value(alloc, self)
     }
 
-    /// Borrows the value of an object's member with this name; `None` where the object has no such
-    /// member, or the value is not an object. Cost: the logarithm of the count of members.
+    /// Borrows the value of an object's member with this name; `None` if the object has no such
+    /// member, or `self` is not an object. Cost: the logarithm of the count of members.
     pub fn member(&self, name: &str) -> Option<&Json>
         ensures { option_map (λ v. view v.now) result ≡ member_of name.now (view self.now) }
     {
@@ -56,8 +57,8 @@ impl Json {
         }
     }
 
-    /// Removes the member with this name from an object and returns its value, without a copy; `None`
-    /// where `member` finds none, and then the value is as it was. Cost: that of `member`.
+    /// Removes the member with this name from an object, and returns its value without a copy. Returns
+    /// `None` if `member` finds no such member; then `self` is as it was. Cost: that of `member`.
     pub fn take(&mut self, name: &str) -> Option<Json>
         ensures taken { option_map view result ≡ member_of name.now (view self.old) }
         ensures rest { view self.new ≡ without_member name.now (view self.old) }
@@ -75,10 +76,10 @@ impl Json {
         }
     }
 
-    /// Puts a member into an object, and replaces one with the same name. A value that is not an
-    /// object stays as it is.
+    /// Puts a member with this name and value into an object, and replaces a member that has this name.
+    /// If `self` is not an object, it stays as it is, and `value` is dropped.
     ///
-    /// Errors: `NoMemory` if an allocation fails; then the value is as it was.
+    /// Errors: `NoMemory` if an allocation fails; then `self` is as it was, and `value` is dropped.
     /// Cost: the length of the name, and the logarithm of the count of members.
     pub fn insert(&mut self, alloc: Global, name: &str, value: Json) -> Result<(), NoMemory>
         ensures ok { OnOk result

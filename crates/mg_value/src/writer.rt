@@ -13,7 +13,7 @@ use std::collections::BTreeMap;
 // The first size of the buffer, in bytes.
 const FIRST_ROOM: usize = 256;
 
-/// Writes the value as compact JSON text (RFC 8259). `read` gives the value back, where it nests at
+/// Writes the value as compact JSON text (RFC 8259). `read` gives the value back if the value nests at
 /// most 127 deep.
 ///
 /// There is no white space, members are ordered by the code points of their names, and numbers are
@@ -31,7 +31,7 @@ pub fn write(alloc: Global, value: &Json) -> Result<Vec<u8>, NoMemory>
     Ok(out.into_inner())
 }
 
-// Appends the tokens of the value to the text. Where it fails, some of them may have been written.
+// Appends the tokens of the value to the text. After an error, some of them may have been appended.
 #[cycle(write_value)]
 fn write_value(value: &Json, out: &mut Writer) -> Result<(), AllocError>
     ensures tokens { OnOk result (out.new.tokens ≡ out.old.tokens ++ tokens_of (view value.now)) }

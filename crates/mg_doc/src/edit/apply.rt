@@ -4,8 +4,8 @@ ghost use Rattle.mg_revtree.specs.Changes.{position_below};
 ghost use Rattle.mg_revtree.specs.History.{Paths};
 ghost use Rattle.mg_revtree.specs.Tree.{StandsFor};
 ghost use Rattle.mg_doc.specs.Applied.{Applied, Foreseen, GivesBack, IsReady};
-ghost use Rattle.mg_doc.specs.Base.{CopyIs, LooksFor, base_found, extended_by, look_of, made_on};
-ghost use Rattle.mg_doc.specs.Brought.{Brings};
+ghost use Rattle.mg_doc.specs.Base.{IsCopyOf, LooksFor, base_found, extended_by, look_of, extended_over};
+ghost use Rattle.mg_doc.specs.Acceptance.{AcceptsAs};
 ghost use Rattle.mg_doc.specs.Digest.{digest_of};
 ghost use Rattle.mg_doc.specs.Edit.{first_refusal, replicated};
 ghost use Rattle.mg_doc.specs.declared.change.Change.TheVariants.{New};
@@ -22,9 +22,10 @@ use std::marker::Model;
 /// What a look at an edit finds.
 #[derive(Debug, Drop)]
 pub enum Look {
-    /// The newest revision of a replica's path that is known whole. Such an edit changes nothing.
+    /// The edit is a replica's path that is known whole: it changes nothing. Holds the newest revision of the path.
     Known(Rev),
-    /// Any other edit that is not refused. `ReadyEdit::apply` can still refuse it, if the revision that it makes is already known.
+    /// The edit is any other that is not refused. `ReadyEdit::apply` can still refuse it, if the revision that the edit makes is already
+    /// known.
     Ready(ReadyEdit),
 }
 
@@ -46,10 +47,12 @@ impl Model for ReadyEdit {
 }
 
 impl Edit {
-    /// Foresees what the edit does to the tree of its document, without changing the tree.
+    /// Foresees what the edit does to the tree of its document, without changing the tree. The edit comes back in `Look::Ready`; else it
+    /// is dropped.
     ///
-    /// Errors: those of `apply`, except the `Conflict` of a made revision that is already known, which only `ReadyEdit::apply`
-    /// finds. No refusal needs memory. Cost: for a path that of `RevTree::knows_whole` and `fits`; else one look-up among the leaves.
+    /// Errors: those of `apply`, except the `Conflict` of a made revision that is already known, which only `ReadyEdit::apply` finds. No
+    /// refusal needs memory. Cost: for a path that of `RevTree::knows_whole` and `fits`, and, if the path is known whole, a copy of its
+    /// newest revision; else one look-up among the leaves.
     pub fn look(self, tree: &RevTree) -> Result<Look, EditError>
         ensures foreseen { (h : Paths) → StandsFor tree.now h → Foreseen h self result tree.now }
         ensures edit { IfOk result (GivesBack self) }
@@ -60,18 +63,17 @@ impl Edit {
         }
     }
 
-    /// Applies the edit to the tree of its document, and returns the revision that the edit brings.
+    /// Applies the edit to the tree of its document, and returns the revision that was made, or the newest one of the replica's path.
     ///
     /// A new edit makes a revision over the one that it names, which has to be a leaf. If it names none, it
     /// makes one over a deleted winner, or at position 1 in an empty tree. The path of
     /// a replica is merged; one that is known whole changes nothing.
     ///
-    /// Errors: `Conflict` if the named revision is not a leaf, if none is named but the winner is not
-    /// deleted, or if the made revision is already known; `BadHistory` if the extended leaf has the
-    /// last position, 4,294,967,295, or if a replica's path does not fit; else `NoMemory` if an allocation fails. No refusal needs
-    /// memory, except that of a made revision that is already known. An error leaves the tree as it was.
-    /// Cost: that of `look`; and, unless a path is known whole, a copy of the edit and the cost of `ReadyEdit::apply`.
-    /// Source: CouchDB's `_bulk_docs` with `new_edits` true and false.
+    /// Errors: `Conflict` if the named revision is not a leaf, if none is named but the winner is not deleted, or if the made revision is
+    /// already known; `BadHistory` if the extended leaf has the last position, 4,294,967,295, or if a replica's path does not fit; else
+    /// `NoMemory` if an allocation fails, or at a limit that `RevTree::merge` lists. Only the refusal of a made revision that is already
+    /// known needs memory. An error leaves the tree as it was. Cost: that of `look`; and, unless a path is known whole, a copy of the
+    /// edit and the cost of `ReadyEdit::apply`. Source: CouchDB's `_bulk_docs` with `new_edits` true and false.
     pub fn apply(&self, alloc: Global, tree: &mut RevTree) -> Result<Rev, EditError>
         ensures applied { (h : Paths) → StandsFor tree.old h → Applied h self.now result tree.new }
         ensures unchanged { OnErr result (tree.new ≡ tree.old) }
@@ -83,7 +85,7 @@ impl Edit {
         ReadyEdit { edit }.apply(alloc, tree)
     }
 
-    // What `look` finds: the newest revision of a path that is known whole; `None` if the edit is ready.
+    // Finds what `look` finds: the newest revision of a path that is known whole; `None` if the edit is ready. Errors: those of `look`.
     fn foresee(&self, tree: &RevTree) -> Result<Option<Rev>, EditError>
         ensures { (h : Paths) → StandsFor tree.now h
             → Foreseen h self.now (result_map_both (look_of self.now) (λ e. e) result) tree.now }
@@ -99,20 +101,19 @@ impl Edit {
 }
 
 impl ReadyEdit {
-    /// The edit. Takes no memory.
+    /// Returns the edit. Takes no memory.
     pub fn edit(&self) -> &Edit
         ensures { result.now ≡ self.now }
     {
         &self.edit
     }
 
-    /// Applies the edit to the tree that was looked at, or to a copy of it, and returns the revision that the edit brings. Does not
-    /// look again.
+    /// Applies the edit to the tree that was looked at, or to a copy of it, and returns what `Edit::apply` returns. Does not look again.
     ///
-    /// Errors: `Conflict` if the made revision is already known; `NoMemory` as for `RevTree::merge`. If the revision's id has to be made
-    /// here, lack of memory for it hides the `Conflict`. An error leaves the tree as it was. Cost: that of `RevTree::extend` or
-    /// `RevTree::merge`, and the length of the body's text if the id has to be made here: it was not made ahead, or it was made for a
-    /// first revision and a deleted winner is extended.
+    /// Errors: `Conflict` if the made revision is already known; `NoMemory` if an allocation fails, or at a limit that `RevTree::merge`
+    /// lists. If the revision's id has to be made here, lack of memory for the id, or for a copy of the base, hides the `Conflict`. An
+    /// error leaves the tree as it was. Cost: that of `RevTree::extend` or `RevTree::merge`, and the length of the body's text if the id
+    /// has to be made here, because it was not made ahead, or was made for a first revision while a deleted winner is extended.
     pub fn apply(self, alloc: Global, tree: &mut RevTree) -> Result<Rev, EditError>
         requires { (h : Paths) → StandsFor tree.old h → IsReady h self }
         ensures applied { (h : Paths) → StandsFor tree.old h → Applied h self result tree.new }
@@ -133,7 +134,8 @@ impl ReadyEdit {
     }
 }
 
-// Looks up a replica's path: its newest revision if the path is known whole; `None` if it is not known whole, but fits.
+// Looks up a replica's path, and returns its newest revision if the path is known whole; `None` if it is not known whole, but fits.
+// Errors: `BadHistory` if it does not fit; `NoMemory` if it is known whole and an allocation fails.
 fn look_for(tree: &RevTree, path: &History) -> Result<Option<Rev>, EditError>
     ensures { (h : Paths) → StandsFor tree.now h → LooksFor h path.now result }
 {
@@ -146,10 +148,11 @@ fn look_for(tree: &RevTree, path: &History) -> Result<Option<Rev>, EditError>
     Ok(None)
 }
 
-// Merges the path of a replica, and returns its newest revision.
+// Merges the path of a replica, and returns the path's newest revision. Errors: `NoMemory` if the revision cannot be copied, and those of
+// `RevTree::merge`; the tree is then as it was.
 fn merge(tree: &mut RevTree, path: &History, deleted: bool, body: Packed) -> Result<Rev, EditError>
-    ensures brings { (h : Paths) → StandsFor tree.old h
-        → Brings h deleted body (replicated h path.now) result tree.new }
+    ensures accepts { (h : Paths) → StandsFor tree.old h
+        → AcceptsAs h deleted body (replicated h path.now) result tree.new }
     ensures unchanged { OnErr result (tree.new ≡ tree.old) }
 {
     let rev = path.newest()?;
@@ -157,8 +160,9 @@ fn merge(tree: &mut RevTree, path: &History, deleted: bool, body: Packed) -> Res
     Ok(rev)
 }
 
-// Checks whether a new edit may extend the revision that it names, or make a revision if it names none. Does not check whether
-// the revision that it would make is already known.
+// Checks whether a new edit may extend the revision that it names, or make a revision if it names none. Does not check whether the
+// revision that the edit would make is already known. Errors: `Conflict` if the named revision is not a leaf, or if none is named but the
+// winner is not deleted; `BadHistory` if the base has the last position.
 fn check_base(tree: &RevTree, named: Option<&Rev>) -> Result<(), EditRefusal>
     ensures ok { OnOk result ((h : Paths) → StandsFor tree.now h
         → first_refusal h (New (option_copied named.entry)) ≡ None) }
@@ -171,7 +175,8 @@ fn check_base(tree: &RevTree, named: Option<&Rev>) -> Result<(), EditRefusal>
     Ok(())
 }
 
-// The base that is extended: the named revision; if none is named, a deleted winner, or `None` in an empty tree.
+// Finds the base that is extended: the named revision; if none is named, a deleted winner, or `None` in an empty tree. Errors: `Conflict`
+// if none is named and the winner is not deleted.
 fn base_over<'a>(tree: &'a RevTree, named: Option<&'a Rev>) -> Result<Option<&'a Rev>, EditRefusal>
     ensures { (h : Paths) → StandsFor tree.now h
         → base_found h (option_copied named.entry) ≡ result_map_both option_copied (λ e. e) result }
@@ -182,7 +187,8 @@ fn base_over<'a>(tree: &'a RevTree, named: Option<&'a Rev>) -> Result<Option<&'a
     }
 }
 
-// The base that is extended if no revision is named.
+// Finds the base that is extended if no revision is named: a deleted winner, or `None` in an empty tree. Errors: `Conflict` if the winner
+// is not deleted.
 fn base_unnamed(tree: &RevTree) -> Result<Option<&Rev>, EditRefusal>
     ensures { (h : Paths) → StandsFor tree.now h
         → base_found h None ≡ result_map_both option_copied (λ e. e) result }
@@ -197,9 +203,10 @@ fn base_unnamed(tree: &RevTree) -> Result<Option<&Rev>, EditRefusal>
     }
 }
 
-// A copy of the base that is extended if no revision is named.
+// Copies the base that is extended if no revision is named. Errors: `Conflict` if the winner is not deleted; `NoMemory` if an allocation
+// fails.
 fn copy_base(alloc: Global, tree: &RevTree) -> Result<Option<Rev>, EditError>
-    ensures { (h : Paths) → StandsFor tree.now h → CopyIs (base_found h None) result }
+    ensures { (h : Paths) → StandsFor tree.now h → IsCopyOf (base_found h None) result }
 {
     match base_unnamed(tree)? {
         None => Ok(None),
@@ -207,8 +214,9 @@ fn copy_base(alloc: Global, tree: &RevTree) -> Result<Option<Rev>, EditError>
     }
 }
 
-// Makes a revision over the named one; if none is named, over a deleted winner, or the first revision of the document. Its id may
-// have been made ahead, for the named revision as its parent or, if none is named, for a first revision.
+// Makes a revision over the named one. If none is named, makes one over a deleted winner, or the document's first revision. `ahead` is
+// the id of a revision over the named one or, if none is named, of a first revision. Errors: as for `Edit::apply`; the tree is then as it
+// was.
 fn extend(
     alloc: Global,
     tree: &mut RevTree,
@@ -218,7 +226,7 @@ fn extend(
     ahead: Option<String>,
 ) -> Result<Rev, EditError>
     requires { IfSome ahead (λ id. string_bytes id ≡ digest_of deleted (option_copied named) body) }
-    ensures brings { (h : Paths) → StandsFor tree.old h → Brings h deleted body
+    ensures accepts { (h : Paths) → StandsFor tree.old h → AcceptsAs h deleted body
         (extended_by h deleted body (option_copied named.entry)) result tree.new }
     ensures unchanged { OnErr result (tree.new ≡ tree.old) }
 {
@@ -232,7 +240,8 @@ fn extend(
     }
 }
 
-// The id that was made ahead for a first revision; `None` if a base is extended, since a revision over the base has another id.
+// Returns the id that was made ahead for a first revision, if there is one; `None` if a base is extended, since a revision over the base
+// has another id.
 fn over_nothing(ahead: Option<String>, base: Option<&Rev>) -> Option<String>
     ensures { IfSome result (λ id. (ahead ≡ Some id) × (option_copied base.entry ≡ None)) }
 {
@@ -242,7 +251,8 @@ fn over_nothing(ahead: Option<String>, base: Option<&Rev>) -> Option<String>
     }
 }
 
-// Makes a revision over a base, or the first revision of a document.
+// Makes a revision over a base, or the first revision of a document. Errors: those of `rev_id` and `RevTree::extend`; the tree is then as
+// it was.
 fn extend_over(
     alloc: Global,
     tree: &mut RevTree,
@@ -252,8 +262,8 @@ fn extend_over(
     ahead: Option<String>,
 ) -> Result<Rev, EditError>
     requires { IfSome ahead (λ id. string_bytes id ≡ digest_of deleted (option_copied base) body) }
-    ensures brings { (h : Paths) → StandsFor tree.old h → Brings h deleted body
-        (made_on h deleted body (option_copied base.entry)) result tree.new }
+    ensures accepts { (h : Paths) → StandsFor tree.old h → AcceptsAs h deleted body
+        (extended_over h deleted body (option_copied base.entry)) result tree.new }
     ensures unchanged { OnErr result (tree.new ≡ tree.old) }
 {
     let id = id_over(alloc, ahead, deleted, base, &body)?;
@@ -265,7 +275,8 @@ fn extend_over(
     Ok(rev)
 }
 
-// The position over a base. `RevTree::extend` refuses a base at the last position.
+// Returns the position over a base, or 1 without a base. For a base at the last position, returns that position; `RevTree::extend`
+// refuses such a base.
 fn position_over(base: Option<&Rev>) -> u32
     ensures { (position_below (option_copied base.entry) == 4294967295) ≡ false
         → result ≡ position_below (option_copied base.entry) + 1 }

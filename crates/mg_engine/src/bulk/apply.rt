@@ -11,24 +11,26 @@ ghost use Rattle.std.specs.Arc.{arc_value};
 
 use mg_doc::Edit;
 use mg_shard::laws::{
-    drafts_become_shards, each_edit_is_decided_there, each_edit_is_made_there, shards_become_drafts,
+    drafts_become_shards, its_shard_decides_each_edit, its_shard_makes_each_edit,
+    shards_become_drafts,
 };
 use mg_shard::{Draft, EditReply, Placement, Shard, id_in};
 use mg_value::NoMemory;
 use std::alloc::Global;
 use std::sync::Arc;
 
-/// What became of an edit, with the edit's id.
+/// The outcome of an edit, with the edit's id.
 #[derive(Drop)]
 pub(crate) struct EditOutcome {
     pub(crate) id: String,
     pub(crate) reply: EditReply,
 }
 
-/// Applies edits that have ids, in order, and moves their bodies into the shards. Returns what became of each edit, and the shards
+/// Applies edits that have ids, in order, and moves their bodies into the shards. Returns the outcome of each edit, and the shards
 /// after all of them.
 ///
-/// Errors: `NoMemory` if an allocation fails. Cost: that of `Draft::apply` for each edit, and of `Draft::finish` for each shard.
+/// Errors: `NoMemory` if an allocation fails, or if there are too many references to a shard or to a part of it. Cost: for each edit its
+/// placement, a copy of its id and the cost of `Draft::apply`; for each shard the cost of `Draft::finish`.
 pub(crate) fn apply_edits<P: Placement>(
     alloc: Global,
     placement: &P,
@@ -53,7 +55,7 @@ pub(crate) fn apply_edits<P: Placement>(
     Ok((replies, finish_drafts(alloc, drafts, shards)?))
 }
 
-// A draft of each shard, in which no document is touched yet.
+// Makes a draft of each shard, in which no document is touched yet.
 fn make_drafts<'a>(alloc: Global, shards: &'a [Arc<Shard>]) -> Result<Vec<Draft<'a>>, NoMemory>
     ensures { IfOk result (λ v. v.items ≡ map fresh (shards_seen shards.now)) }
 {
@@ -64,7 +66,7 @@ fn make_drafts<'a>(alloc: Global, shards: &'a [Arc<Shard>]) -> Result<Vec<Draft<
     Ok(drafts)
 }
 
-// Applies edits in order, and returns what became of each.
+// Applies edits in order, and returns the outcome of each. Some edits may be applied if this fails.
 fn edit_all<P: Placement>(
     alloc: Global,
     placement: &P,
@@ -103,8 +105,8 @@ fn edit_one<P: Placement>(
         → DraftsStandFor (P.place placement.now) drafts.new (after_edit hs edit)) }
     ensures before { OnOk result (before drafts.new ≡ before drafts.old) }
 {
-    each_edit_is_decided_there();
-    each_edit_is_made_there();
+    its_shard_decides_each_edit();
+    its_shard_makes_each_edit();
     let id = String::from_str(alloc, id_in(&edit))?;
     let place = placement.shard_of(id_in(&edit), drafts.len());
     let draft = &mut drafts[place];
@@ -112,7 +114,7 @@ fn edit_one<P: Placement>(
     Ok(EditOutcome { id, reply })
 }
 
-// Finishes the drafts of all shards. A shard whose draft touched no document is shared as it is.
+// Finishes the drafts, and returns the shard that each leaves. A shard whose draft touched no document is shared as it is.
 fn finish_drafts(
     alloc: Global,
     drafts: Vec<Draft<'_>>,
@@ -129,7 +131,8 @@ fn finish_drafts(
     Ok(next_shards)
 }
 
-// Finishes the draft of a shard. If it touched no document, the shard is shared as it is.
+// Finishes the draft of a shard. If the draft touched no document, the shard is shared as it is. Errors: `NoMemory` if an allocation
+// fails, or if there are too many references to the shard or to a part of it.
 fn finish_draft(alloc: Global, draft: Draft<'_>, shard: &Arc<Shard>) -> Result<Arc<Shard>, NoMemory>
     requires { draft.shard ≡ arc_value shard.now }
     ensures { IfOk result (λ s. FinishesAs draft.entry (arc_value s)) }

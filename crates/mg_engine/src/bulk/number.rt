@@ -21,15 +21,16 @@ pub(crate) fn number_edits(
     let mut found = Vec::with_capacity(alloc, edits.len())?;
     let mut number = last;
     for edit in edits {
-        let (edit, given) = name_edit(alloc, edit, number)?;
+        let (edit, given) = number_edit(alloc, edit, number)?;
         found.push(edit)?;
         number = given;
     }
     Ok((found, number))
 }
 
-// Gives an edit without an id the number after `last` as its id. Returns the edit, and the number that was given last.
-fn name_edit(alloc: Global, edit: Edit, last: u64) -> Result<(Edit, u64), NoMemory>
+// Gives an edit without an id the number after `last` as its id. Returns the edit, and the number that was given last (`last` if the edit
+// has an id).
+fn number_edit(alloc: Global, edit: Edit, last: u64) -> Result<(Edit, u64), NoMemory>
     ensures edit { IfOk result (λ r. r.0 ≡ with_number (number_after last) edit) }
     ensures last { IfOk result (λ r. r.1 ≡ (if is_some edit.id then last else number_after last)) }
 {
@@ -41,7 +42,7 @@ fn name_edit(alloc: Global, edit: Edit, last: u64) -> Result<(Edit, u64), NoMemo
     Ok((edit.with_id(id), number))
 }
 
-// A number as an id: 16 zeros, then its 16 lowercase hexadecimal digits.
+// Writes a number as an id: 16 zeros, then its 16 lowercase hexadecimal digits.
 fn number_text(alloc: Global, number: u64) -> Result<String, NoMemory>
     ensures { IfOk result (λ t. string_bytes t ≡ number_text number) }
 {

@@ -53,7 +53,8 @@ impl PreparedBulk {
     }
 }
 
-// Reads the shape of a body: a bulk whose edits are not read yet. `None` if the body has another shape, or a document is not an object.
+// Reads the shape of a body, and returns the bulk, whose edits are not read yet. `None` if the body is no object, has no array `docs`, or
+// has another fault that `read_documents` finds.
 fn read_bulk(body: Part<'_>) -> Option<Bulk<'_>>
     ensures { option_map bulk_seen result ≡ bulk_of body.entry }
 {
@@ -66,7 +67,8 @@ fn read_bulk(body: Part<'_>) -> Option<Bulk<'_>>
     }
 }
 
-// A bulk of these documents. The member `new_edits` may be absent. `None` if it is neither true nor false, or a document is not an object.
+// Makes a bulk of these documents and the member `new_edits`; if the member is absent, the edits are new. `None` if the member is neither
+// true nor false, or if a document is not an object.
 fn read_documents<'a>(documents: Array<'a>, new_edits: Option<Part<'a>>) -> Option<Bulk<'a>>
     ensures { option_map bulk_seen result ≡ shaped (Some (list documents.entry)) new_edits.entry }
 {
@@ -79,7 +81,7 @@ fn read_documents<'a>(documents: Array<'a>, new_edits: Option<Part<'a>>) -> Opti
     }
 }
 
-// A bulk of these documents. `None` if one of them is not an object.
+// Makes a bulk of these documents. `None` if one of them is not an object.
 fn read_objects(new_edits: bool, documents: Array<'_>) -> Option<Bulk<'_>>
     ensures { option_map bulk_seen result ≡ of_objects new_edits documents.entry }
 {
@@ -113,7 +115,7 @@ fn is_object(value: &Part<'_>) -> bool
     }
 }
 
-// Reads the edit of each document, in order. The error is the first fault.
+// Reads the edit of each document, in order. Errors: the first fault of a document, or `NoMemory` if an allocation fails before it.
 fn read_edits(alloc: Global, new_edits: bool, documents: Array<'_>) -> Result<Vec<Edit>, Fault>
     requires { are_objects documents ≡ true }
     ensures { ReadsAs (edits_seen new_edits) result

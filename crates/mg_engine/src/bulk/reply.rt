@@ -15,12 +15,12 @@ use mg_shard::EditReply;
 use mg_value::NoMemory;
 use std::alloc::Global;
 
-// Bytes reserved for each edit at first. Most entries fit: with a first revision, an entry takes 63 bytes and the id.
+// How many bytes are reserved for each edit at first. Most entries fit: with a first revision, an entry takes 63 bytes and the id.
 const ENTRY_ROOM: usize = 96;
 
-/// The line of the reply to a bulk: an entry for each edit or, if `new_edits` is false, for each edit that is refused.
+/// Writes the line of the reply to a bulk: an entry for each edit or, if `new_edits` is false, for each edit that is refused.
 ///
-/// Errors: `NoMemory` if an allocation fails. Cost: the length of the line, in one buffer that begins with `first_room`.
+/// Errors: `NoMemory` if an allocation fails. Cost: the length of the line, in one buffer that starts with `first_room` bytes.
 pub(crate) fn entries_line(
     alloc: Global,
     new_edits: bool,
@@ -35,7 +35,8 @@ pub(crate) fn entries_line(
     Ok(with_line_feed(out.into_inner())?)
 }
 
-// Bytes reserved for the entries of so many edits. If `new_edits` is false, most edits have no entry, and the buffer grows if some do.
+// Returns how many bytes are reserved at first for the entries of this many edits. If `new_edits` is false, only a refused edit has an
+// entry: nothing is reserved, and the buffer grows with the entries.
 fn first_room(new_edits: bool, edits: usize) -> usize {
     if new_edits {
         edits.saturating_mul(ENTRY_ROOM)
@@ -62,7 +63,7 @@ fn write_entries(
     Ok(())
 }
 
-// Writes the entry of an edit, if it has one. In the contract `vs` are the entries that follow.
+// Writes the entry of an edit, if the edit has one. In the contract, `vs` are the entries that follow.
 fn write_entry(
     alloc: Global,
     new_edits: bool,

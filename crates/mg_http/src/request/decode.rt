@@ -7,7 +7,7 @@ use percent_encoding::percent_decode;
 use std::alloc::{AllocError, Global};
 use std::borrow::CowSlice;
 
-/// The segment, percent-decoded.
+/// Percent-decodes the segment.
 ///
 /// Errors: out of memory.
 pub(crate) fn decode_segment(alloc: Global, segment: &[u8]) -> Result<Vec<u8>, AllocError>
@@ -20,6 +20,8 @@ pub(crate) fn decode_segment(alloc: Global, segment: &[u8]) -> Result<Vec<u8>, A
 }
 
 /// Whether the name and value of a query parameter decode to `conflicts=true`.
+///
+/// Errors: out of memory.
 fn is_conflicts(alloc: Global, name: &[u8], value: &[u8]) -> Result<bool, AllocError>
     ensures { IfOk result (λ b. b ≡ is_conflicts (name.now, value.now)) }
 {
@@ -28,7 +30,7 @@ fn is_conflicts(alloc: Global, name: &[u8], value: &[u8]) -> Result<bool, AllocE
     Ok(name.as_str() == "conflicts" && value.as_str() == "true")
 }
 
-/// Whether the query has `conflicts=true`.
+/// Whether some parameter of the query decodes to `conflicts=true`.
 ///
 /// Errors: out of memory.
 pub(crate) fn asks_conflicts(alloc: Global, query: &[u8]) -> Result<bool, AllocError>

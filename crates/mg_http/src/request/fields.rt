@@ -17,13 +17,13 @@ const MAX_BODY: u64 = 8_388_608;
 /// What the Content-Length fields of a head say about its body.
 #[derive(Clone, Copy, Debug, PartialEq, Eq)]
 pub enum Length {
-    /// There is no such field.
+    /// There is no Content-Length field.
     Absent,
-    /// All fields give this number of bytes, which is at most 8,388,608.
+    /// All Content-Length fields give this number of bytes, which is at most 8,388,608.
     Bytes(u64),
-    /// All fields give the same number, which is more than 8,388,608.
+    /// All Content-Length fields give one number, which is more than 8,388,608.
     TooMany,
-    /// One field is not a number, or two fields give different numbers.
+    /// Some Content-Length field is not a number, or two of them give different numbers.
     Faulty,
 }
 
@@ -46,7 +46,7 @@ pub(crate) fn has_field(bytes: &[u8], fields: &[HeaderSpan], name: &[u8]) -> boo
     false
 }
 
-/// The value of the first field that has the name.
+/// Returns the value of the first field that has the name, whatever the case of its letters; `None`: no field has it.
 fn find_named<'b>(bytes: &'b [u8], fields: &[HeaderSpan], name: &[u8]) -> Option<&'b [u8]>
     requires { All (IsHeaderWithin (length bytes.now)) fields.now }
     ensures { option_map (λ v. v.now) result
@@ -67,7 +67,7 @@ fn is_number(text: &[u8]) -> bool
     !text.is_empty() && text.iter().all(|b| b.is_ascii_digit())
 }
 
-/// The text without its leading zeros.
+/// Drops the leading zeros of the text: a zero becomes empty.
 fn significant(mut text: &[u8]) -> &[u8]
     ensures { result.now ≡ significant text.now }
 {
@@ -79,7 +79,7 @@ fn significant(mut text: &[u8]) -> &[u8]
     text
 }
 
-/// Whether two texts of digits write the same number. They may be of any length.
+/// Whether two texts of digits, of any length, give the same number.
 fn same_number(a: &[u8], b: &[u8]) -> bool
     requires a { list_all is_ascii_digit a.now ≡ true }
     requires b { list_all is_ascii_digit b.now ≡ true }
@@ -112,7 +112,7 @@ fn all_agree(bytes: &[u8], fields: &[HeaderSpan], text: &[u8]) -> bool
     true
 }
 
-/// The number that the digits write; `TooMany` past the limit of a body.
+/// Returns the length that the digits give; `TooMany` if it is more than `MAX_BODY`.
 fn read_length(digits: &[u8]) -> Length
     requires { list_all is_ascii_digit digits.now ≡ true }
     ensures length { result ≡ length_of (digits_value 10 digits.now) }
@@ -128,7 +128,7 @@ fn read_length(digits: &[u8]) -> Length
     Length::Bytes(n)
 }
 
-/// The length that the fields give to the body.
+/// Returns what the Content-Length fields say about the body.
 pub(crate) fn length_in(bytes: &[u8], fields: &[HeaderSpan]) -> Length
     requires { All (IsHeaderWithin (length bytes.now)) fields.now }
     ensures length { result ≡ length_in (map (header_bytes bytes.now) fields.now) }

@@ -9,7 +9,7 @@ ghost use Rattle.mg_http.specs.Steps.{IsHeadRead, request_in, IsBodyFramed, IsFr
 
 use crate::request::fields::{Length, asks_close, has_field, length_in};
 use crate::request::second_literals::SecondLiterals;
-use crate::request::target::{RequestTarget, read_target};
+use crate::request::target::{ParsedRequest, read_target};
 use crate::request::unfinished::ends_in_target;
 use httparse::spans::{HeaderSpan, RequestSpans, parse_request};
 use httparse::{Error, Status};
@@ -19,11 +19,11 @@ use std::alloc::{AllocError, Global};
 /// The most fields that a head may have. One with more is refused.
 const MAX_FIELDS: usize = 64;
 
-/// A head whose body's length is known.
+/// A complete head that is not refused, and the length of the body after it.
 #[derive(Drop)]
 pub struct Framed {
     /// What the head asks for.
-    pub target: RequestTarget,
+    pub request: ParsedRequest,
     /// The number of bytes of the head.
     pub head_len: usize,
     /// The number of bytes of the body.
@@ -34,53 +34,56 @@ pub struct Framed {
     pub closes: bool,
 }
 
-/// What unanswered bytes begin with.
+/// What the unanswered bytes begin with.
 #[derive(Drop)]
 pub(crate) enum Pending {
     /// An incomplete head, or no byte.
     Waiting,
     /// Bytes that are refused, or a head for whose target there was no memory; `true`: the reply leaves out its body.
     Refused(Refusal, bool),
-    /// A head; its body may still be incomplete.
-    Message(Framed),
+    /// A whole head; its body may still be incomplete.
+    Head(Framed),
 }
 
-/// The target's refusal if the target is refused, else `refusal`.
-fn refusal_before(refusal: Refusal, target: &RequestTarget) -> Refusal
-    ensures { result ≡ refusal_before refusal (request_in target.now) }
+/// Returns the request's own refusal if it has one, else `refusal`.
+fn refusal_before(refusal: Refusal, request: &ParsedRequest) -> Refusal
+    ensures { result ≡ refusal_before refusal (request_in request.now) }
 {
-    match target {
-        RequestTarget::Refuses(first) => *first,
-        RequestTarget::Body(_) => refusal,
-        RequestTarget::Asks(_) => refusal,
+    match request {
+        ParsedRequest::Refuses(first) => *first,
+        ParsedRequest::Body(_) => refusal,
+        ParsedRequest::Asks(_) => refusal,
     }
 }
 
-/// The number of bytes of the body, or why the message is refused before its body. `coded`: a Transfer-Encoding is given, which is
-/// refused. `post`: a length is required.
+/// Returns the number of bytes of the body. `coded`: a Transfer-Encoding is given, which is refused. `post`: a length is required.
+///
+/// Errors: why the message is refused before its body: `BadHead` for a faulty length; else the request's own refusal if it has one;
+/// else `LengthRequired` or `TooLarge`.
 fn frame_body(
     length: Length,
     coded: bool,
     post: bool,
-    target: &RequestTarget,
+    request: &ParsedRequest,
 ) -> Result<u64, Refusal>
     requires { (n : ℕ) → length ≡ Length.Bytes n → n ≤ 8388608 }
-    ensures { IsBodyFramed (framed_by length coded post (request_in target.now))
-        (request_in target.now) result }
+    ensures { IsBodyFramed (framed_by length coded post (request_in request.now))
+        (request_in request.now) result }
 {
     match length {
         Length::Faulty => Err(Refusal::BadHead),
-        Length::Absent if coded || post => Err(refusal_before(Refusal::LengthRequired, target)),
+        Length::Absent if coded || post => Err(refusal_before(Refusal::LengthRequired, request)),
         Length::Absent => Ok(0),
-        _ if coded => Err(refusal_before(Refusal::LengthRequired, target)),
+        _ if coded => Err(refusal_before(Refusal::LengthRequired, request)),
         Length::Bytes(n) => Ok(n),
-        Length::TooMany => Err(refusal_before(Refusal::TooLarge, target)),
+        Length::TooMany => Err(refusal_before(Refusal::TooLarge, request)),
     }
 }
 
-/// What a head with this method, target and fields asks for, and the number of bytes of its body.
+/// Returns what a head with this method, target and fields asks for, and the number of bytes of the body.
 ///
-/// Errors: why the message is refused before its body; or out of memory for the decoded target.
+/// Errors: why the message is refused before its body: more than `MAX_FIELDS` fields, out of memory for the decoded target, or an error
+/// of `frame_body`.
 fn read_framing(
     alloc: Global,
     db: &str,
@@ -89,7 +92,7 @@ fn read_framing(
     target: &[u8],
     bytes: &[u8],
     fields: &[HeaderSpan],
-) -> Result<(RequestTarget, u64), Refusal>
+) -> Result<(ParsedRequest, u64), Refusal>
     requires { All (IsHeaderWithin (length bytes.now)) fields.now }
     ensures { IsFramedBy (framing_by_parts db.now method.now target.now
         (map (header_bytes bytes.now) fields.now)) result }
@@ -97,20 +100,20 @@ fn read_framing(
     if fields.len() > MAX_FIELDS {
         return Err(Refusal::HeadTooLarge);
     }
-    let target = match read_target(alloc, db, literals, method, target) {
-        Ok(target) => target,
+    let request = match read_target(alloc, db, literals, method, target) {
+        Ok(request) => request,
         Err(AllocError) => return Err(Refusal::OutOfMemory),
     };
     let length = length_in(bytes, fields);
     let coded = has_field(bytes, fields, b"transfer-encoding");
-    let body = frame_body(length, coded, method == b"POST".as_slice(), &target);
+    let body = frame_body(length, coded, method == b"POST".as_slice(), &request);
     match body {
-        Ok(body) => Ok((target, body)),
+        Ok(body) => Ok((request, body)),
         Err(refusal) => Err(refusal),
     }
 }
 
-/// The first `count` spans.
+/// Returns the first `count` spans.
 fn front_of(spans: &[HeaderSpan], count: usize) -> &[HeaderSpan]
     requires { count ≤ length spans.now }
     ensures { result.now ≡ take count spans.now }
@@ -145,7 +148,7 @@ fn read_rejected(bytes: &[u8]) -> Pending
     }
 }
 
-/// What the head that the parser found in the bytes asks for.
+/// Reads the head that the parser found in the bytes. Refuses it for an error of `read_framing`.
 fn read_whole(
     alloc: Global,
     db: &str,
@@ -171,8 +174,8 @@ fn read_whole(
         fields,
     ) {
         Err(refusal) => Pending::Refused(refusal, omits_body),
-        Ok((target, body_len)) => Pending::Message(Framed {
-            target,
+        Ok((request, body_len)) => Pending::Head(Framed {
+            request,
             head_len: head.len,
             body_len,
             omits_body,
@@ -181,7 +184,7 @@ fn read_whole(
     }
 }
 
-/// Reads the head that the bytes, at most 16,384, begin with. `spans` is room for its fields: no more than 5,461 fit into a head.
+/// Reads the head that the bytes, at most 16,384, begin with. `spans` is room for the head's fields, of which at most 5,461 fit into it.
 pub(crate) fn read_head(
     alloc: Global,
     db: &str,

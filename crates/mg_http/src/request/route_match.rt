@@ -30,7 +30,7 @@ pub struct Segments<'a> {
 }
 
 impl<'a> Segments<'a> {
-    /// All segments of the path.
+    /// Returns all segments of the path; a path that does not begin with a slash has none.
     fn new(path: &'a [u8]) -> Segments<'a>
         ensures { segments_left result ≡ segments_of path.now }
     {
@@ -75,7 +75,7 @@ fn same_part(a: RouteSegment<'_>, b: RouteSegment<'_>) -> bool
     }
 }
 
-/// The rest of the route after the part; `None`: its path does not begin with the part.
+/// Returns the rest of the route after the part; `None`: the route's path does not begin with the part.
 fn route_after(route: &Route, part: RouteSegment<'_>) -> Option<Route>
     ensures { option_map route_of result ≡ route_after (part_seen part.entry) (route_of route.now) }
 {
@@ -92,6 +92,8 @@ fn route_after(route: &Route, part: RouteSegment<'_>) -> Option<Route>
 }
 
 /// Appends the rest of a route, if there is one.
+///
+/// Errors: out of memory.
 fn push_some(routes: &mut Vec<Route>, left: Option<Route>) -> Result<(), AllocError>
     ensures { OnOk result (map route_of routes.new.items
         ≡ map route_of routes.old.items ++ option_to_list (option_map route_of left)) }
@@ -105,7 +107,9 @@ fn push_some(routes: &mut Vec<Route>, left: Option<Route>) -> Result<(), AllocEr
     }
 }
 
-/// The rests of the routes whose paths begin with the part.
+/// Returns the rests of the routes whose paths begin with the part.
+///
+/// Errors: out of memory.
 fn routes_after(
     alloc: Global,
     routes: &[Route],
@@ -131,7 +135,7 @@ fn begins_with(route: &Route, segment: &[u8]) -> bool
     }
 }
 
-/// Whether one of the routes begins with the segment as a literal.
+/// Whether the path of one of the routes begins with the segment as a literal.
 fn any_begins_with(routes: &[Route], segment: &[u8]) -> bool
     ensures { result ≡ any_begins_with (literal segment.now) (map route_of routes.now) }
 {
@@ -163,7 +167,9 @@ fn is_second_literal(literals: &SecondLiterals, segment: &[u8]) -> bool
 }
 
 impl RouteMatch {
-    /// The state after the database's name. No route matches an empty name.
+    /// Begins a match with the first segment, the database's name. No route matches an empty name.
+    ///
+    /// Errors: out of memory.
     fn new(alloc: Global, name: &[u8]) -> Result<RouteMatch, AllocError>
         ensures matched { IfOk result (λ p. match_in p ≡ record {
           routes_left = if length name.now == 0 then [] else routes;
@@ -201,6 +207,8 @@ impl RouteMatch {
     }
 
     /// Matches one more segment: as a literal if some route that is left has it (`is_literal`), else as a parameter.
+    ///
+    /// Errors: out of memory.
     fn enter(
         mut self,
         alloc: Global,
@@ -265,7 +273,7 @@ impl RouteMatch {
         self.routes.iter().any(|route| ends_here(route))
     }
 
-    /// The action of the first route that matches the whole path and has the method.
+    /// Returns the action of the first route that matches the whole path and has the method; `None`: there is no such route.
     pub(crate) fn action(&self, method: &[u8]) -> Option<Action>
         ensures { result ≡ option_map
             (λ r. r.action) (find (ends_with_method method.now) (match_in self.now).routes_left) }

@@ -110,7 +110,7 @@ const ROUTES: [Route; 9] = [
     },
 ];
 
-/// The routes of a database.
+/// Returns the table of the routes.
 pub(crate) fn all_routes() -> &'static [Route]
     ensures { map route_of result.now ≡ routes }
 {

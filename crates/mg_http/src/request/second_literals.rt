@@ -15,14 +15,16 @@ pub(crate) struct SecondLiterals {
 }
 
 impl SecondLiterals {
-    /// All these literals.
+    /// Makes the set of these literals.
     ///
     /// Errors: out of memory.
     pub(crate) fn new(alloc: Global) -> Result<SecondLiterals, AllocError> {
         SecondLiterals::fill(alloc).map_err(|_| AllocError)
     }
 
-    /// All these literals, or the error of the router.
+    /// Makes the set of these literals.
+    ///
+    /// Errors: those of the router.
     fn fill(alloc: Global) -> Result<SecondLiterals, InsertError> {
         let mut router = Router::new(alloc);
         router.insert("_bulk_docs", ())?;

@@ -1,4 +1,4 @@
-//! Translates the method and the target of a head to a command.
+//! Translates the method and the target of a head to what they ask for: an endpoint, a command or a refusal.
 ghost use Rattle.std.specs.Prelude.{◌≡◌, map, IfOk, true};
 ghost use Rattle.std.specs.List.{list_all};
 ghost use Rattle.std.specs.Str.{is_utf8};
@@ -14,18 +14,19 @@ use crate::request::second_literals::SecondLiterals;
 use mg_engine::{Command, Refusal};
 use std::alloc::{AllocError, Global};
 
-/// What the method and the target of a head ask for.
+/// What the method and the target of a head ask for (`Request` in the definitions).
 #[derive(Drop)]
-pub enum RequestTarget {
+pub enum ParsedRequest {
     /// What the endpoint does with the body.
     Body(Endpoint),
     /// A command; the body is ignored.
     Asks(Command),
-    /// A refusal, which is written after the body was read.
+    /// A refusal. It is written after the body was read; or at once, if the body lacks a length that it needs, has a Transfer-Encoding or is
+    /// too large.
     Refuses(Refusal),
 }
 
-/// The path and the query of the target, without the question mark between them.
+/// Splits the target at its first question mark into the path and the query; without one, the query is empty.
 fn split_query(target: &[u8]) -> (&[u8], &[u8])
     ensures path { result.0.now ≡ path_in target.now }
     ensures query { result.1.now ≡ query_in target.now }
@@ -63,7 +64,7 @@ fn names(db: &str, parameters: &[Vec<u8>]) -> bool
     }
 }
 
-/// The bytes, which are UTF-8, as a `str`.
+/// Returns the bytes, which are UTF-8, as a `str`.
 fn as_text(bytes: &[u8]) -> &str
     requires { is_utf8 bytes.now ≡ true }
     ensures { result.now ≡ bytes.now }
@@ -74,31 +75,36 @@ fn as_text(bytes: &[u8]) -> &str
     }
 }
 
-/// The command that reads a document. The parameters are UTF-8: the database's name and the id.
+/// Returns the command that reads a document. The parameters are UTF-8: the database's name and the id. If there are not two, the
+/// request is refused as missing.
+///
+/// Errors: out of memory.
 fn document(
     alloc: Global,
     parameters: &[Vec<u8>],
     conflicts: bool,
-) -> Result<RequestTarget, AllocError>
+) -> Result<ParsedRequest, AllocError>
     requires { list_all is_utf8 (map (λ v. v.items) parameters.now) ≡ true }
     ensures { IfOk result (λ t. request_in t ≡ document_asked (map (λ v. v.items) parameters.now) conflicts) }
 {
     match parameters {
         [_, id] => {
             let id = String::from_str(alloc, as_text(id))?;
-            Ok(RequestTarget::Asks(Command::Get { id, conflicts }))
+            Ok(ParsedRequest::Asks(Command::Get { id, conflicts }))
         }
-        _ => Ok(RequestTarget::Refuses(Refusal::Missing)),
+        _ => Ok(ParsedRequest::Refuses(Refusal::Missing)),
     }
 }
 
-/// The command that drops an index. The parameters are UTF-8: the database's name, the design document's name after the
-/// `prefix`, and the index's name.
+/// Returns the command that drops an index. The parameters are UTF-8: the database's name, the design document's name without the
+/// `prefix`, and the index's name. If there are not three, the request is refused as missing.
+///
+/// Errors: out of memory.
 fn drop_index(
     alloc: Global,
     prefix: &str,
     parameters: &[Vec<u8>],
-) -> Result<RequestTarget, AllocError>
+) -> Result<ParsedRequest, AllocError>
     requires { list_all is_utf8 (map (λ v. v.items) parameters.now) ≡ true }
     ensures { IfOk result (λ t. request_in t ≡ drop_asked prefix.now (map (λ v. v.items) parameters.now)) }
 {
@@ -107,41 +113,44 @@ fn drop_index(
             let mut ddoc = String::from_str(alloc, prefix)?;
             ddoc.push_str(as_text(rest))?;
             let name = String::from_str(alloc, as_text(name))?;
-            Ok(RequestTarget::Asks(Command::DropIndex { ddoc, name }))
+            Ok(ParsedRequest::Asks(Command::DropIndex { ddoc, name }))
         }
-        _ => Ok(RequestTarget::Refuses(Refusal::Missing)),
+        _ => Ok(ParsedRequest::Refuses(Refusal::Missing)),
     }
 }
 
-/// What the method asks for at a matched path, or the refusal of a path that does not match.
-fn target_at(
+/// Returns what the method asks for at a matched path. Refuses, in this order: a path that no route matches, or a parameter that is not
+/// UTF-8; another database's name; a method that no route with this path has.
+///
+/// Errors: out of memory.
+fn request_at(
     alloc: Global,
     db: &str,
     method: &[u8],
     query: &[u8],
     matched: RouteMatch,
-) -> Result<RequestTarget, AllocError>
+) -> Result<ParsedRequest, AllocError>
     ensures { IfOk result (λ t. request_in t ≡ request_at db.now method.now query.now (match_in matched)) }
 {
     if !matched.has_whole_match() || !are_texts(&matched.parameters) {
-        return Ok(RequestTarget::Refuses(Refusal::Missing));
+        return Ok(ParsedRequest::Refuses(Refusal::Missing));
     }
     if !names(db, &matched.parameters) {
-        return Ok(RequestTarget::Refuses(Refusal::NoDatabase));
+        return Ok(ParsedRequest::Refuses(Refusal::NoDatabase));
     }
     match matched.action(method) {
-        None => Ok(RequestTarget::Refuses(Refusal::MethodNotAllowed)),
-        Some(Action::Body(endpoint)) => Ok(RequestTarget::Body(endpoint)),
+        None => Ok(ParsedRequest::Refuses(Refusal::MethodNotAllowed)),
+        Some(Action::Body(endpoint)) => Ok(ParsedRequest::Body(endpoint)),
         Some(Action::Document) => {
             document(alloc, &matched.parameters, asks_conflicts(alloc, query)?)
         }
-        Some(Action::ListIndexes) => Ok(RequestTarget::Asks(Command::ListIndexes)),
+        Some(Action::ListIndexes) => Ok(ParsedRequest::Asks(Command::ListIndexes)),
         Some(Action::DropIndex) => drop_index(alloc, "", &matched.parameters),
         Some(Action::DropDesignIndex) => drop_index(alloc, "_design/", &matched.parameters),
     }
 }
 
-/// What the method and the target ask of the database.
+/// Returns what the method and the target ask of the database.
 ///
 /// Errors: out of memory for the decoded target.
 pub(crate) fn read_target(
@@ -150,10 +159,10 @@ pub(crate) fn read_target(
     literals: &SecondLiterals,
     method: &[u8],
     target: &[u8],
-) -> Result<RequestTarget, AllocError>
+) -> Result<ParsedRequest, AllocError>
     ensures { IfOk result (λ t. request_in t ≡ request_of db.now method.now target.now) }
 {
     let (path, query) = split_query(target);
     let matched = RouteMatch::of(alloc, literals, path)?;
-    target_at(alloc, db, method, query, matched)
+    request_at(alloc, db, method, query, matched)
 }

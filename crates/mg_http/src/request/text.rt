@@ -31,7 +31,7 @@ fn trim_end(mut text: &[u8]) -> &[u8]
     text
 }
 
-/// The text without the spaces and tabs at both ends.
+/// Trims the spaces and tabs at both ends of the text.
 pub(crate) fn trim_ows(text: &[u8]) -> &[u8]
     ensures { result.now ≡ trim_ows text.now }
 {

@@ -1,4 +1,4 @@
-//! Recognizes bytes that end within a target. The parser rejects some of them, though the target may go on.
+//! Recognizes bytes that end within a target. The parser rejects some of them, although the rest of the target may still come.
 ghost use Rattle.std.specs.Prelude.{◌≡◌, ◌↔◌, IsTrue, false};
 ghost use Rattle.std.specs.List.{list_all};
 ghost use Rattle.httparse.specs.Grammar.{EndsInTarget, is_token_byte, is_uri_byte};
@@ -6,7 +6,7 @@ ghost use Rattle.mg_http.specs.TargetScan.{skip_blank, is_method_and_target};
 
 use httparse::is_token;
 
-/// The bytes without leading empty lines.
+/// Skips the leading empty lines.
 fn skip_blank(mut bytes: &[u8]) -> &[u8]
     ensures { result.now ≡ skip_blank bytes.now }
 {
@@ -40,7 +40,7 @@ fn is_target(bytes: &[u8]) -> bool
     bytes.iter().all(|b| is_uri_byte(*b))
 }
 
-/// Whether the bytes are a method, a space and the beginning of a target.
+/// Whether the bytes are a method, a space and the beginning of a target, which may be empty.
 fn is_method_and_target(bytes: &[u8]) -> bool
     ensures { result ≡ is_method_and_target false bytes.now }
 {

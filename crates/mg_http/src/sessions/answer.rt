@@ -1,4 +1,4 @@
-//! Answers one message; the reply is not written yet.
+//! Makes the reply to one message, without writing it.
 ghost use Rattle.std.specs.Prelude.{◌≡◌, IfOk, Err};
 ghost use Rattle.mg_value.specs.Text.{Reads};
 ghost use Rattle.mg_value.specs.Value.{Value};
@@ -6,7 +6,7 @@ ghost use Rattle.mg_engine.specs.View.{asked};
 ghost use Rattle.mg_http.specs.Session.{asked_by, HandlesBody, Handles};
 ghost use Rattle.mg_http.specs.Steps.{answer_in, request_in};
 
-use crate::request::{Endpoint, RequestTarget};
+use crate::request::{Endpoint, ParsedRequest};
 use crate::sessions::service::Service;
 use mg_engine::{Command, Refusal, Reply};
 use mg_packed::Packed;
@@ -15,9 +15,9 @@ use std::alloc::Global;
 use std::sync::Wait;
 use std::thread::Threads;
 
-/// Reads the body as JSON, and returns the command of the endpoint for it. The body of a bulk is read into one block.
+/// Reads the body as JSON, and returns the endpoint's command with this value. The body of a bulk is read into one block.
 ///
-/// Errors: those of `mg_value::read_in`.
+/// Errors: those of `mg_value::read_in`; for a bulk, those of `Packed::read_in`.
 fn read_command(
     alloc: Global,
     endpoint: Endpoint,
@@ -38,16 +38,19 @@ fn read_command(
     }
 }
 
-/// What a message is answered with.
+/// The reply to a message.
 #[derive(Drop)]
 pub(crate) enum MessageReply {
-    /// A reply of the service.
+    /// A reply of the service; or out of memory, if there was no memory for the body. Then the service was not asked.
     Service(Reply),
     /// A refusal of the message. The service was not asked.
     Refusal(Refusal),
 }
 
-/// Reads the body as JSON, and answers it for the endpoint.
+/// Reads the body as JSON, and asks the service for the endpoint's command.
+///
+/// Refuses a body that is not JSON or has a number that is not an `i64`; replies out of memory if there is none for the body. In both cases
+/// the service is not asked.
 fn answer_body<H: Wait + Threads + Sync, S: Service>(
     rt: &H,
     alloc: Global,
@@ -67,21 +70,21 @@ fn answer_body<H: Wait + Threads + Sync, S: Service>(
     }
 }
 
-/// Answers a message with this target and body.
+/// Answers a message that asks for this request and has this body. Only an endpoint reads the body.
 pub(crate) fn answer_request<H: Wait + Threads + Sync, S: Service>(
     rt: &H,
     alloc: Global,
     service: &mut S,
     buffer: &mut ReadBuffer,
-    target: RequestTarget,
+    request: ParsedRequest,
     body: &[u8],
 ) -> MessageReply
-    ensures { Handles S.answers (request_in target) body.now
+    ensures { Handles S.answers (request_in request) body.now
         (record { old = service.old; reply = answer_in result; new = service.new }) }
 {
-    match target {
-        RequestTarget::Body(endpoint) => answer_body(rt, alloc, service, buffer, endpoint, body),
-        RequestTarget::Asks(command) => MessageReply::Service(service.ask(rt, alloc, command)),
-        RequestTarget::Refuses(refusal) => MessageReply::Refusal(refusal),
+    match request {
+        ParsedRequest::Body(endpoint) => answer_body(rt, alloc, service, buffer, endpoint, body),
+        ParsedRequest::Asks(command) => MessageReply::Service(service.ask(rt, alloc, command)),
+        ParsedRequest::Refuses(refusal) => MessageReply::Refusal(refusal),
     }
 }

@@ -93,9 +93,10 @@ impl<W: Write> Device<W> {
         Ok(())
     }
 
-    /// Writes the pieces in order. Gathers them in `output` first, so that one write suffices if they fit and the writer takes them all.
+    /// Writes the pieces in order. Gathers them in `output` first: if they fit and the writer takes all their bytes, one write suffices.
+    /// Writes a piece by itself if `output` has no room for it, or gets no memory.
     ///
-    /// Writes a piece by itself if `output` has no room for it, or gets no memory. Errors: as for `put`.
+    /// Errors: as for `put`.
     pub(crate) fn put_all(&mut self, output: &mut Vec<u8>, pieces: &[&[u8]]) -> Result<(), IoFault>
         ensures bytes { WritesBytes (W.contents (inner_of self.old)) (W.contents (inner_of self.new))
             (flat_map (λ piece. piece.now) pieces.now) result }
@@ -108,7 +109,9 @@ impl<W: Write> Device<W> {
         self.put(output)
     }
 
-    /// Appends the piece to `output`; if `output` has no room for it, writes both.
+    /// Appends the piece to `output`; if `output` has no room for it, or gets no memory, writes both and empties `output`.
+    ///
+    /// Errors: as for `put`.
     fn gather(&mut self, output: &mut Vec<u8>, piece: &[u8]) -> Result<(), IoFault>
         ensures bytes { Gathers (W.contents (inner_of self.old)) (W.contents (inner_of self.new))
             output.old.items piece.now output.new.items result }

@@ -13,7 +13,7 @@ use std::io::Read;
 /// Room for the fields of a head: no more than 5,461 fit into 16,384 bytes. A head with more than 64 is refused after it is parsed.
 const SPANS: usize = 5_461;
 
-/// How many bytes the reader is asked for at a time.
+/// The most bytes of one read.
 const PIECE: usize = 16_384;
 
 /// What a session keeps from one message to the next.
@@ -30,7 +30,7 @@ pub(crate) struct Inbox {
     pub(crate) piece: Vec<u8>,
     /// The bytes gathered for one write.
     pub(crate) output: Vec<u8>,
-    /// Memory for reading a body.
+    /// Memory for reading a body, kept from one body to the next.
     pub(crate) buffer: ReadBuffer,
     /// The number of messages answered.
     pub(crate) messages: u32,
@@ -41,7 +41,7 @@ pub(crate) struct Inbox {
     ghost piece_room: { vec_len piece ≡ 16384 },
 }
 
-/// Why a read returned no byte.
+/// Why no byte was read.
 #[derive(Clone, Copy)]
 pub(crate) enum Stop {
     /// The input ended.
@@ -50,11 +50,11 @@ pub(crate) enum Stop {
     Failed,
     /// There was no memory for another piece.
     NoMemory,
-    /// The session may not call its reader again.
+    /// The session has called its reader 4,294,967,295 times, and may not call it again.
     Limit,
 }
 
-/// The unanswered bytes.
+/// Returns the held bytes from `start` on: those that are unanswered.
 pub(crate) fn rest_of(held: &[u8], start: usize) -> &[u8]
     requires { start ≤ length held.now }
     ensures { result.now ≡ drop start held.now }
@@ -66,7 +66,7 @@ impl Inbox {
     ghost use Rattle.mg_http.specs.Inbox.{unanswered, steps_left};
     ghost use Rattle.mg_http.specs.Steps.{IsPending};
 
-    /// An empty inbox.
+    /// Makes an empty inbox.
     ///
     /// Errors: out of memory.
     pub(crate) fn new(alloc: Global) -> Result<Inbox, AllocError>
@@ -86,7 +86,7 @@ impl Inbox {
         })
     }
 
-    /// Parses the request, or the part of one, that the unanswered bytes begin with.
+    /// Reads the head, complete or not, that the unanswered bytes begin with.
     pub(crate) fn pending(&mut self, alloc: Global, db: &str) -> Pending
         ensures pending { IsPending db.now (unanswered self.old) result }
         ensures held { unanswered self.new ≡ unanswered self.old }
@@ -119,9 +119,9 @@ impl Inbox {
         self.start = 0;
     }
 
-    /// Reads once. Reserves the room before it reads, so that no byte is lost.
+    /// Drops the answered bytes, calls the reader once, and appends what it gives. Reserves the room before the call: no byte is lost.
     ///
-    /// Errors: why the read returned no byte.
+    /// Errors: why no byte was read. The unanswered bytes stay as they were.
     pub(crate) fn read_piece<R: Read>(&mut self, reader: &mut Device<R>) -> Result<(), Stop>
         requires { has_failed reader.old ≡ false }
         ensures bytes { (came : List ℕ)
@@ -163,7 +163,7 @@ impl Inbox {
 
     /// Reads until at least `want` bytes are unanswered.
     ///
-    /// Errors: why the last read returned no byte.
+    /// Errors: why the last read gave no byte. The bytes of the reads before it are kept.
     pub(crate) fn fill<R: Read>(&mut self, reader: &mut Device<R>, want: usize) -> Result<(), Stop>
         requires { has_failed reader.old ≡ false }
         ensures bytes { (came : List ℕ)

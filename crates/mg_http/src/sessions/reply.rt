@@ -12,7 +12,7 @@ use itoa::Buffer;
 use mg_engine::{Refusal, Reply};
 use std::io::Write;
 
-/// The standard reason phrase of the status; empty if it has none.
+/// Returns the standard reason phrase of the status; empty if it has none.
 fn phrase(status: u16) -> &'static str
     ensures { result.now ≡ phrase_of status }
 {
@@ -22,7 +22,9 @@ fn phrase(status: u16) -> &'static str
     }
 }
 
-/// Writes the text of a reply from its parts. They are gathered in `output`, so that one write usually suffices.
+/// Writes the text of a reply from its parts. Gathers them in `output`: one write usually suffices.
+///
+/// Errors: as for `Device::put`.
 fn write_parts<'a, W: Write>(
     writer: &mut Device<W>,
     output: &mut Vec<u8>,
@@ -50,7 +52,7 @@ fn write_parts<'a, W: Write>(
     )
 }
 
-/// The body that is written: empty if the reply omits it.
+/// Returns the body to write: empty if the reply omits it.
 fn body_to_write(omits_body: bool, body: &[u8]) -> &[u8]
     ensures { result.now ≡ (if omits_body then [] else body.now) }
 {
@@ -121,7 +123,7 @@ pub(crate) fn write_refusal<W: Write>(
     )
 }
 
-/// Writes what a message is answered with.
+/// Writes the reply to a message.
 ///
 /// Errors: those of the writer.
 pub(crate) fn write_answer<W: Write>(

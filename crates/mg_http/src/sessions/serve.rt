@@ -18,11 +18,11 @@ impl<P: Placement + Drop> Solo<P> {
     /// Serves one session of the database `db`: answers each message that it reads, one after another, from the engine. Does not flush
     /// the writer.
     ///
-    /// If memory sufficed, it writes the transcript of what it read; after a failed write, or at the session's limit, a prefix of the
-    /// transcript. Afterwards the engine stands for the world that the answered messages leave.
+    /// If memory sufficed, the session writes a transcript of what it read; after a failed write, or at its limit, a prefix of one. A
+    /// command whose reply is `out_of_memory` changes nothing. Afterwards the engine stands for the world that the commands leave.
     ///
     /// Errors: each error ends the session; see `SessionEnd`. Cost: that of the commands, and one pass over the bytes; a head that arrives
-    /// in several pieces is parsed again for each piece.
+    /// in several pieces is parsed again for each piece. Holds at most one message and the bytes of one more read, at most 16,384.
     pub fn serve<H: Wait + Threads + Sync, R: Read, W: Write>(
         &mut self,
         rt: &H,

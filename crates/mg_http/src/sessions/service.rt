@@ -14,7 +14,7 @@ use std::thread::Threads;
 
 /// Answers one command after another.
 pub trait Service {
-    // From the first state, the command may get this answer (`None`: out of memory) and leave the second state.
+    // From the first state, the command may get the answer (`None`: out of memory) and leave the last state.
     ghost answers: { Self → Asked → Option Answer → Self → Type 0 };
 
     /// Answers the command. The clause `requires` repeats the bound `Sync`, since an impl does not get the bounds of its trait's method.
@@ -53,8 +53,8 @@ pub struct SeatService<D: Database, C: EndsWriter> {
 }
 
 impl<D: Database, C: EndsWriter> Service for SeatService<D, C> {
-    // The answer is the seat's: a read is answered from what the seat has seen by then; a write, after a list of commits that begins
-    // with those that the seat had seen. If memory ran out, there is no commit.
+    // The seat gives the answer: to a read, from the commits that it has then seen; to a write, after a list of commits that begins with
+    // those that it had seen. A command for which memory ran out makes no commit.
     ghost answers = { λ old command answer new. Answered D.db old.seat command answer new.seat };
 
     fn ask<H: Wait + Threads + Sync>(&mut self, rt: &H, _alloc: Global, command: Command) -> Reply {

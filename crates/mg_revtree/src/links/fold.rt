@@ -1,7 +1,7 @@
 ghost use Rattle.std.specs.Prelude.{◌≡◌, ◌≤◌, ◌++◌, ℕ, IfOk, OnOk, drop, length, option_map};
 ghost use Rattle.mg_revtree.specs.Revision.{Revision, revision_order};
 ghost use Rattle.mg_revtree.specs.Tree.{AreSorted};
-ghost use Rattle.mg_revtree.specs.Nodes.{AreWithin, Grows, LiesWithin, NodeWithin, ParentWithin, link_in, links_in, text_of_part};
+ghost use Rattle.mg_revtree.specs.Nodes.{NodesWithin, IsExtendedBy, LiesWithin, NodeWithin, ParentWithin, link_in, links_in, text_of_part};
 ghost use Rattle.mg_revtree.specs.Known.{AreBelow, with_link, with_links};
 ghost use Rattle.std.specs.declared.cmp.Ordering.TheVariants.{Less};
 
@@ -12,7 +12,8 @@ use crate::links::parts::part_for;
 use mg_value::NoMemory;
 use std::alloc::Global;
 
-// The part that holds the id of a revision. If neither list has the revision, its id is added to the texts.
+// Returns the part of `texts` that holds the id of a revision. If neither list has the revision, adds its id to `texts`. Errors: those of
+// `add`.
 fn part_among(
     texts: &mut Vec<u8>,
     older: &[Node],
@@ -20,9 +21,9 @@ fn part_among(
     pos: u32,
     id: &[u8],
 ) -> Result<IdPart, NoMemory>
-    ensures grows { Grows texts.old.items texts.new.items }
+    ensures grows { IsExtendedBy texts.old.items texts.new.items }
     ensures within { IfOk result
-        (λ p. AreWithin (length texts.old.items) older.now → AreWithin (length texts.old.items) made.now
+        (λ p. NodesWithin (length texts.old.items) older.now → NodesWithin (length texts.old.items) made.now
         → LiesWithin (length texts.new.items) p) }
     ensures part { IfOk result
         (λ p. AreSorted (links_in texts.old.items older.now) → AreSorted (links_in texts.old.items made.now)
@@ -34,7 +35,8 @@ fn part_among(
     }
 }
 
-// The part of `texts` that holds the id of a node's parent, if the parent is known. The parts in the node itself lie in `other`.
+// Returns the part of `texts` that holds the id of a node's parent, if the parent is known. The parts of the node itself are in `other`.
+// If neither list has the parent, adds its id to `texts`. Errors: those of `add`.
 fn parent_for(
     texts: &mut Vec<u8>,
     older: &[Node],
@@ -42,9 +44,9 @@ fn parent_for(
     other: &[u8],
     node: Node,
 ) -> Result<Option<IdPart>, NoMemory>
-    ensures grows { Grows texts.old.items texts.new.items }
+    ensures grows { IsExtendedBy texts.old.items texts.new.items }
     ensures within { IfOk result
-        (λ p. AreWithin (length texts.old.items) older.now → AreWithin (length texts.old.items) made.now
+        (λ p. NodesWithin (length texts.old.items) older.now → NodesWithin (length texts.old.items) made.now
         → ParentWithin (length texts.new.items) p) }
     ensures part { IfOk result
         (λ p. AreSorted (links_in texts.old.items older.now) → AreSorted (links_in texts.old.items made.now)
@@ -62,8 +64,8 @@ fn parent_for(
     }
 }
 
-// A node over `texts` that stands for the same link as a node over `other`. The ids of revisions that neither list has are
-// added to `texts`.
+// Makes the node over `texts` for the link that `node`, a node over `other`, stands for. Adds to `texts` the ids of revisions that
+// neither list has. Errors: those of `add`.
 fn node_for(
     texts: &mut Vec<u8>,
     older: &[Node],
@@ -71,12 +73,12 @@ fn node_for(
     other: &[u8],
     node: Node,
 ) -> Result<Node, NoMemory>
-    ensures grows { Grows texts.old.items texts.new.items }
+    ensures grows { IsExtendedBy texts.old.items texts.new.items }
     ensures within { IfOk result
-        (λ x. AreWithin (length texts.old.items) older.now → AreWithin (length texts.old.items) made.now
+        (λ x. NodesWithin (length texts.old.items) older.now → NodesWithin (length texts.old.items) made.now
         → NodeWithin (length texts.new.items) x) }
     ensures link { IfOk result
-        (λ x. AreWithin (length texts.old.items) older.now → AreWithin (length texts.old.items) made.now
+        (λ x. NodesWithin (length texts.old.items) older.now → NodesWithin (length texts.old.items) made.now
         → AreSorted (links_in texts.old.items older.now) → AreSorted (links_in texts.old.items made.now)
         → link_in texts.new.items x ≡ link_in other.now node) }
 {
@@ -89,8 +91,9 @@ fn node_for(
     })
 }
 
-// Appends the older nodes below a node, and then the node, joined with the older one of its revision if there is one.
-// Returns how many older nodes it consumed.
+// Appends to `made` the older nodes below `node`, and then `node`. If an older node has the revision of `node`, appends that older node
+// instead of `node`, and gives it the parent of `node` if it has none. Returns how many older nodes are used up. Errors: `NoMemory` if an
+// allocation fails; `made` may then be longer.
 fn add_through(
     texts: &[u8],
     made: &mut Vec<Node>,
@@ -98,8 +101,8 @@ fn add_through(
     node: Node,
 ) -> Result<usize, NoMemory>
     ensures inside { IfOk result (λ i. i ≤ length older.now) }
-    ensures within { OnOk result ((n : ℕ) → AreWithin n made.old.items → AreWithin n older.now
-        → NodeWithin n node → AreWithin n made.new.items) }
+    ensures within { OnOk result ((n : ℕ) → NodesWithin n made.old.items → NodesWithin n older.now
+        → NodeWithin n node → NodesWithin n made.new.items) }
     ensures links { IfOk result
         (λ i. AreSorted (links_in texts.now older.now)
         → links_in texts.now made.new.items ++ links_in texts.now (drop i older.now)
@@ -125,9 +128,10 @@ fn add_through(
     }
 }
 
-/// Merges sorted older nodes over `texts` with newer nodes over `other` into one sorted list over `texts`. The ids of
-/// unknown revisions are added to `texts`. Cost: one pass over all nodes, and a few logarithms of their number for each newer
-/// one.
+/// Merges sorted older nodes over `texts` with sorted newer nodes over `other` into one sorted list over `texts`. Adds to `texts` the ids
+/// of revisions that the older nodes lack. Errors: `NoMemory` if an allocation fails, or if `texts` would take more than 4,294,967,295
+/// bytes; ids that were added before an error stay in `texts`. Cost: one pass over all nodes, and a few logarithms of their number for
+/// each newer one.
 pub fn fold_links(
     alloc: Global,
     texts: &mut Vec<u8>,
@@ -136,10 +140,10 @@ pub fn fold_links(
     newer: &[Node],
 ) -> Result<Vec<Node>, NoMemory>
     ensures within { IfOk result
-        (λ made. AreWithin (length texts.old.items) older.now
-        → AreWithin (length texts.new.items) made.items) }
+        (λ made. NodesWithin (length texts.old.items) older.now
+        → NodesWithin (length texts.new.items) made.items) }
     ensures links { IfOk result
-        (λ made. AreWithin (length texts.old.items) older.now
+        (λ made. NodesWithin (length texts.old.items) older.now
         → AreSorted (links_in texts.old.items older.now) → AreSorted (links_in other.now newer.now)
         → links_in texts.new.items made.items
         ≡ with_links (links_in texts.old.items older.now) (links_in other.now newer.now)) }

@@ -1,7 +1,7 @@
 ghost use Rattle.std.specs.Prelude.{◌≡◌, ◌+◌, ◌<◌, ◌≤◌, ◌++◌, ◌*◌, List, [], IfOk, IfSome, OnErr, OnOk, is_some, length, map, nat_le, string_bytes};
 ghost use Rattle.mg_revtree.specs.Revision.{run_from};
 ghost use Rattle.mg_revtree.specs.History.{Link, are_known_whole, fit, links};
-ghost use Rattle.mg_revtree.specs.Tree.{AreNodes, AreSorted, find};
+ghost use Rattle.mg_revtree.specs.Tree.{AreKnownLinks, AreSorted, find};
 ghost use Rattle.mg_revtree.specs.Pair.{pair_links};
 
 use crate::links::list::Links;
@@ -34,12 +34,12 @@ fn are_few(newer: usize, older: usize) -> bool {
 
 /// The known revisions with their parents, in the order of the revisions. Contracts see the list of them.
 ///
-/// They are kept in two lists: an older one, which copies share, and a newer one, which is copied. A list is older or newer by when
-/// its revisions were joined, not by their positions. The newer list holds at most 64 revisions, or about four times the square root
-/// of the number of older ones. Before it grows beyond that limit, it is folded into a copy of the older list, and that copy becomes
-/// the older list. So a copy of the tree never copies more revisions than the limit, and after a fold the next one comes only when the
-/// runs joined since then have more revisions than the limit, known ones included. The parent of a revision is the one in the older
-/// list; if that list has none, the one in the newer list.
+/// They are kept in two lists: an older one, which copies share, and a newer one, which is copied. A list is older or newer by when its
+/// revisions were joined, not by their positions. The newer list holds at most 64 revisions, or about four times the square root of the
+/// number of older ones. Before it grows beyond that limit, it is folded into a copy of the older list, and that copy becomes the older
+/// list. Therefore a copy of the tree never copies more revisions than the limit. The next fold comes only when the runs that were joined
+/// since the last one have more revisions than the limit, known ones included. The parent of a revision is the one in the older list; if
+/// that list has none, the one in the newer list.
 #[derive(Drop)]
 pub struct KnownLinks {
     older: Older,
@@ -63,7 +63,7 @@ impl Model for KnownLinks {
 }
 
 impl KnownLinks {
-    /// No revisions. Takes no memory.
+    /// Makes the list without revisions. Takes no memory.
     pub fn new(alloc: Global) -> KnownLinks
         ensures { result ≡ [] }
     {
@@ -73,7 +73,7 @@ impl KnownLinks {
         }
     }
 
-    /// Whether a revision is known. Cost: the logarithm of the known revisions.
+    /// Whether a revision is known. Takes no memory. Cost: the logarithm of the known revisions.
     pub fn knows(&self, pos: u32, id: &String) -> bool
         ensures { AreSorted self.now → result ≡ is_some (find (pos, string_bytes id.now) self.now) }
     {
@@ -83,7 +83,7 @@ impl KnownLinks {
     /// Whether a run, given by its start and its ids, newest first, gives no known revision a parent other than the known one.
     /// Cost: the length of the run times the logarithm of the known revisions.
     pub fn fits(&self, start: u32, ids: &[String]) -> bool
-        ensures { (ls : List Link) → AreNodes self.now ls
+        ensures { (ls : List Link) → AreKnownLinks self.now ls
             → result ≡ fit ls (links (run_from start (map string_bytes ids.now))) }
     {
         all_agree(self, start, ids)
@@ -92,19 +92,19 @@ impl KnownLinks {
     /// Whether all revisions of a run, given by its start and its ids, newest first, are known with the parents that
     /// the run gives them. Cost: as for `fits`.
     pub fn knows_whole(&self, start: u32, ids: &[String]) -> bool
-        ensures { (ls : List Link) → AreNodes self.now ls
+        ensures { (ls : List Link) → AreKnownLinks self.now ls
             → result ≡ are_known_whole ls (links (run_from start (map string_bytes ids.now))) }
     {
         all_known(self, start, ids)
     }
 
-    /// Adds a run, given by its start and its ids, newest first. If memory runs out, nothing changes. Cost: if the newer list
-    /// stays within its limit, that of `Links::join` in that list; else that of `Older::with`, and of `Links::join` in the list
-    /// of all revisions.
+    /// Adds a run, given by its start and its ids, newest first. Errors: those of `Links::join`, `Older::with` and `Older::new`, all
+    /// `NoMemory`; nothing changes then. Cost: if the newer list stays within its limit, that of `Links::join` in that list; else that of
+    /// `Older::with`, and of `Links::join` in the list of all revisions.
     pub fn join(&mut self, start: u32, ids: &[String]) -> Result<(), NoMemory>
         requires { length ids.now ≤ start + 1 }
-        ensures nodes { OnOk result ((ls : List Link) → AreNodes self.old ls
-            → AreNodes self.new (ls ++ links (run_from start (map string_bytes ids.now)))) }
+        ensures joined { OnOk result ((ls : List Link) → AreKnownLinks self.old ls
+            → AreKnownLinks self.new (ls ++ links (run_from start (map string_bytes ids.now)))) }
         ensures err { OnErr result (self.new ≡ self.old) }
     {
         if are_few(self.newer.len().saturating_add(ids.len()), self.older.len()) {
@@ -119,7 +119,8 @@ impl KnownLinks {
         Ok(())
     }
 
-    /// The known revisions that are a revision and its parent, which has no known parent. The parent is given by its id.
+    /// Makes the list of a revision and its parent, which is given by its id and has no known parent. Errors: `NoMemory` if an allocation
+    /// fails, or if the two ids take more than 4,294,967,295 bytes.
     pub fn of_pair(alloc: Global, rev: &Rev, parent: &[u8]) -> Result<KnownLinks, NoMemory>
         requires { 0 < rev.now.0 }
         ensures { IfOk result (λ known. known ≡ pair_links rev.now parent.now) }
@@ -130,8 +131,8 @@ impl KnownLinks {
         })
     }
 
-    /// The id of a revision's parent, if the known revisions are exactly these two, and the parent has no known parent. Takes no
-    /// memory. May also return `None` if there are older revisions.
+    /// Returns the id of a revision's parent. `None` unless exactly these two revisions are known, both in the newer list, and the parent
+    /// has no known parent. Takes no memory.
     pub fn parent_in_pair(&self, rev: &Rev) -> Option<&[u8]>
         ensures { IfSome result
             (λ parent. (0 < rev.now.0) × (self.now ≡ pair_links rev.now parent.now)) }
@@ -142,8 +143,8 @@ impl KnownLinks {
         self.newer.parent_in_pair(rev)
     }
 
-    /// A copy that shares the older list. Cost: copies the two blocks of memory of the newer list, with no work for each
-    /// revision.
+    /// Makes a copy that shares the older list. Errors: `NoMemory` if an allocation fails, or if there are too many references to the
+    /// older list. Cost: a copy of the two blocks of the newer list, with no work for each revision.
     pub fn copy(&self, alloc: Global) -> Result<KnownLinks, NoMemory>
         ensures { IfOk result (λ known. known ≡ self.now) }
     {

@@ -1,7 +1,7 @@
 ghost use Rattle.std.specs.Prelude.{◌≡◌, ◌+◌, ◌<◌, ◌≤◌, ◌++◌, List, [], IfOk, IfSome, OnErr, OnOk, length, map, option_copied, option_map, string_bytes};
 ghost use Rattle.mg_revtree.specs.Revision.{run_from};
 ghost use Rattle.mg_revtree.specs.History.{Link, links};
-ghost use Rattle.mg_revtree.specs.Tree.{AreNodes, AreSorted, find};
+ghost use Rattle.mg_revtree.specs.Tree.{AreKnownLinks, AreSorted, find};
 ghost use Rattle.mg_revtree.specs.Known.{parent_below, with_links};
 ghost use Rattle.mg_revtree.specs.Pair.{pair_links};
 
@@ -23,7 +23,7 @@ const SPARE_BYTES: usize = 32;
 /// The spare capacity of a copy for nodes, so that one edit does not reallocate them.
 pub const SPARE_NODES: usize = 2;
 
-// A copy of the items, with capacity for `more` items.
+// Copies the items into a vector with capacity for `more` further items. Errors: `NoMemory` if an allocation fails.
 fn copy_items<T: Copy>(alloc: Global, items: &[T], more: usize) -> Result<Vec<T>, NoMemory>
     ensures { IfOk result (λ made. made.items ≡ items.now) }
 {
@@ -47,7 +47,7 @@ impl Model for Links {
     ghost use Rattle.std.specs.Coded.{coded_list};
     ghost use Rattle.mg_revtree.specs.History.{Link};
     ghost use Rattle.mg_revtree.specs.Tree.{link_code};
-    ghost use Rattle.mg_revtree.specs.Nodes.{AreWithin, links_in};
+    ghost use Rattle.mg_revtree.specs.Nodes.{NodesWithin, links_in};
 
     ghost Value = { List Link };
 
@@ -55,11 +55,11 @@ impl Model for Links {
 
     ghost view = { λ l. links_in l.texts.items l.nodes.items };
 
-    ghost invariant = { λ l. AreWithin (length l.texts.items) l.nodes.items };
+    ghost invariant = { λ l. NodesWithin (length l.texts.items) l.nodes.items };
 }
 
 impl Links {
-    /// No revisions. Takes no memory.
+    /// Makes the list without revisions. Takes no memory.
     pub fn new(alloc: Global) -> Links
         ensures { result ≡ [] }
     {
@@ -69,14 +69,14 @@ impl Links {
         }
     }
 
-    /// The number of revisions.
+    /// Returns the number of revisions.
     pub fn len(&self) -> usize
         ensures { result ≡ length self.now }
     {
         self.nodes.len()
     }
 
-    /// The allocator that the memory comes from.
+    /// Returns the allocator that the memory comes from.
     pub fn allocator(&self) -> Global {
         *self.nodes.allocator()
     }
@@ -93,13 +93,14 @@ impl Links {
         }
     }
 
-    /// Adds a run, given by its start and its ids, newest first. If memory runs out, nothing changes. Cost: the length of the
-    /// run times the logarithm of the revisions, and one pass over the run and the nodes above its lowest unknown revision.
-    /// There are no such nodes if the run extends the branch with the highest positions.
+    /// Adds a run, given by its start and its ids, newest first. Errors: `NoMemory` if an allocation fails, or if the text of all ids
+    /// would take more than 4,294,967,295 bytes; nothing changes then. Cost: the length of the run times the logarithm of the revisions,
+    /// and one pass over the run and the nodes after the lowest revision of the run that is not in the list. There are no such nodes if
+    /// the run is a new revision over the greatest revision in the list.
     pub fn join(&mut self, start: u32, ids: &[String]) -> Result<(), NoMemory>
         requires { length ids.now ≤ start + 1 }
-        ensures nodes { OnOk result ((ls : List Link) → AreNodes self.old ls
-            → AreNodes self.new (ls ++ links (run_from start (map string_bytes ids.now)))) }
+        ensures joined { OnOk result ((ls : List Link) → AreKnownLinks self.old ls
+            → AreKnownLinks self.new (ls ++ links (run_from start (map string_bytes ids.now)))) }
         ensures err { OnErr result (self.new ≡ self.old) }
     {
         reserve(&mut self.nodes, ids.len())?;
@@ -115,7 +116,8 @@ impl Links {
         Ok(())
     }
 
-    /// The links of a revision and its parent, which has no known parent. The parent is given by its id.
+    /// Makes the links of a revision and its parent, which is given by its id and has no known parent. Errors: `NoMemory` if an
+    /// allocation fails, or if the two ids take more than 4,294,967,295 bytes.
     pub fn of_pair(alloc: Global, rev: &Rev, parent: &[u8]) -> Result<Links, NoMemory>
         ensures { IfOk result (λ links. links ≡ pair_links rev.now parent.now) }
     {
@@ -132,7 +134,8 @@ impl Links {
         Ok(Links { texts, nodes })
     }
 
-    /// The id of a revision's parent, if the links are exactly those of the two, and the parent has no known parent. Takes no memory.
+    /// Returns the id of a revision's parent. `None` unless the links are exactly those of the two, and the parent has no known parent.
+    /// Takes no memory.
     pub fn parent_in_pair(&self, rev: &Rev) -> Option<&[u8]>
         ensures { IfSome result
             (λ parent. (0 < rev.now.0) × (self.now ≡ pair_links rev.now parent.now)) }
@@ -147,7 +150,7 @@ impl Links {
         Some(below.id.of(&self.texts))
     }
 
-    /// A copy of the links. Cost: copies two blocks of memory, with no work for each revision.
+    /// Copies the links. Errors: `NoMemory` if an allocation fails. Cost: a copy of two blocks, with no work for each revision.
     pub fn copy(&self, alloc: Global) -> Result<Links, NoMemory>
         ensures { IfOk result (λ links. links ≡ self.now) }
     {
@@ -157,7 +160,8 @@ impl Links {
         })
     }
 
-    /// A list of these links with newer ones joined. Cost: that of `fold_links`, and a copy of the text of all ids.
+    /// Makes a list of these links with newer ones joined. Errors: those of `fold_links`. Cost: that of `fold_links`, and a copy of the
+    /// text of all ids.
     pub fn with(&self, alloc: Global, newer: &Links) -> Result<Links, NoMemory>
         ensures { IfOk result
             (λ links. AreSorted self.now → AreSorted newer.now → links ≡ with_links self.now newer.now) }

@@ -15,7 +15,7 @@ pub struct IdPart {
 }
 
 impl IdPart {
-    /// The bytes of the id. What lies beyond the texts is cut off.
+    /// Returns the bytes of the id. Bytes beyond the end of the texts are left out.
     pub fn of(self, texts: &[u8]) -> &[u8]
         ensures { result.now ≡ text_of_part texts.now self }
     {
@@ -24,8 +24,8 @@ impl IdPart {
     }
 }
 
-/// A known revision: its position, its id, and the id of its parent, if that is known. The parent's position is the
-/// one below.
+/// A link, kept as numbers: the position of a known revision, where its id is in the text of all ids, and, if its parent is known, where
+/// the parent's id is. The parent is at the position below.
 #[derive(Clone, Copy, Debug)]
 pub struct Node {
     pub pos: u32,
@@ -34,7 +34,7 @@ pub struct Node {
 }
 
 impl Node {
-    /// Compares the node's revision to a revision.
+    /// Compares the node's revision to the one of this position and id.
     pub fn order(&self, texts: &[u8], pos: u32, id: &[u8]) -> Ordering
         ensures { result ≡ revision_order (link_in texts.now self.now).rev (pos, id.now) }
     {
@@ -50,7 +50,7 @@ impl Node {
         }
     }
 
-    /// The id of the parent, if that is known.
+    /// Returns the id of the parent, if the parent is known.
     pub fn parent_id(self, texts: &[u8]) -> Option<&[u8]>
         ensures { parent_below self.pos (option_copied result) ≡ (link_in texts.now self).parent }
     {

@@ -31,14 +31,14 @@ impl Model for Older {
 }
 
 impl Older {
-    /// No links. Takes no memory.
+    /// Makes the list without links. Takes no memory.
     pub fn none() -> Older
         ensures { result ≡ [] }
     {
         Older { links: None }
     }
 
-    /// Puts links where the copies of a tree can share them.
+    /// Puts links into a block that the copies of a tree can share. Errors: `NoMemory` if an allocation fails.
     pub fn new(alloc: Global, links: Links) -> Result<Older, NoMemory>
         ensures { IfOk result (λ older. older ≡ links) }
     {
@@ -47,7 +47,7 @@ impl Older {
         })
     }
 
-    /// The number of revisions.
+    /// Returns the number of revisions.
     pub fn len(&self) -> usize
         ensures { result ≡ length self.now }
     {
@@ -69,7 +69,7 @@ impl Older {
         }
     }
 
-    /// Another reference to the links. Takes no memory. Errors: `NoMemory` if there are too many references.
+    /// Makes another reference to the links. Takes no memory. Errors: `NoMemory` if there are too many references.
     pub fn share(&self) -> Result<Older, NoMemory>
         ensures { IfOk result (λ older. older ≡ self.now) }
     {
@@ -81,7 +81,7 @@ impl Older {
         }
     }
 
-    /// A list of these links with newer ones joined. Cost: as for `Links::with`; if there are no older links, as for
+    /// Makes a list of these links with newer ones joined. Errors and cost: as for `Links::with`; if there are no older links, as for
     /// `Links::copy`.
     pub fn with(&self, alloc: Global, newer: &Links) -> Result<Links, NoMemory>
         ensures { IfOk result

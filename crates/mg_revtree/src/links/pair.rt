@@ -1,5 +1,5 @@
 ghost use Rattle.std.specs.Prelude.{◌≡◌, ◌-◌, ◌<◌, [], ◌∷◌, IfOk, None, length, true};
-ghost use Rattle.mg_revtree.specs.Nodes.{AreWithin, links_in, text_of_part};
+ghost use Rattle.mg_revtree.specs.Nodes.{NodesWithin, links_in, text_of_part};
 ghost use Rattle.mg_revtree.specs.Pair.{pair_links};
 
 use crate::links::node::Node;
@@ -7,14 +7,14 @@ use crate::links::parts::add;
 use crate::revision::Rev;
 use mg_value::NoMemory;
 
-// Whether a node is at the position below a position, and has no known parent.
+// Whether a node is one position below `pos`, and has no known parent.
 fn is_root_below(node: Node, pos: u32) -> bool
     ensures { result ≡ true → (0 < pos) × (node.pos ≡ pos - 1) × (node.parent ≡ None) }
 {
     pos > 0 && node.pos == pos - 1 && node.parent.is_none()
 }
 
-/// Whether two nodes are those of a revision's parent, which has no known parent, and of the revision.
+/// Whether `child` is the node of `rev`, and `below` that of its parent, which has no known parent.
 pub fn is_pair(texts: &[u8], below: Node, child: Node, rev: &Rev) -> bool
     ensures { result ≡ true → (0 < rev.now.0) × (links_in texts.now (below ∷ child ∷ [])
         ≡ pair_links rev.now (text_of_part texts.now below.id)) }
@@ -31,14 +31,15 @@ pub fn is_pair(texts: &[u8], below: Node, child: Node, rev: &Rev) -> bool
     }
 }
 
-/// The nodes of the parent of a revision, which has no known parent, and of the revision. Their ids are added to the texts.
+/// Makes the nodes of a revision's parent, given by its id, and of the revision, in this order. The parent has no known parent. Adds both
+/// ids to the texts. Errors: those of `add`; an id that was added before an error stays in the texts.
 pub fn pair_nodes(
     texts: &mut Vec<u8>,
     pos: u32,
     id: &[u8],
     parent: &[u8],
 ) -> Result<(Node, Node), NoMemory>
-    ensures within { IfOk result (λ r. AreWithin (length texts.new.items) (r.0 ∷ r.1 ∷ [])) }
+    ensures within { IfOk result (λ r. NodesWithin (length texts.new.items) (r.0 ∷ r.1 ∷ [])) }
     ensures links { IfOk result
         (λ r. links_in texts.new.items (r.0 ∷ r.1 ∷ []) ≡ pair_links (pos, id.now) parent.now) }
 {

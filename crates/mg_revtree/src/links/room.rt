@@ -2,8 +2,8 @@ ghost use Rattle.std.specs.Prelude.{◌≡◌, ◌+◌, ◌-◌, ◌<◌, ◌≤
 ghost use Rattle.std.specs.List.{insert};
 ghost use Rattle.mg_revtree.specs.Revision.{run_from};
 ghost use Rattle.mg_revtree.specs.History.{Link, links};
-ghost use Rattle.mg_revtree.specs.Tree.{AreNodes, AreSorted};
-ghost use Rattle.mg_revtree.specs.Nodes.{AreWithin, PartsWithin, NodeWithin, links_in, text_of_part};
+ghost use Rattle.mg_revtree.specs.Tree.{AreKnownLinks, AreSorted};
+ghost use Rattle.mg_revtree.specs.Nodes.{NodesWithin, PartsWithin, NodeWithin, links_in, text_of_part};
 ghost use Rattle.mg_revtree.specs.Room.{AreFrom, Joins, used};
 
 use crate::links::lookup::place;
@@ -16,7 +16,7 @@ pub struct Room {
     pub from: usize,
 }
 
-// Inserts a node at place `at`: the nodes from there to the room move to the far end of the room.
+// Inserts a node at place `at`: the nodes from there to the room move to the far end of the room. Returns the room that is left.
 fn put(nodes: &mut [Node], room: Room, at: usize, node: Node) -> Room
     requires at { at ≤ room.till }
     requires room { room.till < room.from }
@@ -36,8 +36,8 @@ fn put(nodes: &mut [Node], room: Room, at: usize, node: Node) -> Room
     }
 }
 
-// If a known node has this node's revision, it gets the parent, unless it already has one. Otherwise this node is inserted in order.
-// The nodes after the room are at higher positions.
+// Joins a node. If a node before the room has the revision of `node`, that one gets the parent of `node`, unless it already has a parent.
+// Otherwise `node` is inserted in order. The nodes after the room must be at higher positions. Returns the room that is left.
 fn join(texts: &[u8], nodes: &mut [Node], room: Room, node: Node) -> Room
     requires room { room.till < room.from }
     requires within { room.from ≤ length nodes.old }
@@ -45,8 +45,8 @@ fn join(texts: &[u8], nodes: &mut [Node], room: Room, node: Node) -> Room
         → AreFrom (node.pos + 1) (links_in texts.now (drop room.from nodes.old))
         → Joins texts.now node (used nodes.old room.till room.from) (used nodes.new result.till result.from)
         (drop result.from nodes.new) }
-    ensures within { (n : ℕ) → AreWithin n (used nodes.old room.till room.from) → NodeWithin n node
-        → AreWithin n (used nodes.new result.till result.from) }
+    ensures within { (n : ℕ) → NodesWithin n (used nodes.old room.till room.from) → NodeWithin n node
+        → NodesWithin n (used nodes.new result.till result.from) }
     ensures left { result.till + (room.from - room.till) ≤ result.from + 1 }
     ensures from { result.from ≤ room.from }
 {
@@ -59,16 +59,16 @@ fn join(texts: &[u8], nodes: &mut [Node], room: Room, node: Node) -> Room
     }
 }
 
-// Joins a run, given by the parts of its ids, newest first, to the known nodes. All places after the known nodes are unused,
-// and there are enough of them for the run.
+// Joins a run, given by its start and the parts of its ids, newest first, to the known nodes. All places after the known nodes are
+// unused, and there are enough of them for the run. Returns the room that is left.
 fn join_each(texts: &[u8], nodes: &mut [Node], known: usize, start: u32, parts: &[IdPart]) -> Room
     requires room { known + length parts.now ≤ length nodes.old }
     requires run { length parts.now ≤ start + 1 }
-    ensures nodes { (ls : List Link) → AreNodes (links_in texts.now (take known nodes.old)) ls
-        → AreNodes (links_in texts.now (used nodes.new result.till result.from))
+    ensures joined { (ls : List Link) → AreKnownLinks (links_in texts.now (take known nodes.old)) ls
+        → AreKnownLinks (links_in texts.now (used nodes.new result.till result.from))
         (ls ++ links (run_from start (map (text_of_part texts.now) parts.now))) }
-    ensures within { (n : ℕ) → AreWithin n (take known nodes.old) → PartsWithin n parts.now
-        → AreWithin n (used nodes.new result.till result.from) }
+    ensures within { (n : ℕ) → NodesWithin n (take known nodes.old) → PartsWithin n parts.now
+        → NodesWithin n (used nodes.new result.till result.from) }
     ensures ordered { result.till ≤ result.from }
     ensures inside { result.from ≤ length nodes.new }
 {
@@ -107,16 +107,17 @@ const UNUSED: Node = Node {
     parent: None,
 };
 
-/// Joins a run, given by the parts of its ids, newest first. The vector must have capacity for the run. Cost: for each revision of
-/// the run the logarithm of the known ones, and two moves of each node that is above the run's lowest unknown revision.
+/// Joins a run, given by its start and the parts of its ids, newest first. The vector must have capacity for the run. Cost: for each
+/// revision of the run the logarithm of the known ones, and at most two moves of each node after the lowest revision of the run that no
+/// node had.
 pub fn join_all(texts: &[u8], nodes: &mut Vec<Node>, start: u32, parts: &[IdPart])
     requires room { vec_len nodes.old + length parts.now ≤ vec_capacity nodes.old }
     requires run { length parts.now ≤ start + 1 }
-    ensures nodes { (ls : List Link) → AreNodes (links_in texts.now nodes.old.items) ls
-        → AreNodes (links_in texts.now nodes.new.items)
+    ensures joined { (ls : List Link) → AreKnownLinks (links_in texts.now nodes.old.items) ls
+        → AreKnownLinks (links_in texts.now nodes.new.items)
         (ls ++ links (run_from start (map (text_of_part texts.now) parts.now))) }
-    ensures within { (n : ℕ) → AreWithin n nodes.old.items → PartsWithin n parts.now
-        → AreWithin n nodes.new.items }
+    ensures within { (n : ℕ) → NodesWithin n nodes.old.items → PartsWithin n parts.now
+        → NodesWithin n nodes.new.items }
 {
     let known = nodes.len();
     drop(nodes.resize(known + parts.len(), UNUSED));

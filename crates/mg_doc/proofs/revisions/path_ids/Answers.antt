@@ -2,8 +2,9 @@ use Rattle.std.proofs.Common.{◌≡◌, ◌+◌, ◌<◌, List, ℕ, [], ◌∷
 use Rattle.std.proofs.lemmas.List.{append-nil, map-append}
 use Rattle.mg_value.specs.Value.{Value, Items, item, item_list, text}
 use Rattle.mg_value.proofs.Items.{items_past, past_all}
+use Rattle.std.specs.Prelude.{ok_or}
 use Rattle.mg_packed.specs.Read.{nth_item}
-use Rattle.mg_doc.specs.Document.{or_fault, path_ids}
+use Rattle.mg_doc.specs.Document.{path_ids}
 use Rattle.mg_doc.specs.declared.error.DocError.TheVariants.{BadRev}
 use Rattle.mg_doc.proofs.Walks.{path_ends, path_next}
 use Rattle.mg_doc.proofs.revisions.path_ids.Goals as goal
@@ -15,7 +16,7 @@ returns-in_default c =
     let less : i < length (item_list vs) = omega (arith, c.len-count.ensures, c.loop-index-test.true) in
     let P : Value → Type 0 = λ v. (rest : Items) → path_ids (item v rest) ≡ None in
     let none : P (nth_item vs i) = subst P c.item.ensures c.in_default.ensures in
-    ap (or_fault BadRev) (c.loop-index.invariant ∙ path_ends vs i (map string_bytes c.loop-index.texts.items) less none)
+    ap (λ o. ok_or o BadRev) (c.loop-index.invariant ∙ path_ends vs i (map string_bytes c.loop-index.texts.items) less none)
 
 pub loop-index-preserved : goal.loop-index-preserved
 loop-index-preserved c =
@@ -36,4 +37,4 @@ returns c =
     let i = c.loop-index.index in
     let texts = map string_bytes c.loop-index.texts.items in
     let end : i ≡ length (item_list vs) = omega (arith, c.len-count.ensures, c.loop-index-test.false, c.loop-index.auto.index-end) in
-    ap (or_fault BadRev) (c.loop-index.invariant ∙ ap (λ ws. option_map (λ rest. texts ++ rest) (path_ids ws)) (past_all vs i end) ∙ ap Some (append-nil texts))
+    ap (λ o. ok_or o BadRev) (c.loop-index.invariant ∙ ap (λ ws. option_map (λ rest. texts ++ rest) (path_ids ws)) (past_all vs i end) ∙ ap Some (append-nil texts))

@@ -13,11 +13,11 @@ pub returns-in-Refused : goal.returns-in-Refused
 returns-in-Refused c =
     refused_in_window c.args.db.now c.args.bytes.now c.min.result c.in-Refused.refusal c.in-Refused.omits_body c.min.ensures c.in-Refused.ensures
 
-pub returns-in-Message : goal.returns-in-Message
-returns-in-Message c =
+pub returns-in-Head : goal.returns-in-Head
+returns-in-Head c =
     let k = c.min.result in
     let bytes = c.args.bytes.now in
-    let read = c.in-Message.ensures in
-    let rest = rest_of_window bytes k c.in-Message.framed.head_len read.0 in
-    let has = has_head bytes k read.2 (drop c.in-Message.framed.head_len (take k bytes)) (omega (arith, c.min.ensures)) read.3 in
+    let read = c.in-Head.ensures in
+    let rest = rest_of_window bytes k c.in-Head.framed.head_len read.0 in
+    let has = has_head bytes k read.2 (drop c.in-Head.framed.head_len (take k bytes)) (omega (arith, c.min.ensures)) read.3 in
     (omega (arith, read.0, length-take k bytes), read.1, read.2, subst (HasHead bytes read.2) rest has, read.4)

@@ -11,7 +11,7 @@ before : (found : List Steps) (path : Steps) (rest : Option (List Steps))
 before found path None = refl
 before found path (Some ps) = ap Some (sym (append_assoc found (path ∷ []) ps))
 
--- a path that was read, before those that are left
+-- one more path was read: it goes behind those found so far
 one_more : (found : List Steps) (text : List ℕ) (rest : List (List ℕ)) (path : Steps) → steps_of text ≡ Some path
     → option_map (λ ps. found ++ ps) (each_of steps_of (text ∷ rest)) ≡ option_map (λ ps. (found ++ path ∷ []) ++ ps) (each_of steps_of rest)
 one_more found text rest path is = rw is (before found path (each_of steps_of rest))

@@ -1,5 +1,5 @@
 use Rattle.std.proofs.Common.{◌≡◌, take}
-use Rattle.mg_merge.specs.Rests.{lent_of}
+use Rattle.mg_merge.specs.Remaining.{lent_of}
 use Rattle.mg_merge.proofs.merging.copy_all.Given as goal
 
 abbrev pub invariant-loop-item : goal.invariant-loop-item

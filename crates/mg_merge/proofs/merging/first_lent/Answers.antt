@@ -1,7 +1,7 @@
 use Rattle.std.proofs.Common.{◌≡◌, ◌∷◌, IfOk, IfSome, All, take, ap, refl, subst, sym, ◌∙◌, arith}
 use Rattle.mg_collate.specs.Sorted.{sorted}
 use Rattle.mg_merge.specs.Merged.{IsInOrderBy, contents_of, joined, order_by}
-use Rattle.mg_merge.specs.Rests.{lent_of, rests_of}
+use Rattle.mg_merge.specs.Remaining.{lent_of, remaining_of}
 use Rattle.mg_merge.proofs.Heads.{one_list, one_more_lent}
 use Rattle.mg_merge.proofs.Rows.{by_total}
 use Rattle.mg_merge.proofs.merging.first_lent.Goals as goal
@@ -14,20 +14,20 @@ returns-then-lists-eq1 g c =
 pub loop-direction-init : goal.loop-direction-init
 loop-direction-init g c = record {
   within = omega arith;
-  order = subst (All (IsInOrderBy g.T.Ranked.row_of c.args.direction)) (sym c.in_ok-rests.ensures) c.requires;
+  order = subst (All (IsInOrderBy g.T.Ranked.row_of c.args.direction)) (sym c.in_ok-remaining.ensures) c.requires;
   tournament = c.in_ok-tournament.ensures;
-  rest = rw c.new-lent.ensures.items (ap (λ lists. sorted (order_by g.T.Ranked.row_of c.args.direction) (joined lists)) (sym c.in_ok-rests.ensures));
+  rest = rw c.new-lent.ensures.items (ap (λ lists. sorted (order_by g.T.Ranked.row_of c.args.direction) (joined lists)) (sym c.in_ok-remaining.ensures));
 }
 
 pub loop-direction-preserved : goal.loop-direction-preserved
 loop-direction-preserved g c =
     let order = order_by g.T.Ranked.row_of c.args.direction in
-    let before = c.loop-direction.rests.items in
-    let rests = c.take_first.new.rests.items in
-    let first = subst (λ taken. IfSome taken (λ item. sorted order (joined (rests_of before)) ≡ item.now ∷ sorted order (joined (rests_of rests)))) c.in-Some.is c.take_first.ensures.first in
+    let before = c.loop-direction.remaining.items in
+    let remaining = c.take_first.new.remaining.items in
+    let first = subst (λ taken. IfSome taken (λ item. sorted order (joined (remaining_of before)) ≡ item.now ∷ sorted order (joined (remaining_of remaining)))) c.in-Some.is c.take_first.ensures.first in
     record {
       within = omega arith;
       order = c.take_first.ensures.order;
       tournament = c.take_first.ensures.tournament;
-      rest = one_more_lent order (sorted order (joined (contents_of c.args.lists.now))) c.loop-direction.lent.items c.push.new.self.items c.in-Some.item before before rests c.loop-direction.invariant.rest refl first c.in_ok-push-in-Some.ensures.items;
+      rest = one_more_lent order (sorted order (joined (contents_of c.args.lists.now))) c.loop-direction.lent.items c.push.new.self.items c.in-Some.item before before remaining c.loop-direction.invariant.rest refl first c.in_ok-push-in-Some.ensures.items;
     }

@@ -5,7 +5,8 @@ use Rattle.mg_normal.specs.View.{conditions_view, atoms_view}
 use Rattle.mg_normal.proofs.Parted.{conditions_before}
 use Rattle.mg_normal.proofs.rest.+take_atoms.Given as goal
 
--- the atoms so far, and then those of the conditions to come, are all atoms; likewise what is left of the conditions; the steps are as they were
+-- the atoms so far, with those of the conditions to come, are all atoms; the rests so far, with those to come, are all rests; and the steps
+-- are as they were
 abbrev pub invariant-take_all-loop-condition : goal.invariant-take_all-loop-condition
 invariant-take_all-loop-condition l =
     let at = map string_bytes l.initial.steps.items in

@@ -3,7 +3,7 @@ use Rattle.std.proofs.lemmas.List.{drop_more}
 use Rattle.mg_value.specs.View.{view, items_view, members_view}
 use Rattle.mg_value.proofs.Views.{Entry}
 use Rattle.mg_packed.specs.Packed.{packed, named, size, item_entries, member_entries}
-use Rattle.mg_packed.proofs.Built.{table_pushed, entry_pushed, length-item_entries_view, length-member_entries_view}
+use Rattle.mg_packed.proofs.Built.{container_pushed, entry_pushed, length-item_entries_view, length-member_entries_view}
 use Rattle.mg_packed.proofs.Filling.{IsFilling, filling_begins, filling_next, filling_ends}
 use Rattle.mg_packed.proofs.Walks.{ended}
 use Rattle.mg_packed.proofs.build.+push_value.Goals as goal
@@ -11,12 +11,12 @@ use Rattle.mg_packed.proofs.build.+push_value.Goals as goal
 pub push_list-returns : goal.push_list-returns
 push_list-returns t c =
     let items = c.args.items.now in
-    table_pushed c.args.out.now.items _ _ 5 c.in_ok-as_word.field-0 (item_entries (items_view items)) (c.in_ok-as_word.ensures ∙ sym (length-item_entries_view items)) c.in_ok-table.ensures.front c.in_ok-push_items.ensures
+    container_pushed c.args.out.now.items _ _ 5 c.in_ok-as_word.field-0 (item_entries (items_view items)) (c.in_ok-as_word.ensures ∙ sym (length-item_entries_view items)) c.in_ok-table.ensures.front c.in_ok-push_items.ensures
 
 pub push_object-returns : goal.push_object-returns
 push_object-returns t c =
     let pairs = c.args.members.now.entries in
-    table_pushed c.args.out.now.items _ _ 6 c.in_ok-as_word.field-0 (member_entries (members_view pairs)) (c.in_ok-as_word.ensures ∙ c.len.ensures.len ∙ sym (length-member_entries_view pairs)) c.in_ok-table.ensures.front c.in_ok-push_members.ensures
+    container_pushed c.args.out.now.items _ _ 6 c.in_ok-as_word.field-0 (member_entries (members_view pairs)) (c.in_ok-as_word.ensures ∙ c.len.ensures.len ∙ sym (length-member_entries_view pairs)) c.in_ok-table.ensures.front c.in_ok-push_members.ensures
 
 pub push_items-loop-item-init : goal.push_items-loop-item-init
 push_items-loop-item-init t c =

@@ -10,8 +10,8 @@ use Rattle.serde_json.specs.Read.{of_json}
 use Rattle.mg_value.proofs.Trees.{number_parts}
 use Rattle.mg_value.specs.Value.{null, flag, whole, text, list, object, no_items, no_members}
 use Rattle.mg_packed.specs.Packed.{packed, named, item_entries, member_entries}
-use Rattle.mg_packed.specs.Sorted.{Named, ItemsMatch, MembersMatch, IsPushed, IsMemberPushed}
-use Rattle.mg_packed.proofs.Built.{table_pushed, entry_pushed}
+use Rattle.mg_packed.specs.Sorted.{TreeMember, ItemsMatch, MembersMatch, IsPushed, IsMemberPushed}
+use Rattle.mg_packed.proofs.Built.{container_pushed, entry_pushed}
 use Rattle.mg_packed.proofs.Filling.{IsFilled, filled_begins, filled_within, filled_next, filled_ends}
 use Rattle.mg_packed.proofs.Sorted.{weaker, both_weaker, items_with, members_with, entries-items_with, entries-members_with, items_match-push, members_match-push, length-items_match, length-members_match, items_whole, items_stored, members_whole, members_stored}
 use Rattle.mg_packed.proofs.tree.+push_tree.Goals as goal
@@ -61,7 +61,7 @@ pub push_array-returns : goal.push_array-returns
 push_array-returns t c =
     let ts = c.args.items.now in
     weaker _ _ c.push_items.result
-    (λ w. (w.0, w.1, table_pushed c.args.out.now.items _ _ 5 c.in_ok-as_word.field-0 (item_entries w.0) (c.in_ok-as_word.ensures ∙ sym (length-items_match ts w.0 w.1)) c.in_ok-table.ensures.front w.2)) c.push_items.ensures
+    (λ w. (w.0, w.1, container_pushed c.args.out.now.items _ _ 5 c.in_ok-as_word.field-0 (item_entries w.0) (c.in_ok-as_word.ensures ∙ sym (length-items_match ts w.0 w.1)) c.in_ok-table.ensures.front w.2)) c.push_items.ensures
 
 pub push_object-returns : goal.push_object-returns
 push_object-returns t c =
@@ -70,7 +70,7 @@ push_object-returns t c =
     (λ a w. (
       w.0,
       (es, c.in_ok-sorted.ensures, a, w.1),
-      table_pushed c.args.out.now.items _ _ 6 c.in_ok-as_word.field-0 (member_entries w.0) (c.in_ok-as_word.ensures ∙ c.len.ensures.len ∙ sym (length-members_match es w.0 w.1)) c.in_ok-table.ensures.front w.2,
+      container_pushed c.args.out.now.items _ _ 6 c.in_ok-as_word.field-0 (member_entries w.0) (c.in_ok-as_word.ensures ∙ c.len.ensures.len ∙ sym (length-members_match es w.0 w.1)) c.in_ok-table.ensures.front w.2,
     ))
     c.push_sorted.ensures.ordered c.push_sorted.ensures.pushed
 
@@ -114,7 +114,7 @@ push_sorted-loop-name-preserved t c =
     let l = c.loop-name in
     let done = l.invariant.0 in
     let ms = l.invariant.2 in
-    let e : Named = (c.in-Some.name.now, c.in-Some.tree.now) in
+    let e : TreeMember = (c.in-Some.name.now, c.in-Some.tree.now) in
     let left = c.next.new.self in
     let start = c.args.out.now.items in
     let step : l.name-iterator ≡ e ∷ left = c.in-Some.ensures.steps in
@@ -188,7 +188,7 @@ push_sorted-set_offset-requires-clause-room t c =
     let l = c.loop-name in
     let done = l.invariant.0 in
     let ms = l.invariant.2 in
-    let e : Named = (c.in-Some.name.now, c.in-Some.tree.now) in
+    let e : TreeMember = (c.in-Some.name.now, c.in-Some.tree.now) in
     let start = c.args.out.now.items in
     let end : c.len-base.result ≡ length start = search rules in
     let all : c.args.sorted.now.entries ≡ done ++ e ∷ c.next.new.self = l.invariant.1 ∙ ap (λ es. done ++ es) c.in-Some.ensures.steps in
@@ -202,7 +202,7 @@ push_sorted-set_offset-requires-clause-behind t c =
     let l = c.loop-name in
     let done = l.invariant.0 in
     let ms = l.invariant.2 in
-    let e : Named = (c.in-Some.name.now, c.in-Some.tree.now) in
+    let e : TreeMember = (c.in-Some.name.now, c.in-Some.tree.now) in
     let start = c.args.out.now.items in
     let end : c.len-base.result ≡ length start = search rules in
     let all : c.args.sorted.now.entries ≡ done ++ e ∷ c.next.new.self = l.invariant.1 ∙ ap (λ es. done ++ es) c.in-Some.ensures.steps in
@@ -216,7 +216,7 @@ push_sorted-overflow_add-cell t c =
     let l = c.loop-name in
     let done = l.invariant.0 in
     let ms = l.invariant.2 in
-    let e : Named = (c.in-Some.name.now, c.in-Some.tree.now) in
+    let e : TreeMember = (c.in-Some.name.now, c.in-Some.tree.now) in
     let start = c.args.out.now.items in
     let end : c.len-base.result ≡ length start = search rules in
     let all : c.args.sorted.now.entries ≡ done ++ e ∷ c.next.new.self = l.invariant.1 ∙ ap (λ es. done ++ es) c.in-Some.ensures.steps in

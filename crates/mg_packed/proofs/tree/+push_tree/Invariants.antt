@@ -1,7 +1,7 @@
 use Rattle.std.proofs.Common.{◌≡◌, ◌+◌, ◌*◌, List, ◌++◌, take}
 use Rattle.mg_value.specs.Value.{Items, Members}
 use Rattle.mg_packed.specs.Packed.{item_entries, member_entries}
-use Rattle.mg_packed.specs.Sorted.{Named, ItemsMatch, MembersMatch}
+use Rattle.mg_packed.specs.Sorted.{TreeMember, ItemsMatch, MembersMatch}
 use Rattle.mg_packed.proofs.Filling.{IsFilled}
 use Rattle.mg_packed.proofs.tree.+push_tree.Given as goal
 
@@ -29,5 +29,5 @@ invariant-push_items-loop-item l =
 
 abbrev pub invariant-push_sorted-loop-name : goal.invariant-push_sorted-loop-name
 invariant-push_sorted-loop-name l =
-    (done : List Named) × (l.sorted.entries ≡ done ++ l.name-iterator)
+    (done : List TreeMember) × (l.sorted.entries ≡ done ++ l.name-iterator)
     × (ms : Members) × MembersMatch done ms × IsFilled l.initial.out.items l.table (member_entries ms) l.out.items l.cell

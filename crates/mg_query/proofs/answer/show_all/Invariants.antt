@@ -6,7 +6,7 @@ use Rattle.mg_query.specs.Lent.{LendEach}
 use Rattle.mg_query.specs.Seen.{query_seen}
 use Rattle.mg_query.proofs.answer.show_all.Given as goal
 
--- what is left completes what is shown
+-- the values so far, and those of the hits that are left, are the values of all hits
 abbrev pub invariant-loop-hit : goal.invariant-loop-hit
 invariant-loop-hit l =
     (columns : List Steps) (cs : List Candidate) → LendEach columns l.hits cs → map view l.docs.items ++ map (shown_of (query_seen l.query)) (drop l.hit-index cs) ≡ map (shown_of (query_seen l.query)) cs

@@ -8,7 +8,7 @@ use Rattle.mg_query.specs.Lent.{LendEach}
 use Rattle.mg_query.specs.Seen.{query_seen}
 use Rattle.mg_query.proofs.text.with_documents.Given as goal
 
--- what is left completes what is written
+-- the text so far, and that of the documents that are left, is the text of all documents
 abbrev pub invariant-loop-place : goal.invariant-loop-place
 invariant-loop-place l =
     (columns : List Steps) (cs : List Candidate) → LendEach columns l.hits cs

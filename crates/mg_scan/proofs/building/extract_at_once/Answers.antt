@@ -9,7 +9,7 @@ use Rattle.mg_scan.proofs.Builds.{rows-called}
 use Rattle.mg_scan.proofs.Lent.{build_sync}
 use Rattle.mg_scan.proofs.building.extract_at_once.Goals as goal
 
--- the rows that threads hand over, and what they look at, may cross
+-- the rows that the threads return may be sent between threads, and what they read may be shared
 pub map_from_one_thread-requires-send-X : goal.map_from_one_thread-requires-send-X
 map_from_one_thread-requires-send-X g c κs within = search (sendable, crosses, maps, pages.the_send, pages.the_sync, rows.the_send, rows.the_sync) depth 40
 

@@ -5,6 +5,6 @@ use Rattle.mg_scan.specs.Building.{AreRowsAt}
 use Rattle.mg_shard.specs.Shard.{shards_seen}
 use Rattle.mg_scan.proofs.building.index_shards.Given as goal
 
--- what is left of the rows, and the shards so far
+-- the rows that are left, and the shards built so far
 abbrev pub invariant-loop-i : goal.invariant-loop-i
 invariant-loop-i l = AreRowsAt (arc_value l.definition) (shards_seen l.shards) l.given.items × (vec_len l.given ≡ length l.shards) × (l.built.items ≡ take l.i (map (with_index (arc_value l.definition)) (shards_seen l.shards)))

@@ -5,7 +5,7 @@ use Rattle.mg_scan.specs.Search.{after_of}
 use Rattle.mg_scan.specs.Upcoming.{count_upcoming}
 use Rattle.mg_scan.proofs.counting.reads_at_most.Given as goal
 
--- what is left decides
+-- the answer is whether the shards that are left have at most as much as is left of `most`
 abbrev pub invariant-loop-i : goal.invariant-loop-i
 invariant-loop-i l =
     let s = l.search in

@@ -3,7 +3,7 @@ use Rattle.mg_scan.specs.Lead.{without_selector}
 use Rattle.mg_scan.specs.Sourced.{AreKept, walked_documents}
 use Rattle.mg_scan.proofs.leading.lead_of_documents.Given as goal
 
--- nothing was found so far
+-- the documents read so far have no lead
 abbrev pub invariant-loop-document : goal.invariant-loop-document
 invariant-loop-document l = record {
   left : AreKept l.shard.documents l.fn.documents → AreKept l.shard.documents l.documents;

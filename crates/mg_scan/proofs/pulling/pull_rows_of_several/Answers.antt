@@ -3,8 +3,8 @@ use Rattle.mg_scan.proofs.PassedOver.{decided_still}
 use Rattle.mg_scan.proofs.pulling.pull_rows_of_several.Goals as goal
 use Rattle.mg_shard.specs.Shard.{shards_seen}
 
-pub pull_rows_of_all-requires : goal.pull_rows_of_all-requires
-pull_rows_of_all-requires c = record {
+pub pull_then_skip-requires : goal.pull_then_skip-requires
+pull_then_skip-requires c = record {
   decided = decided_still (shards_seen c.args.shards.now) c.args.search c.in_ok-rest.rest c.in_ok-rest.ensures.same c.requires.decided;
 }
 

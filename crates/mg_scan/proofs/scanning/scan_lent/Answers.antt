@@ -9,7 +9,7 @@ use Rattle.mg_scan.proofs.Lent.{scan_sync}
 use Rattle.mg_scan.proofs.Maps.{zip_documents, zip_rows}
 use Rattle.mg_scan.proofs.scanning.scan_lent.Goals as goal
 
--- what the workers hand over, and what they look at, may cross threads
+-- what the workers return may be sent between threads, and what they read may be shared
 pub map_from_one_thread-requires-send-X : goal.map_from_one_thread-requires-send-X
 map_from_one_thread-requires-send-X g c κs within = search (sendable, crosses, maps, written.the_sync, document_sync, rows.the_sync) depth 40
 

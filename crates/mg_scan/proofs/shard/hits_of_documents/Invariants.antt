@@ -6,7 +6,7 @@ use Rattle.mg_scan.specs.Hit.{AreHitsOf, hit_rows}
 use Rattle.mg_scan.specs.Way.{entry_rows, walked_by}
 use Rattle.mg_scan.proofs.shard.hits_of_documents.Given as goal
 
--- what is left decides
+-- the hits so far, and those of the documents that are left, are the hits of all documents
 abbrev pub invariant-loop-document : goal.invariant-loop-document
 invariant-loop-document l = record {
   some : length l.hits.items ≤ l.search.take;

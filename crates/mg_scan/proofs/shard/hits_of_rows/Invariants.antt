@@ -3,7 +3,7 @@ use Rattle.mg_scan.specs.Hit.{AreHitsOf, hit_rows}
 use Rattle.mg_scan.specs.Way.{walked_by}
 use Rattle.mg_scan.proofs.shard.hits_of_rows.Given as goal
 
--- what is left decides
+-- the hits so far, and those of the rows that are left, are the hits of all rows
 abbrev pub invariant-loop-row : goal.invariant-loop-row
 invariant-loop-row l = record {
   some : length l.hits.items ≤ l.search.take;

@@ -3,7 +3,7 @@ use Rattle.mg_scan.specs.Sourced.{AreKept, walked_documents}
 use Rattle.mg_shard.specs.Documents.{KeptDocuments}
 use Rattle.mg_scan.proofs.source.next_of_documents.Given as goal
 
--- nothing was found so far
+-- the documents read so far have no hit
 abbrev pub invariant-loop-document : goal.invariant-loop-document
 invariant-loop-document l = record {
   left : (ds : KeptDocuments) → AreKept ds l.fn.documents → AreKept ds l.documents;

@@ -4,7 +4,7 @@ use Rattle.mg_scan.specs.Worked.{AllShardHits, AllSlots}
 use Rattle.mg_scan.specs.declared.search.Search.{Search}
 use Rattle.mg_scan.proofs.workers.put_in_slots.Given as goal
 
--- what is left and the slots so far, for each search and shards of which what was given is
+-- for each search and shards whose hits were given, the lists that are left and the slots so far have such hits
 abbrev pub invariant-loop-shard : goal.invariant-loop-shard
 invariant-loop-shard l =
     ((search : Search) (shards : List ShardView) → AllShardHits search shards l.fn.given.items → AllSlots search shards l.fn.slots.items

@@ -1,7 +1,7 @@
 use Rattle.std.proofs.Common.{◌≡◌, ◌+◌, Some, nat_lt, length, sym, ap, ◌∙◌, ◌||◌, ◌&&◌, arith}
 use Rattle.mg_value.specs.Value.{Value, item_list}
 use Rattle.mg_value.proofs.Items.{items_past}
-use Rattle.mg_selector.specs.Entry.{some_item, every_item}
+use Rattle.mg_selector.specs.Predicate.{some_item, every_item}
 use Rattle.mg_selector.specs.Meaning.{holds_in}
 use Rattle.mg_selector.specs.View.{selector_of}
 use Rattle.mg_selector.specs.declared.sense.Sense.TheVariants.{Plain}

@@ -1,7 +1,7 @@
 use Rattle.std.proofs.Common.{◌≡◌, Some, drop, option_map}
 use Rattle.mg_value.specs.Value.{Value}
 use Rattle.mg_value.proofs.Items.{items_past}
-use Rattle.mg_selector.specs.Entry.{some_item, every_item}
+use Rattle.mg_selector.specs.Predicate.{some_item, every_item}
 use Rattle.mg_selector.specs.Meaning.{holds_in, every_arm, some_arm}
 use Rattle.mg_selector.specs.View.{selector_of, arms_view}
 use Rattle.mg_selector.specs.declared.sense.Sense.TheVariants.{Plain}

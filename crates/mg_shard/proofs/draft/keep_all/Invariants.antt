@@ -6,7 +6,7 @@ use Rattle.mg_shard.specs.Histories.{Histories}
 use Rattle.mg_shard.specs.Index.{HasRows, definitions_of}
 use Rattle.mg_shard.proofs.draft.keep_all.Given as goal
 
--- what is left to keep stands beside what is kept, whose rows are mended
+-- the trees that are left and the documents kept so far stand for the histories, and the indexes have these documents' rows
 abbrev pub invariant-loop-id : goal.invariant-loop-id
 invariant-loop-id l = record {
   stands : (hs : Histories) → TouchedStandFor (kept_documents l.fn.documents) (touched_of l.fn.touched.entries) hs → TouchedStandFor (kept_documents l.documents) (touched_of l.touched.entries) hs;

@@ -6,7 +6,7 @@ use Rattle.std.specs.declared.vec.Vec.{Vec}
 use Rattle.mg_collate.specs.Row.{RowValue}
 use Rattle.mg_shard.proofs.extracted.join_lists.Given as goal
 
--- what is left decides
+-- the rows joined so far, with those of the lists that are left, are all rows
 abbrev pub invariant-loop-list : goal.invariant-loop-list
 invariant-loop-list l = record {
   can_next : (goal.iterator-loop-list).can_next l.list-iterator;

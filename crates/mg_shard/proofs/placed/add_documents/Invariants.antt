@@ -7,7 +7,7 @@ use Rattle.mg_shard.specs.Documents.{id_bytes, kept_documents}
 use Rattle.mg_shard.specs.Redealt.{documents_seen, last_kept}
 use Rattle.mg_shard.proofs.placed.add_documents.Given as goal
 
--- the documents that are lent and those that are left are the shard's
+-- the documents added so far, with those that are left, give each id its document
 abbrev pub invariant-loop-document : goal.invariant-loop-document
 invariant-loop-document l = record {
   ascends : Ascends (id_order id_bytes) l.document-iterator;

@@ -3,6 +3,6 @@ use Rattle.mg_shard.specs.Redealt.{documents_in, documents_seen, kept_in, last_k
 use Rattle.mg_shard.specs.Shard.{shards_seen}
 use Rattle.mg_shard.proofs.placed.all_documents.Given as goal
 
--- the documents of the shards so far
+-- the list gives each id the document that the shards so far keep of it
 abbrev pub invariant-loop-shard : goal.invariant-loop-shard
 invariant-loop-shard l = (id : List ℕ) → last_kept (documents_seen l.all.items) id ≡ kept_in (documents_in (shards_seen (take l.shard-index l.shards))) id

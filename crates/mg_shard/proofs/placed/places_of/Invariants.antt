@@ -2,6 +2,6 @@ use Rattle.std.proofs.Common.{take}
 use Rattle.mg_shard.specs.Redealt.{ArePlaces, documents_seen}
 use Rattle.mg_shard.proofs.placed.places_of.Given as goal
 
--- the places so far
+-- the places of the documents so far
 abbrev pub invariant-loop-document : goal.invariant-loop-document
 invariant-loop-document g l = ArePlaces (g.P.Placement.place l.placement) l.count (documents_seen (take l.document-index l.documents)) l.places.items

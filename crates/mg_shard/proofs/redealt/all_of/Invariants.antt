@@ -2,7 +2,7 @@ use Rattle.std.proofs.Common.{◌≡◌, ◌++◌, Ok, map}
 use Rattle.std.specs.Vec.Iter.{into_iter_items}
 use Rattle.mg_shard.proofs.redealt.all_of.Given as goal
 
--- what is left decides
+-- the results are those of the shards so far, which are all `Ok`, and those that are left
 abbrev pub invariant-loop-given : goal.invariant-loop-given
 invariant-loop-given l = record {
   can_next : (goal.iterator-loop-given).can_next l.given-iterator;

@@ -3,7 +3,7 @@ use Rattle.std.specs.List.{AllByRecursion}
 use Rattle.mg_shard.specs.Index.{HasRows, definitions_of}
 use Rattle.mg_shard.proofs.redealt.indexes_over.Given as goal
 
--- the indexes so far
+-- the indexes so far have the definitions of those read so far, and the rows of the shard
 abbrev pub invariant-loop-index : goal.invariant-loop-index
 invariant-loop-index g l = record {
   definitions : definitions_of l.all.items ≡ definitions_of (take l.index-index l.indexes);

@@ -8,7 +8,7 @@ use Rattle.mg_shard.proofs.Crossing.{shard_send}
 use Rattle.mg_shard.proofs.Together.{shards_together}
 use Rattle.mg_shard.proofs.redealt.make_at_once.Goals as goal
 
--- the shards that threads hand over may cross
+-- the result of each thread may cross threads
 pub map_indices-requires-send-X : goal.map_indices-requires-send-X
 map_indices-requires-send-X g c κs within = search (sendable, crosses, maps, shard_send) depth 40
 

@@ -3,7 +3,7 @@ use Rattle.mg_shard.specs.Index.{definitions_of}
 use Rattle.mg_shard.specs.Redealt.{AreMade, documents_seen}
 use Rattle.mg_shard.proofs.redealt.make_in_turn.Given as goal
 
--- the shards so far
+-- the shards so far are made
 abbrev pub invariant-loop-i : goal.invariant-loop-i
 invariant-loop-i g l = record {
   number : length l.shards.items ≡ l.i;

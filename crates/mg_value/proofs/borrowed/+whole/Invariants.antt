@@ -10,7 +10,7 @@ use Rattle.mg_value.proofs.borrowed.+whole.Given as goal
 abbrev pub invariant-whole_items-loop-item : goal.invariant-whole_items-loop-item
 invariant-whole_items-loop-item l = AreItemTreesOf (tree_items (take l.item-index l.items)) (items_view l.values.items)
 
--- reading all members is reading those that are left, with the data of what was read
+-- ds is the data of the members read so far: reading on from it gives the data of all members, and the copies have its value
 abbrev pub invariant-whole_members-loop-member : goal.invariant-whole_members-loop-member
 invariant-whole_members-loop-member l =
     (ds : parsed.Members) × (of_members (tree_members l.members) parsed.no_members ≡ of_members (tree_members (drop l.member-index l.members)) ds)

@@ -13,7 +13,7 @@ returns-clause-reply g c = λ hs st.
     let d = get_or drafts i c.index-drafts-place.result in
     let here : place (id_in c.args.edit) (length drafts) ≡ i = ap (λ id. place id (length drafts)) (sym c.id_in-2.ensures) ∙ sym c.shard_of-place.ensures.place in
     let at = ap (slice_get drafts) here ∙ slice_get-get_or drafts i c.index-drafts-place.result c.shard_of-place.ensures.below in
-    let there = c.each_edit_is_decided_there.ensures place drafts hs c.args.edit d at st in
+    let there = c.its_shard_decides_each_edit.ensures place drafts hs c.args.edit d at st in
     c.in_ok-reply.ensures.outcome there.0 there.1 ∙ there.2
 
 pub returns-clause-stands : goal.returns-clause-stands
@@ -25,7 +25,7 @@ returns-clause-stands g c = λ hs st.
     let here : place (id_in c.args.edit) (length drafts) ≡ i = ap (λ id. place id (length drafts)) (sym c.id_in-2.ensures) ∙ sym c.shard_of-place.ensures.place in
     let at = ap (slice_get drafts) here ∙ slice_get-get_or drafts i c.index-drafts-place.result c.shard_of-place.ensures.below in
     subst (λ i. DraftsStandFor place (slice_set drafts i c.apply.new.self) (after_edit hs c.args.edit)) here
-    (c.each_edit_is_made_there.ensures place drafts hs c.args.edit d c.apply.new.self at (λ gs h. c.in_ok-reply.ensures.stands gs h) st)
+    (c.its_shard_makes_each_edit.ensures place drafts hs c.args.edit d c.apply.new.self at (λ gs h. c.in_ok-reply.ensures.stands gs h) st)
 
 pub returns-clause-before : goal.returns-clause-before
 returns-clause-before g c = before-set c.args.drafts.now c.shard_of-place.result c.index-drafts-place.result c.apply.new.self c.in_ok-reply.ensures.shard c.shard_of-place.ensures.below

@@ -17,4 +17,4 @@ returns c =
     ∙ ap (request_at db method query) c.in_ok-matched.ensures
     ∙ walk_asks db method query (segments_of c.split_query.result.0.now)
     ∙ ap (λ path. request_on db method query (segments_of path)) c.split_query.ensures.path in
-    IfOk-weaker c.target_at.result _ _ (λ t e. e ∙ asked) c.target_at.ensures
+    IfOk-weaker c.request_at.result _ _ (λ t e. e ∙ asked) c.request_at.ensures

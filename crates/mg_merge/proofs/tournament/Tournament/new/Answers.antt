@@ -1,6 +1,6 @@
 use Rattle.std.proofs.Common.{◌≡◌, ◌+◌, ◌-◌, ◌*◌, get_or, length, set, arith, ap, ◌∙◌, subst, sym}
 use Rattle.mg_merge.specs.Merged.{order_by}
-use Rattle.mg_merge.specs.Rests.{turn_order}
+use Rattle.mg_merge.specs.Remaining.{turn_order}
 use Rattle.mg_merge.proofs.Turns.{turn_total}
 use Rattle.mg_merge.proofs.Rows.{by_total}
 use Rattle.mg_merge.proofs.Trees.{AreDecided, all_decided, next_decided, none_decided, winner_read}

@@ -1,6 +1,6 @@
 use Rattle.std.proofs.Common.{length}
 use Rattle.mg_merge.specs.Merged.{order_by}
-use Rattle.mg_merge.specs.Rests.{turn_order}
+use Rattle.mg_merge.specs.Remaining.{turn_order}
 use Rattle.mg_merge.proofs.Trees.{AreDecided}
 use Rattle.mg_merge.proofs.tournament.Tournament.new.Given as goal
 

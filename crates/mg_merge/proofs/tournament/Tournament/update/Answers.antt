@@ -1,6 +1,6 @@
 use Rattle.std.proofs.Common.{◌+◌, ◌/◌, length, set, arith, subst, sym}
 use Rattle.mg_merge.specs.Merged.{order_by}
-use Rattle.mg_merge.specs.Rests.{turn_order}
+use Rattle.mg_merge.specs.Remaining.{turn_order}
 use Rattle.mg_merge.specs.Tournament.{AreWinners}
 use Rattle.mg_merge.proofs.Turns.{turn_total}
 use Rattle.mg_merge.proofs.Rows.{by_total}

@@ -2,7 +2,7 @@ use Rattle.std.proofs.Common.{◌≡◌, ℕ, ◌+◌, ◌≤◌, List, ◌∷�
 use Rattle.mg_value.specs.Value.{Members, object, member_list}
 use Rattle.mg_packed.specs.Front.{without_names_beginning}
 use Rattle.mg_packed.specs.Gap.{entries_in}
-use Rattle.mg_packed.specs.Packed.{table}
+use Rattle.mg_packed.specs.Packed.{container}
 use Rattle.mg_packed.specs.Ranks.{ranked_below, without_entries}
 use Rattle.mg_packed.specs.Read.{Holds, IsBlockOf, value_in}
 use Rattle.mg_packed.proofs.Fronts.{below_ordered, below_within, counted_entries, front_ready, front_block}
@@ -31,7 +31,7 @@ object_without-requires-clause-within c =
 
 -- the new bytes are a block of the object without those members
 made : (bytes block new : List ℕ) (ms : Members) (front i j : ℕ) → Holds bytes (object ms) → IsBlockOf block (value_in bytes) → i ≡ ranked_below (front + 1) ms → j ≡ ranked_below (front + 2) ms
-    → new ≡ 6 ∷ table (without_entries i j (entries_in block)) → IsBlockOf new (object (without_names_beginning front ms))
+    → new ≡ 6 ∷ container (without_entries i j (entries_in block)) → IsBlockOf new (object (without_names_beginning front ms))
 made bytes block new ms front i j h o first next is =
     let ready = front_ready bytes block ms h o in
     let counted : length (member_list ms) ≡ length (entries_in block) = counted_entries block ms (length (member_list ms)) refl ready.1 in

@@ -1,6 +1,6 @@
 use Rattle.std.proofs.Common.{length, arith, ap}
 use Rattle.std.proofs.lemmas.List.{length-take}
-use Rattle.mg_pages.specs.Search.{IsTie, IsGap}
+use Rattle.mg_pages.specs.Search.{IsTie, BelongsAt}
 use Rattle.mg_pages.proofs.Sorted.{below_gap, below_tie}
 use Rattle.mg_pages.proofs.page.PageSubtree.count_below.Goals as goal
 
@@ -15,5 +15,5 @@ pub returns-in-Err : goal.returns-in-Err
 returns-in-Err g c =
     let xs = c.args.self.now.elements.items in
     let key = g.Q.Probe.against c.args.key.now in
-    let gap : IsGap key xs c.in-Err.i = rw c.deref.ensures.value at c.in-Err.ensures in
+    let gap : BelongsAt key xs c.in-Err.i = rw c.deref.ensures.value at c.in-Err.ensures in
     omega (arith, ap length (below_gap key xs c.in-Err.i gap), length-take c.in-Err.i xs, gap.within)

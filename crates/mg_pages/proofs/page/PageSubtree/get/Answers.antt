@@ -1,5 +1,5 @@
 use Rattle.std.proofs.Common.{Some, ap, sym, ◌∙◌}
-use Rattle.mg_pages.specs.Search.{IsTie, IsGap}
+use Rattle.mg_pages.specs.Search.{IsTie, BelongsAt}
 use Rattle.mg_pages.proofs.Sorted.{found_gap, found_tie}
 use Rattle.mg_pages.proofs.Parts.{tie_at}
 use Rattle.mg_pages.proofs.page.PageSubtree.get.Goals as goal
@@ -15,5 +15,5 @@ pub returns-in-Err : goal.returns-in-Err
 returns-in-Err g c =
     let xs = c.args.self.now.elements.items in
     let key = g.Q.Probe.against c.args.key.now in
-    let gap : IsGap key xs c.in-Err.field-0 = rw c.deref.ensures.value at c.in-Err.ensures in
+    let gap : BelongsAt key xs c.in-Err.field-0 = rw c.deref.ensures.value at c.in-Err.ensures in
     sym (found_gap key xs c.in-Err.field-0 gap)

@@ -1,6 +1,6 @@
 use Rattle.std.proofs.Common.{is_some, ap, sym, ◌∙◌}
 use Rattle.std.specs.List.{insert}
-use Rattle.mg_pages.specs.Search.{IsTie, IsGap}
+use Rattle.mg_pages.specs.Search.{IsTie, BelongsAt}
 use Rattle.mg_pages.proofs.Sorted.{found_gap, found_tie, inserted_gap, inserted_tie, set_is}
 use Rattle.mg_pages.proofs.page.PageSubtree.put.Goals as goal
 
@@ -15,7 +15,7 @@ pub returns-in_ok-insert-in-Err-clause-ok : goal.returns-in_ok-insert-in-Err-cla
 returns-in_ok-insert-in-Err-clause-ok g c =
     let xs = c.args.self.now.elements.items in
     let x = c.args.element in
-    let gap : IsGap (g.T.Keyed.order x) xs c.in-Err.i = rw c.deref.ensures.value at c.in-Err.ensures in
+    let gap : BelongsAt (g.T.Keyed.order x) xs c.in-Err.i = rw c.deref.ensures.value at c.in-Err.ensures in
     c.in_ok-insert-in-Err.ensures.items ∙ ap (λ v. insert v c.in-Err.i x) c.reserve.ensures.items ∙ sym (inserted_gap g.T.Keyed.order x xs c.in-Err.i gap)
 
 pub returns-in-Ok-clause-had : goal.returns-in-Ok-clause-had
@@ -29,5 +29,5 @@ pub returns-in_ok-insert-in-Err-clause-had : goal.returns-in_ok-insert-in-Err-cl
 returns-in_ok-insert-in-Err-clause-had g c =
     let xs = c.args.self.now.elements.items in
     let key = g.T.Keyed.order c.args.element in
-    let gap : IsGap key xs c.in-Err.i = rw c.deref.ensures.value at c.in-Err.ensures in
+    let gap : BelongsAt key xs c.in-Err.i = rw c.deref.ensures.value at c.in-Err.ensures in
     sym (ap is_some (found_gap key xs c.in-Err.i gap))

@@ -1,6 +1,6 @@
 use Rattle.std.proofs.Common.{take, ap, sym, ◌∙◌}
 use Rattle.mg_pages.specs.Order.{below}
-use Rattle.mg_pages.specs.Search.{IsTie, IsGap}
+use Rattle.mg_pages.specs.Search.{IsTie, BelongsAt}
 use Rattle.mg_pages.proofs.Sorted.{below_gap, below_tie}
 use Rattle.mg_pages.proofs.Parts.{end_whole}
 use Rattle.mg_pages.proofs.page.PageSubtree.run_before.Goals as goal
@@ -19,6 +19,6 @@ returns-in-Err g c =
     let xs = c.args.self.now.elements.items in
     let key = g.Q.Probe.against c.args.key.now in
     let k = c.in-Err.i in
-    let gap : IsGap key xs k = rw c.deref.ensures.value at c.in-Err.ensures in
+    let gap : BelongsAt key xs k = rw c.deref.ensures.value at c.in-Err.ensures in
     end_whole (take k c.deref-in-Err.result.now) (below key xs)
     (ap (take k) c.deref-in-Err.ensures.value ∙ sym (below_gap key xs k gap))

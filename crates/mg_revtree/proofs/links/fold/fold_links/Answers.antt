@@ -3,7 +3,7 @@ use Rattle.std.proofs.lemmas.List.{take_all}
 use Rattle.std.specs.declared.cmp.Ordering.TheVariants.{Less}
 use Rattle.mg_revtree.specs.Revision.{Revision, revision_order}
 use Rattle.mg_revtree.specs.Tree.{AreSorted}
-use Rattle.mg_revtree.specs.Nodes.{AreWithin, link_in}
+use Rattle.mg_revtree.specs.Nodes.{NodesWithin, link_in}
 use Rattle.mg_revtree.specs.Known.{AreBelow, with_link}
 use Rattle.mg_revtree.specs.declared.links.node.Node.{Node}
 use Rattle.mg_revtree.proofs.Folds.{below_next, links_next, made_sorted, older_sorted, rest_sorted, within-append, within-drop}
@@ -30,9 +30,9 @@ loop-node-preserved c =
     let f = c.deref-in-loop-node.ensures.value in
     let grows = c.in_ok-copy.ensures.grows in
     let d : Node = record { pos = 0; id = record { from = 0; len = 0 }; parent = None } in
-    let older_at = λ (w : AreWithin (length t0) older). within-more (length t0) (length t) (grown-length t0 t i.grows) older w in
-    let made_at = λ (w : AreWithin (length t0) older). subst (AreWithin (length t)) (sym e) (i.within w) in
-    let link = λ (w : AreWithin (length t0) older) (s : AreSorted (map (link_in t0) older)) (k : AreSorted (map (link_in other) newer)).
+    let older_at = λ (w : NodesWithin (length t0) older). within-more (length t0) (length t) (grown-length t0 t i.grows) older w in
+    let made_at = λ (w : NodesWithin (length t0) older). subst (NodesWithin (length t)) (sym e) (i.within w) in
+    let link = λ (w : NodesWithin (length t0) older) (s : AreSorted (map (link_in t0) older)) (k : AreSorted (map (link_in other) newer)).
     c.in_ok-copy.ensures.link (older_at w) (made_at w) (older_sorted t0 t t' other i.grows grows older made newer from at w (i.within w) s (i.links w s k)) (subst (λ (ns : List Node). AreSorted (map (link_in t) ns)) (sym e) (made_sorted t0 t t' other i.grows grows older made newer from at w (i.within w) s (i.links w s k))) in
     let cut = take (length older - from) (drop from older) in
     let tail : cut ≡ drop from older = take_all (length older - from) (drop from older) (omega (arith, length-drop from older)) in
@@ -41,7 +41,7 @@ loop-node-preserved c =
     record {
       grows = grown-grown t0 t t' i.grows grows;
       from = omega (arith, c.in_ok-from.ensures.inside, i.from, ap length tail, length-drop from older);
-      within = λ w. c.in_ok-from.ensures.within (length t') (within-more (length t) (length t') (grown-length t t' grows) made (i.within w)) (subst (AreWithin (length t')) (sym tail) (within-drop (length t') from older (within-more (length t) (length t') (grown-length t t' grows) older (older_at w)))) (c.in_ok-copy.ensures.within (older_at w) (made_at w));
+      within = λ w. c.in_ok-from.ensures.within (length t') (within-more (length t) (length t') (grown-length t t' grows) made (i.within w)) (subst (NodesWithin (length t')) (sym tail) (within-drop (length t') from older (within-more (length t) (length t') (grown-length t t' grows) older (older_at w)))) (c.in_ok-copy.ensures.within (older_at w) (made_at w));
       links = λ w s k.
           let sorted = rest_sorted t0 t t' other i.grows grows older made newer from at w (i.within w) s (i.links w s k) in
           links_next t0 t t' other i.grows grows older made newer from at w (i.within w) s (i.links w s k) x d new n lt (link w s k) (i.below w s k at d (omega arith) lt) (links sorted);
@@ -58,4 +58,4 @@ returns-clause-within c = λ w.
     let from = c.loop-node.from in
     let i = c.loop-node.invariant in
     let tail = take_all (length older - from) (drop from older) (omega (arith, length-drop from older)) in
-    subst (AreWithin (length t)) (sym (c.in_ok-extend_from_slice.ensures.items ∙ ap (λ (ns : List Node). c.loop-node.made.items ++ ns) tail)) (within-append (length t) c.loop-node.made.items (drop from older) (i.within w) (within-drop (length t) from older (within-more (length t0) (length t) (grown-length t0 t i.grows) older w)))
+    subst (NodesWithin (length t)) (sym (c.in_ok-extend_from_slice.ensures.items ∙ ap (λ (ns : List Node). c.loop-node.made.items ++ ns) tail)) (within-append (length t) c.loop-node.made.items (drop from older) (i.within w) (within-drop (length t) from older (within-more (length t0) (length t) (grown-length t0 t i.grows) older w)))

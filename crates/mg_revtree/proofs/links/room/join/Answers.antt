@@ -2,7 +2,7 @@ use Rattle.std.proofs.Common.{ℕ, List, map, refl, subst, take, arith, None}
 use Rattle.mg_revtree.specs.Tree.{AreSorted}
 use Rattle.mg_revtree.specs.Nodes.{link_in}
 use Rattle.mg_revtree.specs.Room.{used}
-use Rattle.mg_revtree.specs.Steps.{IsLinkAt, IsGap}
+use Rattle.mg_revtree.specs.Steps.{IsLinkAt, BelongsAt}
 use Rattle.mg_revtree.specs.declared.links.node.Node.{Node}
 use Rattle.mg_revtree.proofs.Rooms.{joins_known, joins_put, within_known}
 use Rattle.mg_revtree.proofs.Texts.{within-insert}
@@ -27,7 +27,7 @@ returns-in-Err-clause-joins c = λ sorted above.
     let t = c.args.texts.now in
     let ns = c.args.nodes.now in
     let x = c.args.node in
-    let gap = λ (s : AreSorted (map (link_in t) (take c.args.room.till ns))). subst (λ (k : List ℕ). IsGap (x.pos, k) (map (link_in t) (take c.args.room.till ns)) c.in-Err.at) c.of.ensures (c.in-Err.ensures.absent.1 s) in
+    let gap = λ (s : AreSorted (map (link_in t) (take c.args.room.till ns))). subst (λ (k : List ℕ). BelongsAt (x.pos, k) (map (link_in t) (take c.args.room.till ns)) c.in-Err.at) c.of.ensures (c.in-Err.ensures.absent.1 s) in
     joins_put t x ns c.args.room.till c.args.room.from c.in-Err.at _ _ gap c.put.ensures.used c.put.ensures.after sorted above
 
 pub returns-in-Err-clause-within : goal.returns-in-Err-clause-within

@@ -41,6 +41,6 @@ loop-i-preserved c =
       within = λ n h w. c.join-room.ensures.within n (v.within n h w) (part-within n ps i d lt w, subst (ParentWithin n) (sym c.copied.ensures) (got_within n ps (i + 1) c.get.result got w));
     }
 
-pub returns-clause-nodes : goal.returns-clause-nodes
-returns-clause-nodes c = λ ls nodes.
+pub returns-clause-joined : goal.returns-clause-joined
+returns-clause-joined c = λ ls nodes.
     goes_last c.args.texts.now c.args.start c.args.parts.now c.loop-i.i c.loop-i.pos _ _ ls (c.loop-i.invariant.goes ls nodes) (omega (arith, c.loop-i-test.false))

@@ -19,7 +19,7 @@ returns-then-knows-clause-decided c = λ h stands.
     let ks = (tree_in c.self.inside.growth).links in
     let s : StandsFor (tree_in c.self.inside.growth) h = subst (λ (t : Tree). StandsFor t h) (sym c.self.view_is) stands in
     let r : Revision = (c.in_ok-pos.pos, string_bytes c.args.id) in
-    let k : c.knows.result ≡ is_known r (all_links h) = c.knows.ensures s.nodes.sorted ∙ found_known r (all_links h) ks (s.nodes.same r) in
+    let k : c.knows.result ≡ is_known r (all_links h) = c.knows.ensures s.known.sorted ∙ found_known r (all_links h) ks (s.known.same r) in
     subst (λ (o : Option TreeRefusal). Decides o (Err Known)) (refused_known h (option_copied c.args.parent) (string_bytes c.args.id) c.in_ok-pos.pos (c.in_ok-pos.ensures.position h stands) (sym k ∙ c.if-knows.true)) refl
 
 pub returns-in_err-make_revision-clause-decided : goal.returns-in_err-make_revision-clause-decided
@@ -27,7 +27,7 @@ returns-in_err-make_revision-clause-decided c = λ h stands.
     let ks = (tree_in c.self.inside.growth).links in
     let s : StandsFor (tree_in c.self.inside.growth) h = subst (λ (t : Tree). StandsFor t h) (sym c.self.view_is) stands in
     let r : Revision = (c.in_ok-pos.pos, string_bytes c.args.id) in
-    let k : c.knows.result ≡ is_known r (all_links h) = c.knows.ensures s.nodes.sorted ∙ found_known r (all_links h) ks (s.nodes.same r) in
+    let k : c.knows.result ≡ is_known r (all_links h) = c.knows.ensures s.known.sorted ∙ found_known r (all_links h) ks (s.known.same r) in
     decides_made _ c.from_residual-in_err-make_revision.result (not_refused h (option_copied c.args.parent) (string_bytes c.args.id) c.in_ok-pos.pos (c.in_ok-pos.ensures.position h stands) (sym k ∙ c.if-knows.false)) (only_memory c.from_residual-in_err-make_revision.result c.from_residual-in_err-make_revision.ensures.1)
 
 pub returns-clause-decided : goal.returns-clause-decided
@@ -35,5 +35,5 @@ returns-clause-decided c = λ h stands.
     let ks = (tree_in c.self.inside.growth).links in
     let s : StandsFor (tree_in c.self.inside.growth) h = subst (λ (t : Tree). StandsFor t h) (sym c.self.view_is) stands in
     let r : Revision = (c.in_ok-pos.pos, string_bytes c.args.id) in
-    let k : c.knows.result ≡ is_known r (all_links h) = c.knows.ensures s.nodes.sorted ∙ found_known r (all_links h) ks (s.nodes.same r) in
+    let k : c.knows.result ≡ is_known r (all_links h) = c.knows.ensures s.known.sorted ∙ found_known r (all_links h) ks (s.known.same r) in
     decides_made _ (Ok tt) (not_refused h (option_copied c.args.parent) (string_bytes c.args.id) c.in_ok-pos.pos (c.in_ok-pos.ensures.position h stands) (sym k ∙ c.if-knows.false)) tt

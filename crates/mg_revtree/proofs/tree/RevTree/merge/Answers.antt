@@ -12,19 +12,19 @@ use Rattle.mg_revtree.proofs.tree.RevTree.merge.Goals as goal
 pub returns-then-knows_whole-clause-accepted : goal.returns-then-knows_whole-clause-accepted
 returns-then-knows_whole-clause-accepted c = λ h stands.
     let s : StandsFor (tree_in c.self.inside.growth) h = subst (λ (t : Tree). StandsFor t h) (sym c.self.view_is) stands in
-    let whole : is_known_whole h c.args.path.now ≡ true = ap (is_known_whole h) c.run-start.ensures.run ∙ sym (c.knows_whole.ensures (all_links h) s.nodes) ∙ c.if-knows_whole.true in
+    let whole : is_known_whole h c.args.path.now ≡ true = ap (is_known_whole h) c.run-start.ensures.run ∙ sym (c.knows_whole.ensures (all_links h) s.known) ∙ c.if-knows_whole.true in
     whole_stands c.args.self.now h c.args.path.now c.args.deleted c.args.body whole stands
 
 pub returns-then-knows_whole-clause-found : goal.returns-then-knows_whole-clause-found
 returns-then-knows_whole-clause-found c = λ h stands.
     let s : StandsFor (tree_in c.self.inside.growth) h = subst (λ (t : Tree). StandsFor t h) (sym c.self.view_is) stands in
-    let whole : is_known_whole h c.args.path.now ≡ true = ap (is_known_whole h) c.run-start.ensures.run ∙ sym (c.knows_whole.ensures (all_links h) s.nodes) ∙ c.if-knows_whole.true in
+    let whole : is_known_whole h c.args.path.now ≡ true = ap (is_known_whole h) c.run-start.ensures.run ∙ sym (c.knows_whole.ensures (all_links h) s.known) ∙ c.if-knows_whole.true in
     subst (λ (rs : List Revision). Known ≡ found_of h rs) (sym c.run-start.ensures.run) (whole_found h c.run-start.result.0 (map string_bytes c.run-start.result.1.now) (omega (arith, length-map string_bytes c.run-start.result.1.now, c.run-start.ensures.some)) (ap (is_known_whole h) (sym c.run-start.ensures.run) ∙ whole))
 
 pub returns-then-knows_whole-clause-refused : goal.returns-then-knows_whole-clause-refused
 returns-then-knows_whole-clause-refused c = λ h stands misfit.
     let s : StandsFor (tree_in c.self.inside.growth) h = subst (λ (t : Tree). StandsFor t h) (sym c.self.view_is) stands in
-    let whole : is_known_whole h c.args.path.now ≡ true = ap (is_known_whole h) c.run-start.ensures.run ∙ sym (c.knows_whole.ensures (all_links h) s.nodes) ∙ c.if-knows_whole.true in
+    let whole : is_known_whole h c.args.path.now ≡ true = ap (is_known_whole h) c.run-start.ensures.run ∙ sym (c.knows_whole.ensures (all_links h) s.known) ∙ c.if-knows_whole.true in
     absurd (let fitting : fits h c.args.path.now ≡ true = whole_fits (all_links h) (links c.args.path.now) whole in cc (fitting, misfit))
 
 pub returns-clause-accepted : goal.returns-clause-accepted

@@ -17,7 +17,7 @@ returns-in_err-write_column-clause-refused g c =
 pub returns-clause-pushed : goal.returns-clause-pushed
 returns-clause-pushed g c =
     let key = c.self.inside.key in
-    let v = g.L.LentValue.value c.args.column in
+    let v = g.L.LentValue.value c.args.value in
     let new = c.write_column.new.out.items in
     let old = subst (IsKey c.self.inside.bytes.items) c.self.view_is key.1 in
     let more = made_key c.self.inside.bytes.items new c.args.self.now v old c.in_ok-write_column.ensures.stored c.in_ok-write_column.ensures.bytes in

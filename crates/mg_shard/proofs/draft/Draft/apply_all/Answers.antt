@@ -5,7 +5,7 @@ use Rattle.mg_shard.specs.Edits.{after_edit, after_edits, outcome_seen, outcomes
 use Rattle.mg_shard.specs.Histories.{Histories}
 use Rattle.mg_shard.proofs.draft.Draft.apply_all.Goals as goal
 
--- what is left from an item on begins with the item
+-- the elements from place i on are the element i and those after it
 drop_item : {A : Type 0} (xs : List A) (i : ℕ) (x : A) → i < length xs → x ≡ get_or xs i x → drop i xs ≡ x ∷ drop (i + 1) xs
 drop_item xs i x h e = drop-cons xs i x h ∙ rw (add-one, ← e)
 

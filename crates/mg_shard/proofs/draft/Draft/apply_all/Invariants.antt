@@ -4,7 +4,7 @@ use Rattle.mg_shard.specs.Edits.{after_edits, outcome_seen, outcomes}
 use Rattle.mg_shard.specs.Histories.{Histories}
 use Rattle.mg_shard.proofs.draft.Draft.apply_all.Given as goal
 
--- what is left decides, from the histories for which the draft stands now
+-- the edits that are left, from the histories for which the draft stands now, give the rest of the result
 abbrev pub invariant-loop-edit : goal.invariant-loop-edit
 invariant-loop-edit l = record {
   shard : l.self.shard ≡ l.fn.self.shard;

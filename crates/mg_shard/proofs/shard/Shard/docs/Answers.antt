@@ -1,8 +1,8 @@
 use Rattle.std.proofs.Common.{◌∙◌, ap}
-use Rattle.mg_shard.specs.Documents.{docs_of, served_docs}
+use Rattle.mg_shard.specs.Documents.{docs_of, docs_in}
 use Rattle.mg_shard.proofs.Shown.{docs-kept_documents}
 use Rattle.mg_shard.proofs.shard.Shard.docs.Goals as goal
 
 pub returns : goal.returns
 returns c =
-    c.over.ensures ∙ ap served_docs c.over-documents.ensures ∙ docs-kept_documents c.self.inside.documents c.ascends.ensures ∙ ap (λ v. docs_of v.documents) c.self.view_is
+    c.over.ensures ∙ ap docs_in c.over-documents.ensures ∙ docs-kept_documents c.self.inside.documents c.ascends.ensures ∙ ap (λ v. docs_of v.documents) c.self.view_is

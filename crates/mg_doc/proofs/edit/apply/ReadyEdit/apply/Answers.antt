@@ -2,7 +2,7 @@ use Rattle.std.proofs.Common.{◌≡◌, ◌∙◌, IfSome, Option, Result, opti
 use Rattle.mg_revtree.specs.Revision.{Revision}
 use Rattle.mg_doc.specs.Ahead.{named_in}
 use Rattle.mg_doc.specs.Applied.{Applied, IsReady}
-use Rattle.mg_doc.specs.Brought.{Brings}
+use Rattle.mg_doc.specs.Acceptance.{AcceptsAs}
 use Rattle.mg_doc.specs.Digest.{digest_of}
 use Rattle.mg_doc.specs.Document.{Edit}
 use Rattle.mg_doc.specs.Base.{extended_by}
@@ -18,12 +18,12 @@ returns-in-New-clause-applied c = λ h stands.
     let given : e ≡ c.args.self = c.edit.view_is ∙ c.self.view_is in
     let Q : Edit → Type 0 = IsReady h in
     let R : Edit → Type 0 = λ x. Applied h x c.extend.result c.extend.new.tree in
-    let S : Result Accepted EditRefusal → Type 0 = λ x. Brings h e.deleted e.body x c.extend.result c.extend.new.tree in
+    let S : Result Accepted EditRefusal → Type 0 = λ x. AcceptsAs h e.deleted e.body x c.extend.result c.extend.new.tree in
     let ready : IsReady h e = subst Q (sym given) (c.requires h stands) in
     let named = option_copied c.as_ref.result in
     let said : accepted_by h e ≡ extended_by h e.deleted e.body named =
     ap (accepted_of h e.deleted e.body) c.in-New.is ∙ ap (extended h e.deleted e.body) (sym c.as_ref.ensures.value) ∙ sym (extended_is h e.deleted e.body named) in
-    subst R given (applied h e c.extend.result c.extend.new.tree ready.0 (subst S (sym said) (c.extend.ensures.brings h stands)))
+    subst R given (applied h e c.extend.result c.extend.new.tree ready.0 (subst S (sym said) (c.extend.ensures.accepts h stands)))
 
 pub returns-clause-applied : goal.returns-clause-applied
 returns-clause-applied c = λ h stands.
@@ -31,10 +31,10 @@ returns-clause-applied c = λ h stands.
     let given : e ≡ c.args.self = c.edit.view_is ∙ c.self.view_is in
     let Q : Edit → Type 0 = IsReady h in
     let R : Edit → Type 0 = λ x. Applied h x c.merge.result c.merge.new.tree in
-    let S : Result Accepted EditRefusal → Type 0 = λ x. Brings h e.deleted e.body x c.merge.result c.merge.new.tree in
+    let S : Result Accepted EditRefusal → Type 0 = λ x. AcceptsAs h e.deleted e.body x c.merge.result c.merge.new.tree in
     let ready : IsReady h e = subst Q (sym given) (c.requires h stands) in
     let said : accepted_by h e ≡ replicated h c.in-Replica.path = ap (accepted_of h e.deleted e.body) c.in-Replica.is in
-    subst R given (applied h e c.merge.result c.merge.new.tree ready.0 (subst S (sym said) (c.merge.ensures.brings h stands)))
+    subst R given (applied h e c.merge.result c.merge.new.tree ready.0 (subst S (sym said) (c.merge.ensures.accepts h stands)))
 
 pub extend-requires : goal.extend-requires
 extend-requires c =

@@ -1,5 +1,0 @@
-use Rattle.mg_rows.proofs.Bounds.{row_front}
-use Rattle.mg_rows.proofs.laws.first_columns_are_a_front.Goals as goal
-
-pub returns : goal.returns
-returns c = row_front

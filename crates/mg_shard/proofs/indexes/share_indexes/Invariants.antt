@@ -1,9 +1,0 @@
-use Rattle.std.proofs.Common.{◌≡◌, ◌++◌, length}
-use Rattle.mg_shard.proofs.indexes.share_indexes.Given as goal
-
--- the indexes so far, and those that are left
-abbrev pub invariant-loop-index : goal.invariant-loop-index
-invariant-loop-index l = l.all.items ++ l.index-iterator ≡ l.indexes
-
-abbrev pub decreases-loop-index : goal.decreases-loop-index
-decreases-loop-index l = length l.index-iterator

@@ -1,0 +1,152 @@
+//! Methods of a shard for its indexes: they make the rows of an index, and add or remove an index.
+ghost use Rattle.std.specs.Prelude.{◌≡◌, IfOk};
+ghost use Rattle.std.specs.Arc.{arc_value};
+ghost use Rattle.std.specs.List.{filter_map};
+ghost use Rattle.mg_index.specs.Catalog.{with_definition, without_definition};
+ghost use Rattle.mg_shard.specs.Documents.{docs_of};
+ghost use Rattle.mg_shard.specs.Rows.{row_of, rows_of};
+
+use crate::extracted::{MANY_DOCUMENTS, pages_by_threads, rows_by_threads, sorted_by_threads};
+use crate::index_entry::IndexEntry;
+use crate::index_list::{insert_index, remove_index};
+use crate::index_rows::{pages_of, row_in};
+use crate::shard::Shard;
+use mg_index::IndexDef;
+use mg_pages::Pages;
+use mg_path::Path;
+use mg_rows::{KeyBytes, RowBytes};
+use mg_value::NoMemory;
+use std::alloc::Global;
+use std::sync::Arc;
+use std::thread::Threads;
+
+impl Shard {
+    // Makes the rows that an index with these columns has, in the order of the documents.
+    fn unsorted_rows(&self, alloc: Global, columns: &[Path]) -> Result<Vec<RowBytes>, NoMemory>
+        ensures { IfOk result
+            (λ rows. rows.items ≡ filter_map (row_of columns.now) (docs_of self.now.documents)) }
+    {
+        let mut rows = Vec::new(alloc);
+        let mut scratch = KeyBytes::new(alloc);
+        for (id, form) in self.docs() {
+            if let Some(row) = row_in(alloc, &mut scratch, columns, id, &form)? {
+                rows.push(row)?;
+            }
+        }
+        Ok(rows)
+    }
+
+    // Makes the rows that an index with these columns has, in the order of key, then id. The caller's thread does all the work.
+    fn rows_alone(&self, alloc: Global, columns: &[Path]) -> Result<Pages<RowBytes>, NoMemory>
+        ensures { IfOk result (λ rows. rows ≡ rows_of columns.now (docs_of self.now.documents)) }
+    {
+        let rows = self.unsorted_rows(alloc, columns)?;
+        let pages = pages_of(alloc, rows)?;
+        Ok(pages)
+    }
+
+    // Makes what `rows_alone` makes, by several threads: they extract the rows, sort them and put them into pages.
+    fn rows_together<R: Threads + Sync>(
+        &self,
+        rt: &R,
+        alloc: Global,
+        columns: &[Path],
+    ) -> Result<Pages<RowBytes>, NoMemory>
+        ensures { IfOk result (λ rows. rows ≡ rows_of columns.now (docs_of self.now.documents)) }
+    {
+        self.documents.ascends();
+        let runs = self.documents.runs(alloc)?;
+        let rows = rows_by_threads(rt, alloc, columns, &runs, self.documents.len())?;
+        let rows = sorted_by_threads(rt, rows);
+        let pages = pages_by_threads(rt, alloc, &rows)?;
+        Ok(pages)
+    }
+
+    /// Makes the rows that an index of this definition has in this shard, in the order of key, then id, as `with_rows` takes them. They do
+    /// not depend on the number of workers. With fewer than two workers, or fewer than 1,000 documents, no thread is started; otherwise,
+    /// whatever the number of workers, up to two threads for each processor extract the rows, sort them and put them into pages.
+    ///
+    /// Errors: `NoMemory` if an allocation fails. Cost: a step for each document, the bytes of its row, a sort of the rows, and a step
+    /// for each of them. A row takes a block of memory only if it is too long to be stored in the `RowBytes` itself.
+    pub fn rows_for<R: Threads + Sync>(
+        &self,
+        rt: &R,
+        alloc: Global,
+        definition: &IndexDef,
+        workers: usize,
+    ) -> Result<Pages<RowBytes>, NoMemory>
+        ensures { IfOk result (λ rows. rows ≡ rows_of definition.now.columns (docs_of self.now.documents)) }
+    {
+        if workers < 2 || self.documents.len() < MANY_DOCUMENTS {
+            return Ok(self.rows_alone(alloc, definition.columns())?);
+        }
+        Ok(self.rows_together(rt, alloc, definition.columns())?)
+    }
+
+    // Makes the shard that has an index of this definition with these rows. It replaces an index of the same design document and name.
+    fn with(
+        &self,
+        alloc: Global,
+        definition: Arc<IndexDef>,
+        rows: Pages<RowBytes>,
+    ) -> Result<Shard, NoMemory>
+        requires { rows ≡ rows_of (arc_value definition).columns (docs_of self.now.documents) }
+        ensures { IfOk result
+            (λ s. s ≡ record self.now {
+              definitions = with_definition
+                  (arc_value definition) self.now.definitions;
+            }) }
+    {
+        let index = IndexEntry::of(alloc, definition, rows)?;
+        let indexes = insert_index(alloc, &self.indexes, index)?;
+        let documents = self.documents.share(alloc)?;
+        Ok(Shard { documents, indexes })
+    }
+
+    /// Makes the shard that also has an index of this definition. It replaces an index of the same design document and name.
+    ///
+    /// Errors: `NoMemory` if an allocation fails. Cost: that of `rows_for` with one worker, that of `with_rows`, and a copy of the
+    /// definition.
+    pub fn with_index(&self, alloc: Global, definition: &IndexDef) -> Result<Shard, NoMemory>
+        ensures { IfOk result
+            (λ s. s ≡ record self.now { definitions = with_definition definition.now self.now.definitions }) }
+    {
+        let rows = self.rows_alone(alloc, definition.columns())?;
+        let definition = Arc::new(alloc, definition.copy(alloc)?)?;
+        self.with(alloc, definition, rows)
+    }
+
+    /// Makes the shard that also has an index of this definition with these rows, which must be those that `rows_for` returns. It replaces
+    /// an index of the same design document and name. The definition is shared, not copied.
+    ///
+    /// Errors: `NoMemory` if an allocation fails. Cost: that of `share`, a look-up, and a copy of one page of the list of indexes.
+    pub fn with_rows(
+        &self,
+        alloc: Global,
+        definition: &Arc<IndexDef>,
+        rows: Pages<RowBytes>,
+    ) -> Result<Shard, NoMemory>
+        requires { rows ≡ rows_of (arc_value definition.now).columns (docs_of self.now.documents) }
+        ensures { IfOk result
+            (λ s. s ≡ record self.now {
+              definitions = with_definition
+                  (arc_value definition.now) self.now.definitions;
+            }) }
+    {
+        self.with(alloc, definition.clone()?, rows)
+    }
+
+    /// Makes the shard without the index of this design document and name; if there is no such index, a shard with all that this one has.
+    ///
+    /// Errors: `NoMemory` if an allocation fails. Cost: that of `share`, a look-up, and a copy of one page of the list of indexes.
+    pub fn without_index(&self, alloc: Global, ddoc: &str, name: &str) -> Result<Shard, NoMemory>
+        ensures { IfOk result
+            (λ s. s ≡ record self.now {
+              definitions = without_definition ddoc.now name.now self.now.definitions;
+            }) }
+    {
+        let documents = self.documents.share(alloc)?;
+        let indexes = remove_index(alloc, &self.indexes, ddoc, name)?;
+        Ok(Shard { documents, indexes })
+    }
+}
