@@ -4,13 +4,14 @@
 usage: random_bytes.py --program PATH [--full] [--seed N] [--bytes N]
 
 The messages are those of tests/conversations with their bodies changed at random (seeded): values are exchanged, members renamed,
-dropped and repeated, bytes changed, and then the lengths corrected. So each message is complete, and its reply must be that of the
-model (the folder model/), byte for byte. A session ends with a tail: a message whose head was changed at random, or random bytes. What
-comes back for the tail must be whole replies. Then the session ends in one of its ways: the input ended, the last message asked to
-close, or the input was refused, and then the last reply is a refusal that ends a session. Over TCP one program serves all clients, two at
-a time: both connections are open, and pieces of their messages, of random sizes, are sent in random order. A message takes effect at its
-last byte, so the model knows the order of the commands; a client that comes after a tail is answered as the model says. A million bytes
-go over standard input and as many over TCP, with --full ten million, with --bytes that many. The last line is 'N passed, M failed'.
+dropped and added, bytes changed, and then the lengths corrected. So each message is complete, and its reply must be that of the
+model (the folder model/), byte for byte. A session ends with a tail: a message whose head was changed at random, a message cut short,
+many changed heads, or random bytes. What comes back for the tail must be whole replies. Over standard input the session must then end in
+one of three ways: the input ended; the last message asked to close; or the input was refused, and the last reply is a refusal that ends a
+session. Over TCP each program serves twenty clients, two at a time: both connections are open, and pieces of their messages, of random
+sizes, are sent in random order. A message takes effect at its last byte, so the model knows the order of the commands; a client that
+comes after a tail is answered as the model says. At least a million bytes go over standard input and as many over TCP, with --full ten
+million, with --bytes that many. The last line is 'N passed, M failed'.
 """
 import contextlib
 import copy
@@ -42,7 +43,8 @@ MESSAGES = 40
 
 
 class RandomMessages:
-    """Makes random messages. `whole` has the complete messages of the conversations, `targets` each target with a body for it."""
+    """Makes random messages. `whole` has the complete messages of the conversations to targets below /db/, if their bodies are shorter than
+    4,000 bytes; `targets` has the target and the body of each of these messages whose body is JSON."""
 
     def __init__(self, seed):
         self.random = random.Random(seed)
@@ -114,7 +116,7 @@ class RandomMessages:
         return post(target, self.mutate(body, 3) if self.random.random() < 0.15 and body else body)
 
     def tail(self, harmless):
-        """Returns bytes that may end the session. Harmless ones write nothing to the database."""
+        """Returns bytes that may end the session. If `harmless`, they write nothing to the database."""
         kind = self.random.randrange(4)
         if kind == 0:
             return self.random.randbytes(self.random.choice([1, 10, 100, 1000, 20_000]))
@@ -128,7 +130,8 @@ class RandomMessages:
 
 
 def tail_fault(output, end, is_tcp):
-    """Returns the fault in what came back for a tail; None if it is right. Over TCP it is unknown how the session ended."""
+    """Returns the fault in what came back for a tail; None if it is right. The last reply may be a head alone, as after a HEAD request.
+    Over TCP it is unknown how the session ended."""
     replies, left = replies_in(output)
     silent = bytes(left).startswith(b"HTTP/1.1 ") and bytes(left).endswith(b"\r\n\r\n")
     if left and not silent:
@@ -175,7 +178,7 @@ def over_input(program, seed, count, tally):
 
 
 class Pieces:
-    """A connection that sends its messages in pieces, and its fault; None while its replies are right."""
+    """A connection that sends its messages in pieces. `fault` is None while its replies are right."""
 
     def __init__(self, port, source, database):
         self.source, self.database, self.wire = source, database, Wire(port)
@@ -183,7 +186,8 @@ class Pieces:
         self.messages = [source.message() for _ in range(10)]
 
     def step(self):
-        """Sends a piece of a message, and reads the reply after its last piece; or sends the tail. Returns whether there is more to send."""
+        """Sends a piece of a message, and reads the reply after its last piece; without a message left, sends the tail. Returns whether to
+        go on: False after the tail, and after a wrong reply."""
         if not self.messages:
             self.fault = self.end()
             return False
@@ -199,7 +203,8 @@ class Pieces:
         return found == expected
 
     def end(self):
-        """Sends a tail that writes nothing, and mostly waits for what comes back. Returns the fault in that."""
+        """Sends a tail that writes nothing; four clients in five wait for what comes back. Returns the fault in it; None if it is right, or
+        if the client does not wait."""
         tail = self.source.tail(True)
         self.sent += len(tail)
         self.wire.send(tail)

@@ -44,7 +44,8 @@ class Results:
         return [rows[row][figure] for rows in self.runs.get(variant, {}).get(count, {}).get(system, []) if row in rows]
 
     def table(self, variant, title, rows):
-        """Returns a table with a line for each row and number of documents, and a column for each system; None if nothing was measured."""
+        """Returns a table with a line for each row and number of documents that was measured, and a column for each system; None if nothing
+        was measured. Each of `rows` has the label of a line, the row, its figure, and the function that makes the value shown."""
         systems = self.systems()
         lines = [f"| {title} | documents | {' | '.join(systems)} |", "|---|---|" + "---|" * len(systems)]
         for what, row, figure, factor in rows:

@@ -40,7 +40,7 @@ settings_with db addr (Some shards) (Some workers) (Some sessions) =
     then Some (record { db = db; shards = shards; workers = workers; sessions = sessions; addr = addr }) else None
 settings_with db addr shards workers sessions = None
 
--- the settings of five arguments: 1 to 64 shards, 1 to 32 workers and 1 to 16 sessions; `None` if the arguments are wrong
+-- the settings of five arguments: 1 to 64 shards, 1 to 32 workers and 1 to 16 sessions; `None` if one is wrong, or there are not five
 abbrev pub settings_of : List (List ℕ) → Option Settings
 settings_of (db ∷ shards ∷ workers ∷ sessions ∷ addr ∷ []) =
     settings_with db addr (number_of shards 64) (number_of workers 32) (number_of sessions 16)

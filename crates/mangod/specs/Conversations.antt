@@ -11,8 +11,8 @@ pub record Conversation : Type 0 where
   pub written : List ℕ
   pub end : SessionEnd
 
--- these sessions, one after another, took a service from the state `old` to the state `new`; each began in the state that the one before
--- it left
+-- these sessions, one after another, took a service of the database `db` from the state `old` to the state `new`. Each began in the state
+-- that the one before it left; `answers` says how the service answers a command
 abbrev pub InTurn : {S : Type 0} → (S → Asked → Option Answer → S → Type 0) → List ℕ → S → List Conversation → S → Type 0
 InTurn answers db old [] new = new ≡ old
 InTurn {S} answers db old (c ∷ cs) new =

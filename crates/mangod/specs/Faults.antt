@@ -1,4 +1,5 @@
--- What to do after a failed accept (accept(2) of Linux), and with a connection after its session.
+-- What to do after a failed accept (accept(2) of Linux; its EPERM and EOPNOTSUPP count as faults of the listener), and with a connection
+-- after its session.
 use Rattle.std.specs.Prelude.{ℤ, pos, Bool, true, false, ◌||◌, if◌then◌else◌, Option, None, Some}
 use Rattle.std.specs.Ordering.{int_eq}
 use Rattle.mg_http.specs.declared.sessions.SessionEnd.{SessionEnd}
@@ -22,8 +23,8 @@ abbrev pub after_number : Option ℤ → AfterFault
 after_number None = Never
 after_number (Some number) = if is_shortage number then WithMore else if is_of_one_connection number then Again else Never
 
--- what to do with a connection, by its session's end and whether the session's input was ended between two messages, though the client
--- may still send more
+-- what to do with a connection, by its session's end and whether the program ended the session's input between two messages, though the
+-- client may still send more
 abbrev pub disposal_after : SessionEnd → Bool → Disposal
 disposal_after Eof true = Keep
 disposal_after Refused paused = CloseGently

@@ -49,8 +49,8 @@ impl<'a, H: Clock> Connection<'a, H> {
         }
     }
 
-    /// Whether the session's input was ended between two messages: in a pause, or because the session's turn was over. The client may still
-    /// send more.
+    /// Whether `read_idle` ended the session's input between two messages: in a pause, or because the session's turn was over. The client
+    /// may still send more.
     pub(crate) fn has_paused(&self) -> bool {
         self.has_paused.get()
     }
@@ -134,7 +134,7 @@ impl<'a, H: Clock> Connection<'a, H> {
     }
 }
 
-// Whether an error of this kind only means that no byte has come in time.
+// Whether an error of this kind only means that no byte has come yet: the time is over, or a signal interrupted the read.
 fn is_nothing_yet(kind: ErrorKind) -> bool {
     matches!(
         kind,

@@ -22,7 +22,7 @@ pub(crate) const NO_MEMORY: Exit = Exit {
     line: "mangod: out of memory",
 };
 
-/// The program cannot listen at the address.
+/// The program cannot listen at the address, or cannot open the lobby for another reason than memory.
 pub(crate) const CANNOT_LISTEN: Exit = Exit {
     status: 1,
     line: "mangod: cannot listen",
@@ -34,7 +34,7 @@ pub(crate) const STOPPED: Exit = Exit {
     line: "",
 };
 
-/// Returns the exit status and the line for standard error after a session with this end (empty: no line). Allocates nothing.
+/// Returns the exit status and the line for standard error (empty: no line) after a session with this end. Allocates nothing.
 pub(crate) fn ending(end: &SessionEnd) -> (u8, &'static str)
     ensures status { result.0 ≡ (exit_of end.now).status }
     ensures line { result.1.now ≡ (exit_of end.now).line }

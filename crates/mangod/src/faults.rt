@@ -66,8 +66,8 @@ pub(crate) enum Disposal {
     Close,
 }
 
-/// Returns what to do with a connection after a session with this end. `has_paused`: the session's input was ended between two messages,
-/// though the client may still send more.
+/// Returns what to do with a connection after a session with this end. `has_paused`: the program ended the session's input between two
+/// messages, though the client may still send more.
 pub(crate) fn disposal_after(end: SessionEnd, has_paused: bool) -> Disposal
     ensures { result ≡ disposal_after end has_paused }
 {

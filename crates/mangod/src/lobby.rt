@@ -176,7 +176,7 @@ impl Lobby {
         }
     }
 
-    // Admits a connection. Closes it if memory runs out, the clock fails, or it cannot be watched.
+    // Admits a connection, as a guest with this `dropping`. Closes it if memory runs out, the clock fails, or it cannot be watched.
     fn admit<H: Wait + Clock>(&self, rt: &H, stream: TcpStream, dropping: Option<u64>) {
         let Ok(since) = Instant::now(rt) else {
             return;
@@ -201,7 +201,7 @@ impl Lobby {
     }
 
     // Takes the connection of an event out of the lobby; if it is being closed, drops what has come on it instead. A connection that cannot
-    // be unregistered is closed.
+    // be unregistered is closed. `None` in both of these cases, and if no connection has this key.
     fn take<H: Wait>(&self, rt: &H, key: usize, spill: &mut [u8]) -> Option<TcpStream> {
         let mut guests = self.guests.lock(rt);
         let guest = guests.get_mut(key)?;

@@ -5,7 +5,8 @@ ghost use Rattle.mangod.specs.Pace.{after_bytes, at_read, at_write};
 
 use std::time::Duration;
 
-/// The most seconds that a message may take from its first byte to its last, and that a reply may take.
+/// The most seconds that a message may take from its first byte to its last, and that a reply may take. If the first byte of a message was
+/// read before the reply to an earlier one, its time counts from the first read after that reply.
 const MESSAGE_SECONDS: u64 = 60;
 /// The seconds that a connection may wait in the lobby. The next search for silent connections after that closes it.
 const SILENCE_SECONDS: u64 = 5;
@@ -16,8 +17,9 @@ pub(crate) const PAUSE_MILLIS: u64 = 20;
 
 /// What a session is doing on its connection, as its reads and writes show.
 ///
-/// A session reads only while a message is incomplete, and writes a reply only once the message is complete. Therefore a reply that follows
-/// a read of a single byte answers a message that ended with this byte, and then everything read is answered.
+/// A session reads only while a message is incomplete, and writes a reply only once the message is complete, or is refused, which ends the
+/// session. Therefore a reply that follows a read of a single byte answers a message that ended with this byte, and then everything read
+/// is answered; or it is the last reply.
 #[derive(Clone, Copy, PartialEq, Debug)]
 pub(crate) enum Phase {
     /// Everything read is answered.

@@ -31,8 +31,8 @@ place_value p = list (item (ddoc_value p.ddoc) (item (text p.name) (item (text (
 abbrev pub spelled : RowPlace → List ℕ
 spelled p = encode_of url_safe_no_pad (compact (place_value p))
 
--- the text is the spelling of the place, whose array can be read back: its texts are UTF-8, its numbers held as i64, and
--- it nests at most 127 deep
+-- the text is the spelling of the place, whose array can be read back: its texts are UTF-8, its numbers are i64, the names of its
+-- objects ascend, and it nests at most 127 deep
 abbrev pub Spells : List ℕ → RowPlace → Type 0
 Spells t p = (t ≡ spelled p) × Reads (compact (place_value p)) (place_value p)
 
@@ -48,8 +48,8 @@ pub record CanBeSpelled (p : RowPlace) : Type 0 where
 
 -- ---- reading a text
 
--- a text that a client sends back has this reading: `Some None`, the beginning, if the text is `nil`; `Some` of a place if the text
--- spells the place; `None` if the text is not a bookmark. A law says that each text has exactly one reading
+-- a text that a client sends back has this reading: `Some None`, the beginning, if the text is `nil`; `Some (Some p)` if the text
+-- spells the place p; `None` if the text is not a bookmark. A law says that each text has exactly one reading
 abbrev pub IsReadAs : List ℕ → Option (Option RowPlace) → Type 0
 IsReadAs t (Some None) = t ≡ codes "nil"
 IsReadAs t (Some (Some p)) = (t ≢ codes "nil") × Spells t p

@@ -11,7 +11,7 @@ abbrev pub direction_name : Direction → List ℕ
 direction_name Asc = codes "asc"
 direction_name Desc = codes "desc"
 
--- the direction that a text names; None for any other text
+-- the direction that a text names, `asc` or `desc`; None for any other text
 abbrev pub direction_named : List ℕ → Option Direction
 direction_named name = if bytes_eq name (codes "asc") then Some Asc else if bytes_eq name (codes "desc") then Some Desc else None
 

@@ -28,7 +28,7 @@ abbrev mutual
   flat_items no_items = pos 0 ∷ []
   flat_items (item v vs) = flat v ++ flat_items vs
 
-  -- each name and value in turn, then 0
+  -- each name, as a string with its type, and its value in turn, then 0
   pub flat_members : Members → List ℤ
   flat_members no_members = pos 0 ∷ []
   flat_members (member k v ms) = (pos 5 ∷ flat_text k) ++ (flat v ++ flat_members ms)

@@ -25,7 +25,7 @@ abbrev pub error_of : EditRefusal → EditError
 error_of Conflict = conflict
 error_of BadHistory = bad_history
 
--- the error of an edit is right: it is the edit's refusal; or memory ran out, and no refusal was found before that
+-- the error of an edit is right: it is the edit's refusal; or memory ran out, and there is no refusal before the edit's revision is made
 abbrev pub Refuses : Paths → Edit → Option EditRefusal → Type 0
 Refuses h e (Some refused) = outcome_of h e ≡ Err refused
 Refuses h e None = first_refusal h e.change ≡ None

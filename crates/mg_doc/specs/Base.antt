@@ -21,7 +21,7 @@ use Rattle.mg_doc.specs.declared.error.EditRefusal.TheVariants.{BadHistory, Conf
 abbrev pub base_found : Paths → Option Revision → Result (Option Revision) EditRefusal
 base_found h named = if must_name h named then Err Conflict else Ok (base_of h named)
 
--- the path of a new revision over a base, or why the edit is refused
+-- the path of a new revision over a base, or of a first revision without a base; or why the edit is refused
 abbrev pub extended_over : Paths → Bool → Value → Option Revision → Result Accepted EditRefusal
 extended_over h deleted body base =
     unless (option_map refused_by (refusal_of h base (digest_of deleted base body))) (path_over base (digest_of deleted base body))
@@ -35,7 +35,7 @@ extended_found h deleted body (Err refused) = Err refused
 abbrev pub extended_by : Paths → Bool → Value → Option Revision → Result Accepted EditRefusal
 extended_by h deleted body named = extended_found h deleted body (base_found h named)
 
--- the refusal that is found before a revision is made: that of finding the base, or that of the position above the base
+-- the refusal that is found before a revision is made, if there is one: that of finding the base, or that of the new position
 abbrev pub unplaced : Paths → Result (Option Revision) EditRefusal → Option EditRefusal
 unplaced h (Ok base) = option_map refused_by (result_err (next_position h base))
 unplaced h (Err refused) = Some refused

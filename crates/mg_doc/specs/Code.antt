@@ -14,7 +14,7 @@ abbrev pub change_parts : Change → Option (List Revision) × Option Revision
 change_parts (New named) = (None, named)
 change_parts (Replica run) = (Some run, None)
 
--- the change that has these two parts
+-- the change that has these two parts; with a path, the named revision is ignored
 abbrev pub change_from : Option (List Revision) → Option Revision → Change
 change_from None named = New named
 change_from (Some run) named = Replica run

@@ -78,7 +78,7 @@ path_ids no_items = Some []
 path_ids (item (text s) vs) = option_map (λ ids. s ∷ ids) (path_ids vs)
 path_ids (item v vs) = None
 
--- the path that the values of `start` and `ids` give; `start` is at most 4,294,967,295
+-- the path that `start`, a number from 1 to 4,294,967,295, and `ids`, an array of 1 to `start` ids, give; `None` for any other values
 abbrev pub run_at : Option Value → Option Value → Option (List Revision)
 run_at (Some (whole (pos start))) (Some (list ids)) = if nat_le start 4294967295 then option_and_then (run_of start) (path_ids ids) else None
 run_at start ids = None
@@ -103,7 +103,7 @@ path_by rev None = option_map (λ r. r ∷ []) rev
 abbrev pub change_by : Bool → Option Revision → Option (List Revision) → Option Change
 change_by new_edit rev run = if new_edit then Some (New (named_by rev run)) else option_map Replica (path_by rev run)
 
--- the change that `_rev` and `_revisions` ask for; each has to be well formed if it is there
+-- the change that `_rev` and `_revisions` ask for; `None` if either is there and malformed, or if a replica gives neither
 abbrev pub change_given : Bool → Members → Option Change
 change_given new_edit ms =
     option_and_then (λ rev. option_and_then (change_by new_edit rev) (revisions_of (get_member (codes "_revisions") ms)))

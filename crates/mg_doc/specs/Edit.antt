@@ -15,7 +15,7 @@ use Rattle.mg_doc.specs.Digest.{digest_of}
 use Rattle.mg_doc.specs.declared.error.EditRefusal.{EditRefusal}
 use Rattle.mg_doc.specs.declared.error.EditRefusal.TheVariants.{Conflict, BadHistory}
 
--- the revision that is accepted, and those after it in its path
+-- an accepted path: its newest revision, and the revisions after that one
 abbrev pub Accepted : Type 0
 Accepted = Revision × List Revision
 
@@ -100,7 +100,8 @@ outcome_of h e = newest_accepted (accepted_by h e)
 
 -- ---- what is refused before a revision is made
 
--- why a change is refused, if it is, before its revision is made: any reason except that the made revision is already known
+-- why a change is refused, if it is, before its revision is made: any reason except that the made revision is already known, or that a
+-- replica's path is empty
 abbrev pub first_refusal : Paths → Change → Option EditRefusal
 first_refusal h (New named) = if must_name h named then Some Conflict else option_map refused_by (result_err (next_position h (base_of h named)))
 first_refusal h (Replica run) = if fits h run then None else Some BadHistory

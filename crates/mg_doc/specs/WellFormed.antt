@@ -18,7 +18,8 @@ abbrev pub are_ids : Items → Bool
 are_ids no_items = true
 are_ids (item v vs) = is_rev_id_value v && are_ids vs
 
--- whether a change is given, by whether a revision and a path are there; `None` stands for a malformed one
+-- whether `_rev` and `_revisions` give a change, by whether each is there; `None` stands for a malformed one, which gives no change;
+-- a replica needs one of them, a new edit neither
 abbrev pub is_enough : Bool → Option Bool → Option Bool → Bool
 is_enough new_edit (Some rev) (Some path) = new_edit || (rev || path)
 is_enough new_edit rev path = false

@@ -23,7 +23,7 @@ pub struct Edit {
     deleted: bool,
     body: Packed,
     // the id of a new edit's revision, made before the tree is known: right if the edit extends the revision that it names, or makes the
-    // first revision of its document
+    // first revision of its document; `None` for a replica's change, and in a copy
     ahead: Option<String>,
 }
 
@@ -55,7 +55,7 @@ impl Edit {
     /// - `_id`: a text that is not empty and does not begin with an underscore. It may be absent.
     /// - `_rev`: the text `N-id` of a revision; `_revisions`: `{"start":N,"ids":[..]}`, a path, newest first. If both are there,
     ///   `_revisions` decides. A replica has to give one of them, which is its path. A new edit extends the revision in `_rev`, or the
-    ///   newest one in `_revisions`.
+    ///   newest one in `_revisions`; if both are absent, it names no revision.
     /// - `_deleted`: true or false; false if it is absent.
     /// - `_conflicts`, `_deleted_conflicts`, `_revs_info` and `_local_seq` are dropped.
     /// - The members whose names do not begin with an underscore are the body.

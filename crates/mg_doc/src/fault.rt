@@ -21,7 +21,8 @@ pub(crate) fn gives_change(alloc: Global, members: &Object<'_>, new_edit: bool) 
     is_change(new_edit, rev, path)
 }
 
-// Whether `_rev` and `_revisions` are enough for a change, by whether each is there. `None` stands for a malformed one.
+// Whether `_rev` and `_revisions` are enough for a change, by whether each is there. `None` stands for a malformed one, with which there is
+// no change. A replica needs one of them, a new edit neither.
 fn is_change(new_edit: bool, rev: Option<bool>, path: Option<bool>) -> bool
     ensures { result ≡ is_enough new_edit rev path }
 {

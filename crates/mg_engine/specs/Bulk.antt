@@ -96,7 +96,7 @@ with_number n e = if is_some e.id then e else record e { id = Some (number_text 
 abbrev pub count_without_id : List Edit → ℕ
 count_without_id es = length (filter (λ e. is_none e.id) es)
 
--- the edit at a position, which counts from 0: the k-th edit without an id gets the k-th number after the counter n
+-- the edit `p.1` at the position `p.0` (from 0) of `es`: the k-th edit without an id gets the k-th number after n; others stay as they are
 abbrev pub numbered_at : ℕ → List Edit → ℕ × Edit → Edit
 numbered_at n es p = with_number (kth_after n (count_without_id (take (suc p.0) es))) p.1
 

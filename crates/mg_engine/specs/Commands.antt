@@ -101,7 +101,7 @@ abbrev pub create_answer : World → Result IndexDefinition IndexError → Answe
 create_answer w (Ok d) = ok_answer (index_value d (if is_there d w.indexes then codes "exists" else codes "created"))
 create_answer w (Err e) = refused (refusal_of_index e)
 
--- the world with the definition, which replaces one of the same design document and name
+-- the world with the definition, which replaces one of the same design document and name; after a fault, the world as it is
 abbrev pub world_defined : World → Result IndexDefinition IndexError → World
 world_defined w (Ok d) = record w { indexes = with_definition d w.indexes }
 world_defined w (Err e) = w
@@ -127,7 +127,7 @@ abbrev pub refusal_for : Unanswered → Refusal
 refusal_for no_usable_index = NoUsableIndex
 refusal_for bad_bookmark = BadBookmark
 
--- the answer with the value of what a query gives; if the query gives nothing, its refusal
+-- the answer with what a query gives (a page or an explanation), made a value by `value`; if it gives nothing, the refusal for `why`
 abbrev pub shown_or_refused : {A : Type 0} → (A → Value) → Result A Unanswered → Answer
 shown_or_refused value (Ok a) = ok_answer (value a)
 shown_or_refused value (Err why) = refused (refusal_for why)

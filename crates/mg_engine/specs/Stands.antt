@@ -40,7 +40,7 @@ pub record StateStandsFor (place : Placing) (s : StateView) (w : World) : Type 0
   pub counter : s.counter ≡ w.counter
   pub objects : HaveObjects w.docs
 
--- an engine, whose documents are placed by `place`, stands for the world of its state
+-- an engine (its placement and its state) stands for each world that its state stands for; `place` is how its placement places an id
 abbrev pub Stands : {P : Type 0} → (P → List ℕ → ℕ → ℕ) → P × StateView → World → Type 0
 Stands place e w = StateStandsFor (place e.0) e.1 w
 

@@ -21,7 +21,7 @@ use std::marker::Model;
 use std::sync::Arc;
 use std::thread::Threads;
 
-/// A database for one caller, which executes commands: documents placed on shards, and indexes over them. A write makes a new state, which
+/// A database for one caller: documents placed on shards, and indexes over them. It executes commands. A write makes a new state, which
 /// shares with the old one all that the write does not change.
 #[derive(Drop)]
 pub struct Engine<P> {

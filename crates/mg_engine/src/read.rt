@@ -89,7 +89,8 @@ fn conflicted_line(alloc: Global, form: &Part<'_>, tree: &RevTree) -> Result<Vec
     Ok(body)
 }
 
-// Writes the line of a document that is served in this form. A served document keeps its text, and this text is copied.
+// Writes the line of a document that is served in this form. A served document keeps its text, and this text is copied. Only a deleted
+// document has no text (`None`), and it is not served.
 fn served_line(alloc: Global, document: &Document, form: &Part<'_>) -> Result<Vec<u8>, NoMemory>
     requires { form_of document.now ≡ Some form.now }
     ensures { IfOk result (λ b. b.items ≡ line_of form.now) }

@@ -61,7 +61,7 @@ pub const BAD_HISTORY_REASON: &str = "Revision history does not fit the document
 /// return those texts.
 #[derive(Clone, Copy, PartialEq, Eq, Debug, Drop)]
 pub enum Refusal {
-    /// The body is not JSON, or has a number that is not a 64-bit integer.
+    /// The body is not JSON, nests more than 127 deep, or has a number that is not a 64-bit integer.
     InvalidJson,
     /// The body does not have the shape that the request needs.
     WrongShape,

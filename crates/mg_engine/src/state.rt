@@ -59,7 +59,9 @@ impl State {
         })
     }
 
-    /// Makes a state with this state's name and catalog, these shards, which have the rows of the catalog's indexes, and this counter.
+    /// Makes a state with the name and the catalog of `self`, and with the given shards and counter. There must be a shard, and each must
+    /// have the rows of the catalog's indexes and of no other.
+    ///
     /// Errors: `NoMemory` if there are too many references to the name or the catalog. Takes no memory. Cost: constant.
     pub(crate) fn with_shards(
         &self,
@@ -79,7 +81,9 @@ impl State {
         })
     }
 
-    /// Makes a state with this state's name and counter, this catalog, and these shards, which have the rows of the catalog's indexes.
+    /// Makes a state with the name and the counter of `self`, and with the given catalog and shards. There must be a shard, and each must
+    /// have the rows of the given catalog's indexes and of no other.
+    ///
     /// Errors: `NoMemory` if an allocation fails, or if there are too many references to the name. Cost: constant.
     pub(crate) fn with_catalog(
         &self,

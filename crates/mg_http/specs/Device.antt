@@ -1,4 +1,5 @@
--- Readers and writers, and what a call did to their bytes.
+-- Readers and writers, and what a call did to their bytes. `old` and `new` are what the writer holds before and after the call (`None`:
+-- that is not known; if `old` is not known, nothing is claimed about `new`).
 use Rattle.std.specs.Prelude.{◌≡◌, ℕ, List, ◌++◌, Bool, Option, Result, Ok, Err}
 use Rattle.std.specs.Io.KnownBytes.{Appends}
 use Rattle.mg_http.specs.declared.sessions.device.Device.{Device}

@@ -21,8 +21,9 @@ refusal_before refusal (body endpoint) = refusal
 refusal_before refusal (asks command) = refusal
 refusal_before refusal (refuses first) = first
 
--- How a body is framed, by its length, whether a Transfer-Encoding is given (coded), and whether the method is POST, which needs a length.
--- The request's own refusal goes before these, but not before that of a faulty length.
+-- How a body is framed, by its length, whether a Transfer-Encoding is given (`coded`), and whether the method is POST (`post`). A faulty
+-- length is refused as `BadHead`. A Transfer-Encoding, a POST without a length, and a length that is too great get the request's own
+-- refusal if it has one; else the first two get `LengthRequired`, and the last gets `TooLarge`.
 abbrev pub framed_by : Length → Bool → Bool → Request → Framing
 framed_by Faulty coded post request = unframed BadHead
 framed_by Absent coded post request =

@@ -6,7 +6,7 @@ use Rattle.mg_engine.specs.declared.refusal.Refusal.TheVariants.{HeadTooLarge, B
 use Rattle.mg_http.specs.Head.{framed, unframed, framing_of, omits_body_of, closes_after}
 use Rattle.mg_http.specs.Target.{Request}
 
--- a message: what it asks for, its body, whether its reply leaves out the body, and whether the session ends after it
+-- a message: what it asks for, its body, whether its reply is written without a body, and whether the session ends after it
 pub record Message : Type 0 where
   pub request : Request
   pub body : List ℕ
@@ -32,7 +32,8 @@ pub record Begins (db bytes : List ℕ) (m : Message) (rest : List ℕ) : Type 0
   pub framed : IsHeadOf db head m
   pub joined : after ≡ m.body ++ rest
 
--- the bytes can never become a head; bytes that end within a target do not count, since any target may go on
+-- No bytes that follow can make these begin with a head. Bytes that end within a target do not count, even if the target is not UTF-8: that
+-- is tested only at its end.
 abbrev pub IsNoHead : List ℕ → Type 0
 IsNoHead bytes = NeverHasRequest bytes × (¬ (EndsInTarget bytes))
 

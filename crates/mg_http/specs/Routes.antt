@@ -1,5 +1,6 @@
--- The routes: what each path asks for, by its method. A path matches a route segment by segment, unless another route has a segment as a
--- literal where this one has a parameter: a literal goes before a parameter.
+-- The routes: what each path asks for, by its method. A path matches a route segment by segment. But a literal goes before a parameter: the
+-- path does not match the route if another route, with the same parts up to a parameter of this one, has the path's segment there as a
+-- literal. This holds even if the path does not match the other route.
 use Rattle.std.specs.Prelude.{ℕ, Bool, true, false, not, ◌&&◌, ◌==◌, List, [], ◌∷◌, length, bytes_eq, codes, if◌then◌else◌}
 use Rattle.std.specs.List.{list_any, slice_split}
 use Rattle.percent_encoding.specs.Percent.{percent_decode}

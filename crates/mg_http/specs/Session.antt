@@ -96,7 +96,7 @@ pub record IsLastCall
   pub text_is : all.text ≡ call_text call
 
 -- Memory ran out for the session's buffers, or for a message: before its first byte, within its head, or after its head (for its target or
--- the bytes of its body). After a complete head the method decides whether the reply omits its body.
+-- the bytes of its body). After a complete head the method decides whether the reply omits its body; before that, it does not.
 abbrev pub LacksMemory : List ℕ → Bool → Type 0
 LacksMemory bytes omits_body =
     ((bytes ≡ []) × (omits_body ≡ false))
@@ -122,7 +122,9 @@ IsSessionEnd answers db WriteFault last =
     × (((call : Call) × IsLastCall answers db call (record last { text = whole }))
     ⊎ (IsRefusalText db last.bytes whole × (last.new ≡ last.old)))
 
--- a session read these bytes, wrote this text, took the service from the old state to the new one, and had this end
+-- A session read these bytes, wrote this text, took the service from the old state to the new one, and had this end. First it served the
+-- `calls`, for which it wrote `text`, and which left the state `mid`. `rest` are the bytes that it read after them, and `last` is what it
+-- wrote for those.
 pub record Converses
     {S : Type 0} (answers : S → Asked → Option Answer → S → Type 0) (db : List ℕ) (end : SessionEnd) (all : Exchange S) : Type 0 where
   pub calls : List Call

@@ -5,7 +5,8 @@ use Rattle.mg_engine.specs.Execution.{Answers}
 use Rattle.mg_engine.specs.Stands.{StateView, Stands}
 use Rattle.mg_engine.specs.World.{World}
 
--- at each world that the old engine stands for, this is a right answer to the command, and the new engine stands for the world after it
+-- At each world that the old engine stands for, this is the right answer to the command, and the new engine stands for the world after it;
+-- or memory ran out (`None`), and the new engine stands for the same world.
 abbrev pub EngineAnswers
     : {P : Type 0} → (P → List ℕ → ℕ → ℕ) → P × StateView → Asked → Option Answer → P × StateView → Type 0
 EngineAnswers place old command answer new = (w : World) → Stands place old w → Answers w command answer (Stands place new)

@@ -98,15 +98,16 @@ abbrev pub progress_of : Inbox → Progress
 progress_of inbox = record { messages = inbox.messages; reads = inbox.reads; held = length (unanswered inbox) }
 
 -- A step that read the bytes `came` may change the progress in this way: each answered message, and each read that continued the session,
--- has at least one byte. The step ends the session at its limit only if there were 4,294,967,295 messages before it, or if the reads before
--- it and the bytes `came` are as many together.
+-- has at least one byte. The step ends the session at its limit only if 4,294,967,295 messages were answered before it, or if the number of
+-- reads before it plus the number of bytes `came` is at least 4,294,967,295.
 abbrev pub Counts : Progress → Progress → List ℕ → Result ⊤ SessionEnd → Type 0
 Counts old new came (Ok a) =
     (new.messages + new.held ≤ old.messages + (old.held + length came)) × (new.reads ≤ old.reads + length came)
 Counts old new came (Err end) =
     end ≡ Limit → (4294967295 ≤ old.messages) ⊎ (4294967295 ≤ old.reads + length came)
 
--- The session ends `Refused`, and all of the text was written; or it ends at a write fault, and a prefix of the text was written.
+-- The session ends `Refused`, and all of the text was written; or it ends at a write fault, and a prefix of the text was written. `old` and
+-- `new`: what the writer holds before and after (`None`: not known).
 abbrev pub RefusesBy : Option (List ℕ) → Option (List ℕ) → List ℕ → SessionEnd → Type 0
 RefusesBy old new text Refused = Appends old new text
 RefusesBy old new text WriteFault = WritesPrefix old new text
@@ -115,7 +116,8 @@ RefusesBy old new text Closed = ⊥
 RefusesBy old new text ReadFault = ⊥
 RefusesBy old new text Limit = ⊥
 
--- A session that stopped reading for this reason may end in this way: it writes a reply only if memory ran out.
+-- A session that stopped reading for this reason may end in this way: it writes a reply only if memory ran out. `old` and `new`: what the
+-- writer holds before and after (`None`: not known).
 abbrev pub StopsWith : Option (List ℕ) → Option (List ℕ) → Bool → Stop → SessionEnd → Type 0
 StopsWith old new omits_body stop.End end = (end ≡ Eof) × (new ≡ old)
 StopsWith old new omits_body stop.Failed end = (end ≡ ReadFault) × (new ≡ old)

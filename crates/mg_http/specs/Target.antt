@@ -35,13 +35,14 @@ is_conflicts pair = bytes_eq (utf8_lossy (decode pair.0)) (codes "conflicts") &&
 abbrev pub asks_conflicts : List ℕ → Bool
 asks_conflicts query = list_any is_conflicts (raw_pairs query)
 
--- the command that reads the document whose id is the parameter after the database's name; missing, unless there are two parameters
+-- The command that reads the document whose id is the parameter after the database's name (`conflicts`: with its conflicts). Unless there
+-- are two parameters, the request is refused as missing.
 abbrev pub document_asked : List (List ℕ) → Bool → Request
 document_asked (db ∷ id ∷ []) conflicts = asks (get id conflicts)
 document_asked parameters conflicts = refuses Missing
 
 -- The command that drops the index whose design document and name are the parameters after the database's name. The design document's
--- name is this prefix, followed by its parameter. Missing, unless there are three parameters.
+-- name is this prefix, followed by its parameter. Unless there are three parameters, the request is refused as missing.
 abbrev pub drop_asked : List ℕ → List (List ℕ) → Request
 drop_asked prefix (db ∷ ddoc ∷ name ∷ []) = asks (drop_index (prefix ++ ddoc) name)
 drop_asked prefix parameters = refuses Missing

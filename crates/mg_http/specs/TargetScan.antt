@@ -10,7 +10,8 @@ skip_blank (a ∷ []) = if a == 10 then [] else a ∷ []
 skip_blank (a ∷ b ∷ rest) =
     if a == 10 then skip_blank (b ∷ rest) else (if a == 13 && b == 10 then skip_blank rest else a ∷ b ∷ rest)
 
--- the bytes are a method, a space, and the beginning of a target; `seen`: the beginning of the method comes before these bytes
+-- The bytes are a method, a space, and the beginning of a target, which may be empty. With `seen`, the method begins before these bytes:
+-- they begin with the rest of it, which may be empty.
 abbrev pub is_method_and_target : Bool → List ℕ → Bool
 is_method_and_target seen [] = false
 is_method_and_target seen (b ∷ rest) =

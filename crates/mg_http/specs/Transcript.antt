@@ -10,7 +10,8 @@ use Rattle.mg_http.specs.Message.{Message, Begins, IsRefused, IsWaiting}
 use Rattle.mg_http.specs.Reply.{text_of}
 use Rattle.mg_http.specs.Session.{Call, Exchange, Handles, IsSessionEnd, Converses}
 
--- the bytes do not begin with a message that can be answered: they are incomplete and the text is empty, or the text refuses them
+-- The bytes do not begin with a message that can be answered: there is an incomplete message or no byte, and the text is empty; or the
+-- bytes are refused, and the text is the refusal.
 abbrev pub EndsTranscript : List ℕ → List ℕ → List ℕ → Type 0
 EndsTranscript db bytes text =
     (IsWaiting db bytes × (text ≡ []))

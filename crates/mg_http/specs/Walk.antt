@@ -36,7 +36,7 @@ pub record RouteMatch : Type 0 where
   pub routes_left : List Route
   pub parameters : List (List ℕ)
 
--- the state after one more segment, matched as a literal (true) or as a parameter
+-- the state after one more segment, matched as a literal (`true`) or as a parameter, which no empty segment matches
 abbrev pub enter_as : Bool → RouteMatch → List ℕ → RouteMatch
 enter_as true matched segment = record matched { routes_left = routes_after (literal segment) matched.routes_left }
 enter_as false matched segment = record {
@@ -48,7 +48,7 @@ enter_as false matched segment = record {
 abbrev pub enter : RouteMatch → List ℕ → RouteMatch
 enter matched segment = enter_as (any_begins_with (literal segment) matched.routes_left) matched segment
 
--- the state after all segments, of which the first one names the database
+-- the state after all segments, of which the first one names the database; if there is none, or it is empty, no route is left
 abbrev pub match_of : List (List ℕ) → RouteMatch
 match_of [] = record { routes_left = []; parameters = [] }
 match_of (name ∷ below) =

@@ -24,7 +24,7 @@ pub(crate) use target::ParsedRequest;
 /// The most bytes of a head.
 pub(crate) const MAX_HEAD: usize = 16_384;
 
-/// Reads the head that the bytes begin with. `spans` is room for the head's fields.
+/// Reads the head that the bytes begin with. `db` is the database's name; `spans` is room for the head's fields.
 ///
 /// Refuses a head that is incomplete after `MAX_HEAD` bytes, bytes that can never become a head, a head with more than 64 fields, a head
 /// whose fields give no acceptable length of the body, and a head for whose target there is no memory.

@@ -31,12 +31,12 @@ use std::thread::Threads;
 /// How a session ended.
 #[derive(Clone, Copy, Debug, PartialEq, Eq)]
 pub enum SessionEnd {
-    /// The input ended, between two messages or within one.
+    /// The input ended: before the first message, after a message, or within one.
     Eof,
     /// The last message asked to close, or its version was 1.0; it is answered.
     Closed,
-    /// A head was refused, the bytes can never become a head, or memory ran out for the session's buffers, for the bytes of a message or
-    /// for its target. The last reply gives the reason.
+    /// A head was refused or is incomplete after 16,384 bytes, the bytes can never become a head, or memory ran out for the session's
+    /// buffers, for the bytes of a message or for its target. The last reply gives the reason.
     Refused,
     /// The reader returned an error.
     ReadFault,
@@ -194,7 +194,8 @@ fn step<H: Wait + Threads + Sync, S: Service, R: Read, W: Write>(
     }
 }
 
-/// Answers message after message until the session ends. Does not flush the writer.
+/// Answers message after message until the session ends. `db` is the database's name: a request for another one gets a refusal. Does
+/// not flush the writer.
 ///
 /// Errors: each error ends the session; see `SessionEnd`. Cost: that of the service, and one pass over the bytes; a head that arrives in
 /// several pieces is parsed again for each piece. Holds at most one message and the bytes of one more read, at most 16,384.

@@ -1,6 +1,6 @@
 -- Bounds on a column: how the atoms of a selector require its values to compare with other values, after the operators of CouchDB's
--- `_find`. Two rules are this project's own: an operator in the negated sense gives the bound of its opposite, and `$ne` and the
--- operators that do not compare give no bound.
+-- `_find`. Two rules are this project's own: an operator in the negated sense gives the bound of its opposite; `$ne` in the plain
+-- sense, `$eq` in the negated one, and the operators that do not compare give no bound.
 use Rattle.std.specs.Prelude.{ℕ, suc, List, [], ◌∷◌, Bool, true, false, Option, Some, None, option_and_then, if◌then◌else◌}
 use Rattle.std.specs.List.{list_all, list_any, filter_map}
 use Rattle.std.specs.Ordering.{is_lt, is_le, is_eq, is_ge, is_gt}
@@ -46,7 +46,8 @@ plain_bound (at_least v) = Some (bound_by AtLeast v)
 plain_bound (greater v) = Some (bound_by Above v)
 plain_bound o = None
 
--- the opposite of an operator that compares: of a part that is there, it holds if and only if the operator does not
+-- the opposite of an operator that compares: of a part that is there, it holds if and only if the operator does not;
+-- `None` for an operator that does not compare
 abbrev pub opposite_of : Operator → Option Operator
 opposite_of (less v) = Some (at_least v)
 opposite_of (at_most v) = Some (greater v)
@@ -56,12 +57,13 @@ opposite_of (at_least v) = Some (less v)
 opposite_of (greater v) = Some (at_most v)
 opposite_of o = None
 
--- the bound that an operator gives in a sense: in the negated sense, the bound of its opposite
+-- the bound that an operator gives in a sense: in the negated sense, the bound of its opposite; `None` if it gives no bound
 abbrev pub bound_in : Sense → Operator → Option Bound
 bound_in Plain o = plain_bound o
 bound_in Negated o = option_and_then plain_bound (opposite_of o)
 
--- the bound that the atom gives on the column: the bound of its operator, if the atom is on the part at the column's path
+-- the bound that the atom gives on the column: the bound of its operator in its sense; `None` if that gives no bound, or
+-- if the atom is not on the part at the column's path
 abbrev pub bound_on : Steps → Atom → Option Bound
 bound_on column a = if path_eq a.steps column then bound_in a.sense a.operator else None
 

@@ -1,4 +1,5 @@
--- For private clauses: a usable index with what decides how it is preferred, and the best of those seen so far.
+-- For private clauses: a usable index with what, besides its definition, decides how it is preferred; and the best of those
+-- seen so far.
 use Rattle.std.specs.Prelude.{◌≡◌, ℕ, List, Option, Some, None, slice_get}
 use Rattle.mg_normal.specs.Atoms.{Atom}
 use Rattle.mg_index.specs.Bound.{bounded_count}

@@ -1,5 +1,5 @@
 -- Index definitions, after `_index` of the CouchDB 3.x API reference: JSON indexes, all of whose columns have one direction.
--- An absent name is an MD5 digest (RFC 1321) in lower-case hexadecimal.
+-- If a body gives no name, the name is an MD5 digest (RFC 1321) of the fields, in lower-case hexadecimal.
 use Rattle.std.specs.Prelude.{ℕ, List, [], ◌∷◌, ◌++◌, codes, map, nat_eq, refl, if◌then◌else◌}
 use Rattle.std.specs.Coded.{Coded, code_by, coded×, coded_ℕ, coded_list}
 use Rattle.std.specs.List.{starts_with}
@@ -42,7 +42,7 @@ field_value direction path = object (member path (text (direction_name direction
 abbrev pub fields_value : Direction → List (List ℕ) → Value
 fields_value direction paths = object (member (codes "fields") (list (items_of (map (field_value direction) paths))) no_members)
 
--- the digest of the fields' compact text
+-- the MD5 digest of the fields' compact text, in lower-case hexadecimal
 abbrev pub fields_digest : Direction → List (List ℕ) → List ℕ
 fields_digest direction paths = encode_lower (md5 (compact (fields_value direction paths)))
 

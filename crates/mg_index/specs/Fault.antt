@@ -18,6 +18,7 @@ is_column v = is_some (option_and_then steps_of (field_path v)) && is_some (fiel
 abbrev pub is_directed : Direction → Value → Bool
 is_directed d v = option_map_or (is_same d) (field_direction v) false
 
--- the fault of the directions of fields: `Shape` without fields or if a field gives no direction, `Mixed` if the directions differ
+-- the fault of the directions of fields: `Shape` without fields or if a field gives no direction, `Mixed` if the directions differ,
+-- otherwise `None`
 abbrev pub fault_of_directions : List Value → Option IndexError
 fault_of_directions vs = result_err (ok_or (each_of field_direction vs) Shape >>= one_direction)

@@ -1,5 +1,5 @@
--- The laws of the order of preference, in which `Choice` takes the least usable index: it is total, and no two definitions of a
--- catalog tie.
+-- The laws of the order of preference, in which `Choice` takes the least usable index: it is total, no two definitions of a
+-- catalog tie, and the least of some definitions is one of them and is not above any of them.
 use Rattle.std.specs.Prelude.{◌≡◌, List, false, Some}
 use Rattle.std.specs.List.{All, Contains}
 use Rattle.std.specs.Cmp.{IsTotalOrder}

@@ -6,8 +6,8 @@ use Rattle.mg_index.specs.Definition.{IndexDefinition}
 use Rattle.mg_index.specs.declared.catalog.Slot.{Slot}
 use Rattle.mg_index.specs.declared.catalog.Slot.TheVariants.{At, Before}
 
--- the slot is right for d: it is at the definition of d's design document and name, or, if there is no such definition, before the
--- definition (or at the end) where d is to be inserted
+-- the slot is right for d: `At` the place of the definition with d's design document and name; if there is no such definition, `Before`
+-- the place at which adding d inserts it, which is the length of the list if d goes to the end
 abbrev pub IsSlotOf : IndexDefinition → List IndexDefinition → Slot → Type 0
 IsSlotOf d ds (At n) = (n < length ds) × (with_definition d ds ≡ slice_set ds n d) × ((x : IndexDefinition) → definition_at d.ddoc d.name ds ≡ Some (slice_index_or ds n x))
 IsSlotOf d ds (Before n) = (n ≤ length ds) × (with_definition d ds ≡ insert ds n d) × (definition_at d.ddoc d.name ds ≡ None)

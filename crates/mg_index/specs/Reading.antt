@@ -64,7 +64,8 @@ abbrev pub one_direction : List Direction → Result Direction IndexError
 one_direction [] = Err Shape
 one_direction (d ∷ ds) = if list_all (is_same d) ds then Ok d else Err Mixed
 
--- the columns of these fields, or their fault
+-- the columns of these fields, or their fault: `Shape` without fields, or if a field is not a column or its path has an empty step;
+-- otherwise `Mixed` if the directions differ
 abbrev pub columns_of : List Value → Result Columns IndexError
 columns_of vs =
     ok_or (each_of field_path vs) Shape >>= (λ texts.
@@ -73,14 +74,15 @@ columns_of vs =
     one_direction directions >>= (λ direction.
     Ok (record { texts = texts; steps = steps; direction = direction })))))
 
--- the columns of `fields`, which has to be an array that is not empty
+-- the columns of `fields`, or their fault; `Shape` if it is absent, not an array or an empty array
 abbrev pub columns_read : Option Value → Result Columns IndexError
 columns_read (Some (list vs)) = columns_of (item_list vs)
 columns_read v = Err Shape
 
 -- ---- the other members
 
--- the value of `ddoc` or `name`: `Some None` if it is absent; `None`, which is a fault, if it is an empty text or not a text
+-- the value of `ddoc` or `name`: `Some (Some t)` for a text t that is not empty; `Some None` if it is absent; `None`, which is a fault, for
+-- an empty text or for a value that is not a text
 abbrev pub text_given : Option Value → Option (Option (List ℕ))
 text_given None = Some None
 text_given (Some (text (c ∷ t))) = Some (Some (c ∷ t))
@@ -116,8 +118,8 @@ is_json_index v =
 
 -- ---- the definition
 
--- the definition of these columns; an absent name is the digest of the fields, and an absent design document is `_design/` and that
--- digest
+-- the definition of these columns. Without a given name, the name is the digest of the fields; without a given design document, the
+-- design document is `_design/` and the digest. `_design/` is put before a given design document that does not begin with it
 abbrev pub definition_named : Option (List ℕ) → Option (List ℕ) → Columns → IndexDefinition
 definition_named ddoc name c =
     let digest = fields_digest c.direction c.texts in
@@ -138,7 +140,8 @@ abbrev pub error_of_path : PathError → IndexError
 error_of_path path_fault.Empty = Shape
 error_of_path path_fault.NoMemory = NoMemory
 
--- a call returned what the definition gives, unless an allocation failed
+-- a call returned what the definition gives, where `seen` is what a value of the code stands for; after `NoMemory`, the definition may
+-- give anything
 abbrev pub ReadsAs : {X Y : Type 0} → (X → Y) → Result X IndexError → Result Y IndexError → Type 0
 ReadsAs seen (Ok x) r = r ≡ Ok (seen x)
 ReadsAs seen (Err NoMemory) r = Unit {0}

@@ -25,8 +25,8 @@ pub enum Choice {
     Index(usize),
 }
 
-// A usable index, its place in the catalog, and what decides its preference: whether the hint names it, and how many
-// of its columns are bounded.
+// A usable index, its place in the catalog, and what decides its preference besides its definition: whether the hint
+// names it, and how many of its columns are bounded.
 #[derive(Clone, Copy, Debug)]
 pub(crate) struct Candidate<'a> {
     definition: &'a IndexDef,

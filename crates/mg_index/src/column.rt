@@ -23,8 +23,8 @@ pub(crate) struct Columns {
 
 // Reads the columns of the array `fields`.
 //
-// Errors: `Shape` for an empty array, or for an item that is not a column; then `Mixed` for columns in both
-// directions. `NoMemory` if an allocation fails, even if the array has a fault.
+// Errors: `Shape` for an empty array, or for an item that is not a column or whose path has an empty step; otherwise
+// `Mixed` for columns in both directions. `NoMemory` if an allocation fails, even if the array has a fault.
 pub(crate) fn read_columns(alloc: Global, fields: &[Json]) -> Result<Columns, IndexError>
     ensures { ReadsAs columns_seen result (columns_read (Some (list (items_view fields.now)))) }
 {

@@ -53,8 +53,8 @@ impl IndexDef {
     /// - `index`, an object whose `fields` is an array of one or more columns, each `{path: "asc"}`,
     ///   `{path: "desc"}`, or the text of a path, which stands for an ascending column.
     /// - `ddoc` and `name`, texts that are not empty; either may be absent. `_design/` is put before a `ddoc`
-    ///   that does not begin with it. An absent name is the MD5, in lower-case hexadecimal, of the compact
-    ///   text of `{"fields":[{path: direction},..]}`, and an absent `ddoc` is `_design/` and that digest.
+    ///   that does not begin with it. Without `name`, the name is the MD5, in lower-case hexadecimal, of the compact
+    ///   text of `{"fields":[{path: direction},..]}`; without `ddoc`, the design document is `_design/` and that MD5.
     /// - `type`, which has to be `json`; `partial_filter_selector`, in the body or in `index`, which has to be
     ///   `{}`; `partitioned`, which has to be false. Each may be absent. Other members are ignored.
     ///

@@ -69,7 +69,8 @@ fn is_column(field: &Json) -> bool
     }
 }
 
-// Finds the fault of the directions, of which each field has one: `Shape` without fields, `Mixed` if they differ.
+// Finds the fault of the directions, of which each field has one: `Shape` without fields, `Mixed` if the directions
+// differ, otherwise `None`.
 fn direction_fault(fields: &[Json]) -> Option<IndexError>
     requires { is_some (each_of field_direction (map view fields.now)) ≡ true }
     ensures { result ≡ fault_of_directions (map view fields.now) }

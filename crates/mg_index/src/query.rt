@@ -7,7 +7,8 @@ use crate::definition::IndexDef;
 use mg_collate::Direction;
 use mg_path::Path;
 
-/// The sort of a query: its paths and their direction. Without a sort, there are no paths.
+/// The sort of a query: its paths and their direction. Without a sort, there are no paths, and the
+/// direction is ascending.
 #[derive(Debug, Drop)]
 pub struct Sort {
     pub paths: Vec<Path>,

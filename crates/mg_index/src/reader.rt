@@ -27,7 +27,7 @@ pub(crate) fn read_definition(alloc: Global, body: &Json) -> Result<IndexDef, In
     Ok(name_definition(alloc, ddoc, name, columns)?)
 }
 
-// Reads the columns of `fields`. Errors: `Shape` for no array; for an array, those of `read_columns`.
+// Reads the columns of `fields`. Errors: `Shape` if it is absent or not an array; for an array, those of `read_columns`.
 fn read_fields(alloc: Global, fields: Option<&Json>) -> Result<Columns, IndexError>
     ensures { ReadsAs columns_seen result (columns_read (option_map (λ j. view j.now) fields.entry)) }
 {
@@ -51,8 +51,9 @@ pub(crate) fn text_given(value: Option<&Json>) -> Result<Option<&str>, IndexErro
     }
 }
 
-// Makes the definition of these columns. An absent name is the digest of the fields, and an absent design document
-// is `_design/` and that digest. Errors: `NoMemory` if an allocation fails.
+// Makes the definition of these columns. Without a given name, the name is the digest of the fields; without a given
+// design document, the design document is `_design/` and the digest. `_design/` is put before a given design document
+// that does not begin with it. Errors: `NoMemory` if an allocation fails.
 fn name_definition(
     alloc: Global,
     ddoc: Option<&str>,

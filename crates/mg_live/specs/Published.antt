@@ -8,8 +8,8 @@ use Rattle.mg_live.specs.View.{commits_seen}
 use Rattle.mg_live.specs.SeatView.{tally_after}
 use Rattle.mg_live.specs.declared.commit_log.Prefix.{Prefix}
 
--- a write after these commits gets this answer and, if it is accepted, leaves these new commits, otherwise none. Or memory was refused, and
--- there is neither an answer nor new commits
+-- a write after the commits `cs` gets the answer `a`. If it is accepted, the last argument is the list of all commits with the write at its
+-- end, otherwise `None`. If the reply is `NoMemory`, both the answer and the list are `None`
 abbrev pub WriteLeaves : List ℕ → List Commit → Commit → Option Answer → Option (List Commit) → Type 0
 WriteLeaves name cs write None None = Unit {0}
 WriteLeaves name cs write None (Some new) = ⊥

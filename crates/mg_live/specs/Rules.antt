@@ -13,7 +13,8 @@ IsKept cells log = cells ≡ (length log, true) ∷ (0, true) ∷ []
 abbrev pub log_word_of : Book → Named
 log_word_of b = record { tracked = true; key = 0; book = b }
 
--- the entry was added right after the entries that had been seen; or the log was already longer, and now all its entries have been seen
+-- a step from what had been seen, `v`, to what is seen then, `w`, where the word was `found`. If this is the number that the step expects,
+-- its entry was added right after the entries of `v`; otherwise no entry was added, and `w` has all `found` entries of the log
 abbrev pub Adds : Step Entry → View Entry ℕ → ℕ → View Entry ℕ → Type 0
 Adds s v found w = MatchBool (found == s.old) (w.0 ≡ v.0 ++ s.ask ∷ []) (length w.0 ≡ found)
 

@@ -34,7 +34,8 @@ impl Database for Brand {
     ghost shards = { 0 };
 }
 
-/// Ends the writer of a database, once the `Live` and all seats are dropped or the database is closed.
+/// Ends the writer of a database, once the `Live` and all seats are dropped or the database is closed; also if `Live::open` fails after it
+/// has made the writer.
 pub trait EndsWriter: Drop {
     /// Ends the writer. May wait for readers.
     fn end<D: Database, P: Placement + Drop>(&self, writer: SnapshotWriter<D, P>)

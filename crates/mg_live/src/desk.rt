@@ -87,10 +87,10 @@ where
     // Executes a write of a seat, after all published commits, and returns its reply. If the write is accepted, it is published in one
     // step, and the seat's tally counts it. Unless the reply is `NoMemory`, the seat has then seen what is published. All memory is taken
     // before the commit is in the commit log, and nothing after that can fail. `publish` may wait for readers; the copy that it replaces
-    // comes back with the reply, so that the caller can drop it without the lock.
+    // comes back with the reply, so that the caller can drop it without the lock. If nothing was published, `None` comes back.
     //
-    // The reply is `NoMemory`, and nothing has changed, if an allocation fails, if there are too many references to the engine, if the
-    // seat has seen more commits than are published, or if the commit log is longer than what is published.
+    // The reply is `NoMemory`, and nothing has changed, if an allocation fails, if there are too many references to the engine or
+    // to a part of it, if the seat has seen more commits than are published, or if the commit log is longer than what is published.
     pub(crate) fn write<R: Wait + Threads + Sync>(
         &mut self,
         rt: &R,

@@ -172,7 +172,7 @@ where
 }
 
 // Returns the longest prefix of the commit log that a seat has seen; `empty` if there is no seat. What every other seat has seen is a
-// prefix of the result.
+// prefix of the result, which has at most `made` commits if each seat has seen at most so many.
 fn longest<D: Database, C: EndsWriter, P: Placement + Drop>(
     empty: &Prefix,
     seats: &[Seat<D, C, P>],
@@ -193,7 +193,7 @@ where
     longest
 }
 
-// Joins the seats' parts of the ledger, and drops the rest of the seats.
+// Joins the seats' parts of the ledger to `last_share`, and returns them as one. Drops all else that the seats hold.
 fn join_all<D: Database, C: EndsWriter, P: Placement + Drop>(
     last_share: Share<D>,
     seats: Vec<Seat<D, C, P>>,
@@ -218,7 +218,7 @@ where
 {
     /// Opens an empty database named `db`, with 1 to 64 shards, on which `placement` places the documents, and 1 to 16 seats, which are
     /// numbered from 0. `blank` is the new ledger of its tallies, with one part for each seat; `commit_log` is its new commit log. `ends`
-    /// ends the writer once this `Live` and all seats are dropped.
+    /// ends the writer once this `Live` and all seats are dropped or the database is closed.
     ///
     /// Errors: `NoMemory` if an allocation fails. Cost: the number of shards and of seats, and the name.
     pub fn open(

@@ -127,9 +127,9 @@ where
     /// for the writer's lock, and for seats that take a snapshot.
     ///
     /// The reply is `NoMemory` if an allocation fails, if there are too many references to the engine or to a part of it, or if the seat
-    /// has seen more commits than are published; a write is then not a commit, and leaves the seat as it was. A write after
-    /// 18,446,744,073,709,551,615 commits is refused as `TooLarge`. Cost: that of the engine's reply. The documents of a bulk are read from
-    /// the body in place.
+    /// has seen more commits than are published; a write is then not a commit, and leaves the seat as it was; at a read the seat may have
+    /// caught up. A write after 18,446,744,073,709,551,615 commits is refused as `TooLarge`. Cost: that of the engine's reply. The
+    /// documents of a bulk are read from the body in place.
     pub fn answer<R: Wait + Threads + Sync>(
         &mut self,
         rt: &R,

@@ -59,10 +59,10 @@ impl<P: Placement + Drop> Snapshot<P> {
         })
     }
 
-    // Executes a write after the commits of this snapshot, and returns its reply and, if the write is accepted, the snapshot after it; the
-    // commit is then in the commit log. The reply is `NoMemory`, and the commit log is unchanged, if an allocation fails, if there are too
-    // many references to the engine or to a part of it, or if the commit log is longer than the prefix of this snapshot. Cost: that of the
-    // engine's `commit_prepared`.
+    // Executes a write after the commits of this snapshot, and returns its reply and the snapshot after it; `None` unless the write is
+    // accepted. An accepted write is in the commit log. The reply is `NoMemory`, and the commit log is unchanged, if an allocation fails,
+    // if there are too many references to the engine or to a part of it, or if the commit log is longer than the prefix of this snapshot.
+    // Cost: that of the engine's `commit_prepared`.
     pub(crate) fn next<D: Database, R: Threads + Sync>(
         &self,
         rt: &R,

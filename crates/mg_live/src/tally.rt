@@ -23,7 +23,7 @@ impl<L: Ledger> Model for Tally<L> {
 }
 
 impl<L: Ledger> Tally<L> {
-    // Makes a tally of no commits, with one of the parts in `rest`.
+    // Makes a tally of no commits, with one of the parts in `rest`. If this is the last part, `rest` has to count no commits.
     pub(crate) fn new(rest: &mut Share<L>) -> Tally<L>
         requires part { 0 < rest.old.parts }
         requires backed { rest.old.parts ≡ 1 → rest.old.amount ≡ 0 }

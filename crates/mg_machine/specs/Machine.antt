@@ -44,7 +44,8 @@ commands_of cs = map (λ c. c.1) cs
 abbrev pub world_of : List ℕ → List Commit → World
 world_of name cs = world_after (empty_world name) (commands_of cs)
 
--- how many shards there are after commits: as many as the last reshard asked for, or as the database was opened with if none did
+-- how many shards there are after commits: as many as the last reshard asked for, or `first`, as the database was opened with, if there was
+-- no reshard
 abbrev pub shards_of : ℕ → List Commit → ℕ
 shards_of first cs = shards_after_all first (commands_of cs)
 
@@ -76,7 +77,7 @@ written name m seat c = (with_commits m seat (after_write name m.commits seat c)
 abbrev pub entered : Machine → ℕ → Machine
 entered m seat = with_seen m seat m.commits
 
--- the machine after a read of a seat, which is unchanged, and the reply after the commits that the seat has seen
+-- the machine, which a read of a seat does not change, and the reply after the commits that the seat has seen
 abbrev pub read : List ℕ → Machine → ℕ → Asked → Machine × Option Answer
 read name m seat c = (m, Some (reply_of (world_of name (seen_by m seat)) c))
 

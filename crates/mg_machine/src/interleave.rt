@@ -52,9 +52,9 @@ fn is_at(seats: usize, event: &Event) -> bool
     }
 }
 
-/// Replays events at `seats` seats of an empty database, which has one shard until a reshard, with one worker and on this thread alone.
-/// Returns for each event its reply: the complete reply to the command of a `Publish` or `Answer`, and `None` for `Enter` and `Told`. Each
-/// seat that the events name has to be one of these seats, which `are_at` tests.
+/// Replays events at `seats` seats of an empty database named `db`, with one worker and on this thread alone. The database has one shard
+/// until a reshard. Returns for each event its reply: the complete reply to the command of a `Publish` or `Answer`, and `None` for `Enter`
+/// and `Told`. Each seat that the events name has to be one of these seats, which `are_at` tests.
 ///
 /// Errors: `NoMemory` if an allocation fails anywhere, or if there are too many references to an engine or to a part of one; therefore no
 /// reply is `Reply::NoMemory`. A write after 18,446,744,073,709,551,615 commits is refused with 413 `too_large`. Cost: the number of seats

@@ -20,7 +20,8 @@ firsts_of heads = map (λ head. remaining head []) heads
 abbrev pub lent_first : {X : Type 0} → Option (Bor X) → List X
 lent_first head = remaining (option_map (λ x. x.now) head) []
 
--- what remains of each source: its head and its rest; the sources past the end of `heads` have not been pulled from yet
+-- what remains of each source: its head and its rest; the sources past the end of `heads` have not been pulled from yet; a head past
+-- the last source is left out
 abbrev pub all_remaining : {X : Type 0} → List (Option X) → List (List X) → List (List X)
 all_remaining [] rests = rests
 all_remaining (head ∷ heads) [] = []

@@ -5,7 +5,7 @@ use Rattle.std.specs.declared.cmp.Ordering.TheVariants.{Less, Equal, Greater}
 use Rattle.std.specs.Borrow.{Bor}
 use Rattle.std.specs.Ordering.{is_gt, nat_cmp, on, then_cmp}
 
--- what remains of each list, from slices
+-- what remains of each list, which is lent as a slice
 abbrev pub remaining_of : {X : Type 0} → List (Bor (List X)) → List (List X)
 remaining_of remaining = map (λ rest. rest.now) remaining
 
@@ -13,7 +13,7 @@ remaining_of remaining = map (λ rest. rest.now) remaining
 abbrev pub lent_of : {X : Type 0} → List (Bor X) → List X
 lent_of lent = map (λ x. x.now) lent
 
--- compares lists by their first elements; the empty list is greatest
+-- compares lists by their first items; an empty list is after all others, and two empty lists tie
 abbrev pub first_order : {X : Type 0} → (X → X → Ordering) → List X → List X → Ordering
 first_order order [] [] = Equal
 first_order order [] (y ∷ ys) = Greater

@@ -10,9 +10,9 @@ ghost use Rattle.mg_merge.specs.Sharding.{Document, rows_of, lists_of};
 use crate::ranked::Ranked;
 use mg_collate::Direction;
 
-/// Any shard may have a document, and a document may have any number of rows: the lists of all shards, joined
-/// and sorted, are the sorted rows of all documents, with no row lost or repeated. Therefore a merge of the
-/// lists gives the first rows of all documents.
+/// However documents are distributed over shards, each in one shard, and whatever rows each document has: the
+/// lists of all shards, joined and sorted, are the sorted rows of all documents, with no row lost or repeated.
+/// Therefore a merge of the lists gives the first rows of all documents.
 pub fn any_sharding()
     ensures joined_and_sorted { (direction : Direction) (rows : Document → List RowValue)
         (documents : List Document) (shards : List (List Document))

@@ -18,8 +18,8 @@ use std::alloc::Global;
 ///
 /// Errors: `NoMemory` if an allocation fails.
 /// Cost: a copy of each row of the result; one comparison fewer than there are lists, and for each row of the
-/// result at most as many comparisons as the logarithm of the number of lists to base 2, rounded up. Of the
-/// rows that are not in the result, at most the first one of each list is read. Memory: for each row of the
+/// result at most as many comparisons as the logarithm of the number of lists to base 2, rounded up. In each
+/// list at most one row that is not in the result is read: the first such row. Memory: for each row of the
 /// result its copy and a reference, however large `take` is; for each list a slice and three numbers.
 pub fn merge(
     alloc: Global,

@@ -1,8 +1,8 @@
 -- The atoms of a selector: operators that have to hold for it to hold, each on the part at a path from the top of the document. Key
 -- ranges come from atoms alone.
--- If one of several arms is enough, no arm has to hold. If there is only one arm, that arm has to hold; but, by the project's own choice,
--- its atoms are taken only in a negated object: a plain `$or`, a negated `$and` and a negated `$nor` have no atoms. `$elemMatch` and
--- `$allMatch` are atoms as a whole, since the operators inside them are evaluated on elements.
+-- Where one of several arms is enough, no single arm has to hold. Where one arm is enough and there is only one, that arm has to hold; but,
+-- by the project's own choice, its atoms are taken only if the arms are a negated object's: a plain `$or`, a negated `$and` and a negated
+-- `$nor` never have atoms. `$elemMatch` and `$allMatch` are atoms as a whole, since the operators inside them are evaluated on elements.
 use Rattle.std.specs.Prelude.{ℕ, Bool, List, [], ◌∷◌, ◌++◌, Option, option_and_then}
 use Rattle.mg_value.specs.Value.{Value}
 use Rattle.mg_path.specs.Part.{part_of}
@@ -17,15 +17,15 @@ pub record Atom : Type 0 where
   pub operator : Operator
   pub sense : Sense
 
--- the operator holds, in the sense, of the document's part at the steps
+-- the operator holds, in the sense, of the document's part at the steps; the document or the part may be missing
 abbrev pub atom_holds : Option Value → Atom → Bool
 atom_holds x a = operator_holds a.operator a.sense (option_and_then (part_of a.steps) x)
 
 abbrev mutual
   -- the atoms of a selector, in a sense, on the part at the steps
   pub atoms_in : Selector → Sense → List (List ℕ) → List Atom
-  -- an object: the atoms of its members in the plain sense; in the negated sense those of its only member, and none unless it has one
-  -- member
+  -- an object, in the plain sense: the atoms of all its members; in the negated sense: those of its only member, or none if it has no
+  -- member or several
   atoms_in (members ss) Plain steps = arms_atoms ss Plain steps
   atoms_in (members ss) Negated steps = only_atoms ss Negated steps
   -- arms: the atoms of all arms if all have to hold, and none if one arm is enough

@@ -1,4 +1,4 @@
--- Why a search may begin with atoms: a selector holds only of documents of which all its atoms hold.
+-- Why a search may read only the key range of a selector's atoms: the selector holds only of documents of which all its atoms hold.
 use Rattle.std.specs.Prelude.{◌≡◌, true, Option}
 use Rattle.std.specs.List.{All}
 use Rattle.mg_value.specs.Value.{Value}

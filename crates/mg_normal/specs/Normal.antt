@@ -19,11 +19,11 @@ pub record NormalForm : Type 0 where
 abbrev pub normal_code : Coded NormalForm
 normal_code = code_by (List Atom × Option Condition) (coded× (coded_list atom_code) (coded_option condition_code)) (λ n. (n.atoms, n.rest)) (λ p. record { atoms = p.0; rest = p.1 }) (λ _. refl)
 
--- each of the atoms holds of the document
+-- each of the atoms holds of the document, which may be missing; true without atoms
 abbrev pub all_hold : Option Value → List Atom → Bool
 all_hold x atoms = list_all (atom_holds x) atoms
 
--- the condition holds of the document; true without a condition
+-- the condition holds of the document, which may be missing; true without a condition
 abbrev pub rest_holds : Option Condition → Option Value → Bool
 rest_holds None x = true
 rest_holds (Some f) x = condition_holds f x

@@ -8,7 +8,7 @@ use Rattle.mg_normal.specs.Atoms.{Atom, atoms_in}
 use Rattle.mg_normal.specs.Condition.{Condition, Conditions, all_of, any_of, within, asked, no_conditions, condition, condition_holds}
 
 abbrev mutual
-  -- the operators that have to hold for the condition to hold, on the part at the steps
+  -- the atoms of a condition on the part at the steps: all its operators but those inside an `any_of`, even if that has only one condition
   pub condition_atoms : Condition → List (List ℕ) → List Atom
   condition_atoms (all_of fs) steps = conditions_atoms fs steps
   condition_atoms (any_of fs) steps = []
@@ -43,7 +43,7 @@ abbrev mutual
   rests_of no_conditions = no_conditions
   rests_of (condition f fs) = with_left (rest_of f) (rests_of fs)
 
--- the condition holds of exactly the parts that `holds` accepts, and has these atoms for the given steps
+-- the condition holds of exactly the parts that `holds` accepts, and for any steps its atoms are those that `atoms` gives for these steps
 abbrev pub Says : (Option Value → Bool) → (List (List ℕ) → List Atom) → Condition → Type 0
 Says holds atoms f = ((x : Option Value) → condition_holds f x ≡ holds x) × ((steps : List (List ℕ)) → condition_atoms f steps ≡ atoms steps)
 

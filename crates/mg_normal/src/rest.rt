@@ -9,9 +9,10 @@ use mg_path::Path;
 use mg_value::{NoMemory, copy_texts};
 use std::alloc::Global;
 
-// Makes an atom of each operator that a condition requires in every case, and adds it to `atoms`. Returns what else the
-// condition requires, if anything. The condition is on the part of the document at `steps`. On success `steps` is
-// as it was. Errors: `NoMemory` if an allocation fails; then `atoms` and `steps` may have more items than before.
+// Makes an atom of each operator in a condition, and adds it to `atoms`; leaves out the operators inside an `Any`, even if that has only
+// one condition. Returns what else the condition requires; `None` if it requires nothing else. The condition is on the part of the
+// document at `steps`. On success `steps` is as it was. Errors: `NoMemory` if an allocation fails; then `atoms` and `steps` may have more
+// items than before.
 #[cycle(take_atoms)]
 pub(crate) fn take_atoms(
     alloc: Global,
@@ -70,8 +71,8 @@ fn take_all(
     Ok(rest)
 }
 
-// Does what `take_atoms` does, for a condition on the part at the path, which begins at the part at `steps`. If the
-// condition is an operator, the path's steps are moved into its atom.
+// Does what `take_atoms` does for `Condition::At(path, inner)`; the path begins at the part at `steps`. If `inner` is an operator, the
+// path's steps are moved into its atom.
 #[cycle(take_atoms)]
 fn take_at(
     alloc: Global,

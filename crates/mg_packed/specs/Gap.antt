@@ -25,7 +25,7 @@ offset_in entries i = length (concat (take i entries))
 abbrev pub with_entry : ℕ → ℕ → List ℕ → List (List ℕ) → List (List ℕ)
 with_entry n m entry entries = take n entries ++ entry ∷ drop m entries
 
--- the entries of the object at the front of the bytes
+-- the entries of the object at the front of the bytes; no entries if another value is there
 abbrev pub entries_in : List ℕ → List (List ℕ)
 entries_in b = member_entries (members_in b)
 

@@ -65,6 +65,6 @@ IsMemberPushed k j old new = IsUtf8 k × ((v : Value) × IsTreeOf j v × IsStore
 abbrev pub AreItemsPushed : List (Tree Global) → List ℕ → List ℕ → Type 0
 AreItemsPushed ts old new = (vs : Items) × ItemsMatch ts vs × (new ≡ old ++ (offsets 0 (item_entries vs) ++ concat (item_entries vs)))
 
--- the members, sorted by name, are those that the members of the tree stand for
+-- the members of the parse tree, sorted by name, stand for these members
 abbrev pub AreSortedMembers : json.Members → Members → Type 0
 AreSortedMembers js ms = (es : List TreeMember) × IsSorting es js × Ascend es × MembersMatch es ms

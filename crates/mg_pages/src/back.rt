@@ -25,8 +25,8 @@ impl<'a, T: Keyed> Model for Back<'a, T> {
     ghost view = { λ it. reverse (ended T.order it.pages.now it.run.now) };
 }
 
-// Finds the run with which to continue before `last`: `run`, which is what is left of the current run; if `run` is empty, the run
-// that ends before `last`; empty if no element is left.
+// Finds the run with which to continue once `last`, the last element of the current run, is taken: `run`, which is the current run without
+// `last`; or, if `run` is empty, the run that ends just before `last`. The result is empty if no element is left.
 fn run_before_last<'a, T: Keyed>(pages: &'a Pages<T>, run: &'a [T], last: &'a T) -> &'a [T]
     ensures { ended T.order pages.now (run.now ++ last.now ∷ [])
         ≡ ended T.order pages.now result.now ++ last.now ∷ [] }
@@ -69,8 +69,9 @@ impl<'a, T: Keyed> Back<'a, T> {
         self.run = run_before_skip(self.pages, run, count);
     }
 
-    /// Returns the first element of the current run (the rest of the current page), which is the one that the iterator reaches last, and
-    /// its place among the elements that are left, in the iterator's order; `None` if no element is left. Takes no memory. Cost: constant.
+    /// Returns the first element of the current run (the rest of the current page), which the iterator reaches after all others of the run,
+    /// and its place among the elements that are left, in the iterator's order, from 0; `None` if no element is left. Takes no memory.
+    /// Cost: constant.
     pub fn run_end(&self) -> Option<(usize, &'a T)>
         ensures { MatchOption result (self.now ≡ []) (λ end. slice_get self.now end.0 ≡ Some end.1.now) }
     {

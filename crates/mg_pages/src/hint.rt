@@ -94,8 +94,8 @@ impl Hints {
     }
 
     /// Guesses the place of a key with the hint `number`. If the hints never fall, this is the place of the first hint that is not below
-    /// `number`, or the number of hints if there is no such hint. If several hints equal `number`, it is the place of the middle one of
-    /// these; but for the greatest `u64` it is that of the first.
+    /// `number`, or the number of hints if there is no such hint; except that, if several hints equal `number`, it is the place of the
+    /// middle one of these (for the greatest `u64`, of the first).
     pub fn guess(&self, number: u64) -> usize {
         let first = begin_of(&self.numbers, number);
         match self.numbers.get(first.saturating_add(1)) {
@@ -115,7 +115,7 @@ fn hints_of(alloc: Global, given: &[u64]) -> Result<Hints, AllocError> {
     Ok(Hints { numbers })
 }
 
-/// How many hints a search passes over at a time, before it looks at each.
+/// How many hints a search steps over at once; at the end it looks at up to as many one by one.
 pub const STEP: usize = 8;
 
 // Finds the place of the first hint that is not below `number`, if the hints never fall; the number of hints if there is no such hint. For

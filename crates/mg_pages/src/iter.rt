@@ -73,8 +73,8 @@ impl<'a, T: Keyed> Iter<'a, T> {
         self.run = run_after_skip(self.pages, run, count);
     }
 
-    /// Returns the last element of the current run (the rest of the current page), and its place among the elements that are left; `None`
-    /// if no element is left. Takes no memory. Cost: constant.
+    /// Returns the last element of the current run (the rest of the current page), and its place among the elements that are left, from 0;
+    /// `None` if no element is left. Takes no memory. Cost: constant.
     pub fn run_end(&self) -> Option<(usize, &'a T)>
         ensures { MatchOption result (self.now ≡ []) (λ end. slice_get self.now end.0 ≡ Some end.1.now) }
     {

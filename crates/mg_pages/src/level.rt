@@ -26,7 +26,8 @@ impl<T: Drop, P: Drop> Drop for Level<T, P> {
     }
 }
 
-// Returns the count after an insertion: `more`, which is one more than before; if an element was replaced, one less than `more`.
+// Returns the count after an insertion. `more` is the count before it, plus one; `had` says whether an element was replaced, and then the
+// count stays what it was.
 fn count_after_put(more: usize, had: bool) -> usize
     requires { 0 < more }
     ensures over { had ≡ true → result + 1 ≡ more }

@@ -43,8 +43,8 @@ fn guess_for<T: Keyed, P: Subtree<T>, Q: Probe<T>>(parts: &[Child<T, P>], key: &
 }
 
 /// Finds the index of the part where a key belongs: the elements of earlier parts are below the key, those of later parts above it.
-/// Cost: the logarithm of the number of parts, in comparisons with last elements, and a read of the hint of every eighth part before
-/// the guess. No part is read.
+/// Cost: the logarithm of the number of parts, in comparisons with last elements, and reads of hints: that of every eighth part before
+/// the guess, and at most eight more. No part is read.
 pub fn place<T: Keyed, P: Subtree<T>, Q: Probe<T>>(parts: &[Child<T, P>], key: &Q) -> usize
     requires some { 0 < length parts.now }
     requires whole { AreWhole (child_whole P.is_whole P.seen) (children parts.now) }
@@ -134,7 +134,7 @@ pub fn page_among<T: Keyed, P: Subtree<T>>(parts: &[Child<T, P>], place: usize) 
     (&[], 0)
 }
 
-/// Removes from the parts the element that ties with a key. A part that is then empty is removed too.
+/// Removes from the parts the element that ties with a key; there must be such an element. A part that is then empty is removed too.
 ///
 /// Errors: those of `Subtree`; then no element has changed. Cost: the logarithm of the number of elements, and a copy
 /// of each part on the way that others share.

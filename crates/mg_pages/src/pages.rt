@@ -94,8 +94,8 @@ impl<T: Keyed> Pages<T> {
     }
 
     /// Finds the element that ties with the key; `None` if there is no such element. Takes no memory. Cost: one comparison if the hints
-    /// lead to the element, otherwise the logarithm of the number of elements; and on each level a read of the hint of every eighth part
-    /// before the element's.
+    /// lead to the element, otherwise the logarithm of the number of elements; and reads of hints on each level and in the page: that of
+    /// every eighth part or element before the guess, and a few more.
     #[inline(always)]
     pub fn get<Q: Probe<T>>(&self, key: &Q) -> Option<&T>
         ensures { option_map (λ t. t.now) result ≡ found (Q.against key.now) self.now }

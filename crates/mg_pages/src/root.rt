@@ -58,7 +58,7 @@ pub fn put<T: Keyed>(alloc: Global, root: &mut Root<T>, element: T) -> Result<bo
     Ok(had)
 }
 
-/// Removes the element that ties with a key from under a root that may be empty.
+/// Removes the element that ties with a key; there must be such an element. The root may then be empty.
 pub fn take_out<T: Keyed, Q: Probe<T>>(
     alloc: Global,
     root: &mut Root<T>,
@@ -78,7 +78,8 @@ pub fn take_out<T: Keyed, Q: Probe<T>>(
     Ok(())
 }
 
-/// Finds the element that ties with a key, if the hints lead to the element; otherwise `None`. Cost: one comparison.
+/// Finds the element that ties with a key, if the hints lead to the element; otherwise `None`. Cost: at most one comparison,
+/// and reads of hints on each level and in the page.
 #[inline(always)]
 pub fn find_tie<'a, T: Keyed, Q: Probe<T>>(root: &'a Root<T>, key: &Q) -> Option<&'a T>
     requires { IsSound T.order root.now }
@@ -98,7 +99,8 @@ pub fn find_tie<'a, T: Keyed, Q: Probe<T>>(root: &'a Root<T>, key: &Q) -> Option
 }
 
 /// Lends the first elements above a key, up to the end of their page; `None` unless the hints lead to a page that has elements on both
-/// sides of the key, none of which ties with it. Cost: the logarithm of the elements of one page, in comparisons.
+/// sides of the key, none of which ties with it. Cost: the logarithm of the number of elements in one page, in comparisons, and reads of
+/// hints on each level and in the page.
 pub fn guessed_run_after<'a, T: Keyed, Q: Probe<T>>(root: &'a Root<T>, key: &Q) -> Option<&'a [T]>
     requires { IsSound T.order root.now }
     ensures { IfSome result (λ run. IsRun run.now (above (Q.against key.now) (root_seen root.now))) }

@@ -16,8 +16,8 @@ pub const FILL: usize = 48;
 
 /// A page or a level, with the elements in it, in order. A subtree is a part of the level above it, if there is such a level.
 ///
-/// Errors: `AllocError` if an allocation fails, if a block has 2^63 - 1 owners, or if a level would have 2^64 elements. After an
-/// error, no element has changed.
+/// Errors: `AllocError` if an allocation fails, if a block that gets another owner has 2^63 - 1 owners, or if `put` is called on a level
+/// that has 2^64 - 1 elements. After an error, no element has changed.
 pub trait Subtree<T: Keyed>: Drop + Sized {
     // the elements
     ghost seen: { Self → List T };
@@ -47,7 +47,8 @@ pub trait Subtree<T: Keyed>: Drop + Sized {
         requires sorted { Ascends T.order (seen self.now) }
         ensures { option_map (λ t. t.now) result ≡ found (Q.against key.now) (seen self.now) };
 
-    /// Finds the page to which the hints lead for a key with the hint `number`, and a guess of the key's place in it. Compares no element.
+    /// Finds the page to which the hints lead for a key with the hint `number`, and a guess of the key's place in it, which may be just
+    /// past its last element. Compares no element.
     fn guessed_page(&self, number: u64) -> (&[T], usize)
         requires { is_whole self.now }
         ensures { IsPiece result.0.now (seen self.now) };
@@ -103,7 +104,7 @@ pub trait Subtree<T: Keyed>: Drop + Sized {
         ensures ok { OnOk result (seen self.new ≡ inserted T.order element (seen self.old)) }
         ensures err { OnErr result (seen self.new ≡ seen self.old) };
 
-    /// Removes the element that ties with a key, and returns whether the part is then empty.
+    /// Removes the element that ties with a key, and returns whether the part is then empty. There must be such an element.
     fn take_out<Q: Probe<T>>(&mut self, alloc: Global, key: &Q) -> Result<bool, AllocError>
         requires whole { is_whole self.old }
         requires sorted { Ascends T.order (seen self.old) }

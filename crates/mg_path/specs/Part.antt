@@ -20,7 +20,7 @@ abbrev pub is_empty : List ℕ → Bool
 is_empty [] = true
 is_empty (c ∷ cs) = false
 
--- the pieces, with the character c put before the first piece
+-- the pieces, with the character c at the front of the first one; without pieces, c alone is a piece
 abbrev pub before_first_piece : ℕ → List (List ℕ) → List (List ℕ)
 before_first_piece c [] = (c ∷ []) ∷ []
 before_first_piece c (step ∷ steps) = (c ∷ step) ∷ steps
@@ -59,8 +59,8 @@ abbrev pub part_of : List (List ℕ) → Value → Option Value
 part_of [] v = Some v
 part_of (step ∷ steps) v = option_and_then (part_of steps) (part_of_step step v)
 
--- the value with the part placed under the steps, as names of nested objects, in place of what is there; if a value on
--- the way is not an object, nothing changes
+-- the value with the part placed under the steps, as names of nested objects, in place of what is there; without steps, the part
+-- itself; an object that is missing on the way is made; if a value on the way is not an object, nothing changes
 abbrev pub placed : List (List ℕ) → Value → Value → Value
 placed [] part v = part
 placed (step ∷ steps) part (object ms) = object (put step (placed steps part (unwrap_or (get_member step ms) (object no_members))) ms)

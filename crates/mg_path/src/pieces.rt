@@ -27,7 +27,7 @@ pub(crate) fn has_empty_piece(text: &str) -> bool
 }
 
 // Cuts the text into its pieces, including the empty ones. A text without a dot, which is the most common path, is
-// copied in one step, and its memory has no unused room.
+// copied whole as the only piece, and the memory has no unused room.
 pub(crate) fn pieces(alloc: Global, text: &str) -> Result<Vec<String>, NoMemory>
     ensures { IfOk result (λ pieces. map string_bytes pieces.items ≡ pieces_of text.now) }
 {

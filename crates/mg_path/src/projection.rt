@@ -32,8 +32,8 @@ pub fn project<L: LentValue>(alloc: Global, value: L, paths: &[Path]) -> Result<
     Ok(projected)
 }
 
-// Places the part under the steps in the value; without steps the part replaces the value. If a value on the way is not
-// an object, nothing changes.
+// Places the part under the steps in the value; without steps the part replaces the value. An object that is missing on
+// the way is made; if a value on the way is not an object, nothing changes.
 #[cycle(place)]
 fn place(alloc: Global, value: Json, steps: &[String], part: Json) -> Result<Json, NoMemory>
     ensures { IfOk result (λ filled. view filled

@@ -15,7 +15,7 @@ use Rattle.mg_query.specs.declared.error.QueryError.TheVariants.{Shape as wrong_
 use Rattle.mg_query.specs.declared.member.Members as code
 use Rattle.mg_query.specs.declared.member.GivenHint as code_hint
 
--- members whose shapes are right, except for paths and directions, which are not read yet
+-- the members of a body whose shapes are right, apart from the items of `fields` and `sort`; selector and bookmark are not read yet
 pub record Given : Type 0 where
   pub selector : Value
   pub fields : List Value
@@ -26,7 +26,7 @@ pub record Given : Type 0 where
   pub bookmark : List ℕ
   pub conflicts : Bool
 
--- the members of a body, before paths and directions are read; `None` if one has a wrong shape
+-- the members of a body, before paths and directions are read; `None` if one has a wrong shape, or `selector` is missing
 abbrev pub given : Value → Option Given
 given v =
     option_and_then (λ selector. option_and_then (λ fields. option_and_then (λ limit. option_and_then (λ skip. option_and_then (λ sort.
@@ -60,7 +60,7 @@ parsed g =
     option_and_then (λ fields. option_and_then (λ sort. option_map (λ directions. with_parts g fields sort directions)
     (each_of field_direction g.sort)) (each_of sort_path g.sort)) (each_of path_of g.fields)
 
--- the query of given members, or their first fault; `fields` is the member as it was given
+-- the query of given members, or their first fault; `fields` is the member as it was given, `None` if it was absent
 abbrev pub query_given : Option Value → Given → Result Query QueryError
 query_given fields g = ok_or (parsed g) wrong_shape >>= query_with fields
 

@@ -20,7 +20,7 @@ use Rattle.mg_query.specs.Query.{Query}
 abbrev pub row_at : RowPlace → RowValue
 row_at p = (p.key, p.id)
 
--- what a shard lists for a query, in an index of these columns: at most as many rows as the page skips and shows
+-- the rows of an index of these columns that a shard hands over, at most skip + limit, for a query whose selector has this normal form
 abbrev pub shard_rows : NormalForm → List Steps → Query → ShardView → List RowValue
 shard_rows normal columns q s =
     first_matches (input_of_parts normal (range_of normal.atoms columns) (option_map row_at q.bookmark) (q.skip + q.limit) q.direction columns) (docs_of s.documents)

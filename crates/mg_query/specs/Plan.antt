@@ -47,11 +47,11 @@ pub record IsSearchOf (q : Query) (a : Plan) (s : Search) : Type 0 where
   pub take : s.take ≡ q.skip + q.limit
   pub direction : s.direction ≡ q.direction
 
--- the rows that a shard lists for the query
+-- the rows that a shard hands over for the query, by its plan
 abbrev pub rows_asked_of : Query → Plan → ShardView → List RowValue
 rows_asked_of q a = shard_rows a.normal (source_columns (source_seen a.source)) q
 
--- the hits are the first of what all shards list; each is of a document of one of the shards
+-- the hits are the first of all shards together, at most skip + limit; each is of a document of one of the shards
 pub record AreFirst (q : Query) (a : Plan) (shards : List ShardView) (found : List Hit) : Type 0 where
   pub rows : hit_rows found ≡ merged q.direction (q.skip + q.limit) (map (rows_asked_of q a) shards)
   pub hits : AreHitsIn shards found

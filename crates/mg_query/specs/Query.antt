@@ -59,7 +59,7 @@ abbrev pub error_of_path : PathError → QueryError
 error_of_path path_fault.Empty = Shape
 error_of_path path_fault.NoMemory = NoMemory
 
--- ---- members; `None` stands for a wrong shape
+-- ---- members: as an argument, `None` stands for an absent member; as a result, for a wrong shape
 
 -- `selector`, an object, which must be there
 abbrev pub selector_given : Option Value → Option Value
@@ -93,7 +93,7 @@ count_of otherwise None = Some otherwise
 count_of otherwise (Some (whole (pos n))) = if nat_le n greatest_count then Some n else None
 count_of otherwise (Some v) = None
 
--- the path of a sort's field
+-- the path of a sort's field; `None` if the field has no path, or the path has an empty step
 abbrev pub sort_path : Value → Option Steps
 sort_path v = option_and_then steps_of (field_path v)
 
@@ -151,7 +151,7 @@ infixl 10 ◌>>◌
 abbrev pub ◌>>◌ : {A B : Type 0} → Option A → (A → Option B) → Option B
 o >> f = option_and_then f o
 
--- the members of a body; `None` if one has a wrong shape. A member that is not named here is ignored
+-- the members of a body; `None` if one has a wrong shape, or `selector` is missing. A member that is not named here is ignored
 abbrev pub shaped : Value → Option Shaped
 shaped v =
     selector_given (member_of (codes "selector") v) >> (λ selector.
@@ -176,7 +176,7 @@ shaped v =
       conflicts = conflicts;
     })))))))))))
 
--- the query of members whose shapes are right, or the first of its other faults; `fields` is the member as it was given
+-- the query of members whose shapes are right, or the first of their other faults; `fields` is the member as given, `None` if absent
 abbrev pub query_with : Option Value → Shaped → Result Query QueryError
 query_with fields m =
     selector_or_fault (reading m.selector) >>= (λ selector.

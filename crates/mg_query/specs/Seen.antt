@@ -42,7 +42,7 @@ Fails BadBookmark r = r ≡ Err BadBookmark
 Fails MixedSort r = r ≡ Err MixedSort
 Fails NoMemory r = Unit {0}
 
--- the call returned what the definition reads, unless an allocation failed
+-- the call returned what the definition reads, or its fault, unless an allocation failed; `seen` gives what a value of the code stands for
 abbrev pub ReadsAs : {X Y : Type 0} → (X → Y) → Result X QueryError → Result Y QueryError → Type 0
 ReadsAs seen (Ok x) r = r ≡ Ok (seen x)
 ReadsAs seen (Err e) r = Fails e r

@@ -16,7 +16,7 @@ FailsAs NoUsableIndex r = r ≡ Err no_usable_index
 FailsAs BadBookmark r = r ≡ Err bad_bookmark
 FailsAs NoMemory r = Unit {0}
 
--- the call returned what the definition gives, unless an allocation failed
+-- the call returned what the definition gives, or its fault, unless an allocation failed; `seen` gives what a value of the code stands for
 abbrev pub PageAnswers : {X Y : Type 0} → (X → Y) → Result X PageError → Result Y Unanswered → Type 0
 PageAnswers seen (Ok x) r = r ≡ Ok (seen x)
 PageAnswers seen (Err e) r = FailsAs e r

@@ -1,4 +1,4 @@
-//! What a query finds for its page: the first hits of all shards together.
+//! What a query finds for its page: the first hits of all shards together; `find_page` may leave out those that the page skips.
 ghost use Rattle.std.specs.Prelude.{◌≡◌, ◌+◌, IfOk, drop, length, option_map};
 ghost use Rattle.mg_shard.specs.Shard.{HaveIndexes, shards_seen};
 ghost use Rattle.mg_shard.specs.Dealt.{Placing, ShardsStandFor};
@@ -46,7 +46,7 @@ pub(crate) struct PageHits<'a> {
 }
 
 // The plan of a query: the index that serves it, its selector in normal form, its range of keys in that index, the row of its bookmark as
-// bytes, and whether the range decides the whole selector.
+// bytes, and `is_decided`, which is true only if the range decides the whole selector.
 #[derive(Drop)]
 pub(crate) struct Plan<'a> {
     pub(crate) source: Source<'a>,

@@ -16,7 +16,8 @@ const GREATEST_COUNT: i64 = 2_147_483_647;
 // The bookmark that stands for the first page.
 const NO_BOOKMARK: &str = "nil";
 
-// The members of a body whose shapes are right. Paths and directions are checked later.
+// The members of a body whose shapes are right, apart from the items of `fields` and `sort`: these are checked later, and the selector and
+// the bookmark are read later.
 #[derive(Clone, Copy, Debug)]
 pub(crate) struct Members<'a> {
     pub(crate) selector: &'a Json,
@@ -29,7 +30,7 @@ pub(crate) struct Members<'a> {
     pub(crate) conflicts: bool,
 }
 
-// `use_index` as it is given: nothing, a design document, or a design document and a name.
+// `use_index` as it is given: nothing (absent or `[]`), a design document, or a design document and a name.
 #[derive(Clone, Copy, Debug)]
 pub(crate) enum GivenHint<'a> {
     None,

@@ -19,8 +19,8 @@ use std::alloc::Global;
 use std::sync::Arc;
 use std::thread::Threads;
 
-// A page that skips and shows at most this many rows is small if its range has a limit on the first column: a thread costs some 100 µs, a
-// row at most 1 µs.
+// A page that skips and shows at most this many rows is small if the range of its query has a bound on the first column and is not empty: a
+// thread costs some 100 µs, a row at most 1 µs.
 const SMALL_PAGE: usize = 1000;
 
 // A page that shows at most this many rows is small if its range decides the whole selector, whatever it skips: the caller's thread looks

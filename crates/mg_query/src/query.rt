@@ -51,7 +51,8 @@ impl<'a> Query<'a> {
     /// - `limit` and `skip`, whole numbers from 0 to 2,147,483,647; 25 and 0 if they are absent.
     /// - `sort`, an array whose items are each a path, for ascending order, or `{path: "asc"}` or `{path: "desc"}`; empty if it is absent.
     /// - `fields`, an array whose items are paths. If it is absent or empty, documents are shown whole.
-    /// - `use_index`, a design document, or an array: `[]`, `[ddoc]` or `[ddoc, name]`; `ddoc` may lack `_design/`. It may be absent.
+    /// - `use_index`, a design document, or an array: `[]`, `[ddoc]` or `[ddoc, name]`; `ddoc` may lack `_design/`.
+    ///   If it is absent or `[]`, no index is preferred.
     /// - `conflicts`, true or false; false if it is absent.
     /// - `bookmark`, a text; `nil`, for the first page, if it is null or absent.
     ///

@@ -53,14 +53,14 @@ RangeDecidesAtoms =
     (atoms : List Atom) (columns : List Steps) (v : Value) (key : List Value) → HasKey columns v key
     → all_hold (Some v) atoms ≡ (has_key (range_of atoms columns) key && all_hold (Some v) (undecided atoms columns))
 
--- if the range decides each atom, and a normal form has nothing besides atoms, the normal form holds if and only if the range has the
--- document's key
+-- if a document has every column, and a normal form has nothing besides atoms, each of which the range decides, the normal form holds of
+-- the document if and only if the range has the document's key
 abbrev pub RangeDecidesForm : Type 0
 RangeDecidesForm =
     (n : NormalForm) (columns : List Steps) (v : Value) (key : List Value) → is_some n.rest ≡ false → decides_of n.atoms columns ≡ true
     → HasKey columns v key → normal_holds n (Some v) ≡ has_key (range_of n.atoms columns) key
 
--- a selector with such a normal form holds if and only if the range has the document's key
+-- a selector with such a normal form holds of a document that has every column if and only if the range has the document's key
 abbrev pub RangeDecides : Type 0
 RangeDecides =
     (s : Selector) (n : NormalForm) (columns : List Steps) (v : Value) (key : List Value) → IsNormalOf s n

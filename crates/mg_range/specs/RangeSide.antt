@@ -20,8 +20,9 @@ admits false order = is_gt order
 abbrev pub is_within : Direction → Limit → Value → Bool
 is_within direction l v = admits l.inclusive (order_from direction v l.value)
 
--- whether a key is before the span of these fixed values and this lower limit: the first value that differs from its fixed value
--- decides; if none differs, the limit decides. A key that has no value for a fixed one or for the limit is before
+-- whether a key is before the span of these fixed values and this lower limit. The first value that differs from its fixed value decides;
+-- if none differs, the limit decides by the next value, and without a limit the key is not before. A key that ends before the value that
+-- decides is before
 abbrev pub is_before : List Value → Option Limit → List Value → Bool
 is_before (e ∷ es) lower (v ∷ vs) = match_ordering (value_order v e) true (is_before es lower vs) false
 is_before (e ∷ es) lower [] = true
@@ -29,8 +30,9 @@ is_before [] (Some l) (v ∷ vs) = not (is_within Asc l v)
 is_before [] (Some l) [] = true
 is_before [] None key = false
 
--- whether a key is past the span of these fixed values and this upper limit: the first value that differs from its fixed value
--- decides; if none differs, the limit decides. A key that has no value for a fixed one or for the limit is not past
+-- whether a key is past the span of these fixed values and this upper limit. The first value that differs from its fixed value decides;
+-- if none differs, the limit decides by the next value, and without a limit the key is not past. A key that ends before the value that
+-- decides is not past
 abbrev pub is_past : List Value → Option Limit → List Value → Bool
 is_past (e ∷ es) upper (v ∷ vs) = match_ordering (value_order v e) false (is_past es upper vs) true
 is_past (e ∷ es) upper [] = false

@@ -116,8 +116,8 @@ fn keep_limit(alloc: Global, limit: Option<LentLimit<'_>>) -> Result<Option<Limi
     }
 }
 
-// Whether the key is before, within or past the span. A key that ends before the fixed values do, and agrees with
-// them so far, is before the span.
+// Whether the key is before, within or past the span. A key whose values all equal their fixed values, and that has
+// fewer values than there are fixed ones, is before the span.
 pub(crate) fn side_in(span: &Span, key: &[Json]) -> RangeSide
     ensures { result ≡ side_from (map view span.now.equal.items) (option_map limit_seen span.now.lower)
         (option_map limit_seen span.now.upper) (map view key.now) }
@@ -135,7 +135,8 @@ pub(crate) fn side_in(span: &Span, key: &[Json]) -> RangeSide
     side_at_limits(&span.lower, &span.upper, &key[span.equal.len()..])
 }
 
-// Whether a key is before, within or past the limits, where `rest` is what follows the fixed values in the key.
+// Whether a key is before, within or past the limits, where `rest` is what follows the fixed values in the key. If
+// nothing follows, the key is before a lower limit, and within the limits if there is no lower one.
 pub(crate) fn side_at_limits(
     lower: &Option<Limit>,
     upper: &Option<Limit>,

@@ -11,7 +11,7 @@ block_value Empty = object no_members
 block_value (Own body) = body
 block_value (Served form) = bare form
 
--- if the block is that of a form, the form is its bare body with some id and some revision
+-- a form whose block keeps the body is that body with some id and some revision; true for any other block
 abbrev pub IsFormIfServed : Block → Type 0
 IsFormIfServed Empty = ⊤
 IsFormIfServed (Own body) = ⊤

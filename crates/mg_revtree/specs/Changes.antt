@@ -54,7 +54,8 @@ run_over r (Some q) = r ∷ q ∷ []
 abbrev pub extension : Option Revision → List ℕ → Bool → Value → Path
 extension base id d b = path_of (run_over (next_revision base id) base) d b
 
--- the position of a new revision over a base, or why it may not be made
+-- the position of a new revision: one above its base, or 1 without a base; or why it is refused: it may not be made over this base, or
+-- the base has the last position
 abbrev pub next_position : Paths → Option Revision → Result ℕ TreeRefusal
 next_position h base =
     if not (may_extend h base) then Err NotLeaf

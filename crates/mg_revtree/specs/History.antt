@@ -24,7 +24,7 @@ pub record Link : Type 0 where
   pub rev : Revision
   pub parent : Option Revision
 
--- the newest revision of a run
+-- the newest revision of a run, which is its first; `None` for an empty run
 abbrev pub newest_of : List Revision → Option Revision
 newest_of [] = None
 newest_of (r ∷ rs) = Some r

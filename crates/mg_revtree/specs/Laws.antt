@@ -47,7 +47,7 @@ ReplicasAgree = (h g : Paths) → SamePaths h g → SameMarks g → OneParent (a
 
 -- ---- acceptance
 
--- each path fits those before it
+-- each of the paths fits the history h with the paths before it
 abbrev pub AllFit : Paths → List Path → Type 0
 AllFit h [] = Unit {0}
 AllFit h (p ∷ ps) = (fits h p.revs ≡ true) × AllFit (with_path h p) ps

@@ -1,4 +1,5 @@
--- How a tree keeps its known revisions: each id once, in one text of all ids, and each link as a node, whose parts say where its ids are.
+-- How one list of known revisions is kept: each id once, in one text of the list's ids, and each link as a node, whose parts say where its
+-- ids are in that text.
 use Rattle.std.specs.Prelude.{◌≡◌, ℕ, ◌+◌, ◌-◌, ◌≤◌, List, [], ◌∷◌, ◌++◌, Option, None, Some, map, option_map, take, drop}
 use Rattle.mg_revtree.specs.History.{Link}
 use Rattle.mg_revtree.specs.declared.links.node.IdPart.{IdPart}
@@ -8,7 +9,7 @@ use Rattle.mg_revtree.specs.declared.links.node.Node.{Node}
 abbrev pub text_of_part : List ℕ → IdPart → List ℕ
 text_of_part texts p = take p.len (drop p.from texts)
 
--- the link that a node stands for: its parent, if it has one, is at the position below
+-- the link that a node stands for, with its ids in the text `texts`: its parent, if it has one, is at the position below
 abbrev pub link_in : List ℕ → Node → Link
 link_in texts n = record { rev = (n.pos, text_of_part texts n.id); parent = option_map (λ p. (n.pos - 1, text_of_part texts p)) n.parent }
 

@@ -50,7 +50,8 @@ abbrev pub run_from : ℕ → List (List ℕ) → List Revision
 run_from n [] = []
 run_from n (id ∷ ids) = (n, id) ∷ run_from (n - 1) ids
 
--- the run that a replica gives by its start and its ids: 1 to n ids, each the id of a revision; `None` for any other ids
+-- the run that a replica gives by its start n and its ids: at least one id and at most n, each the id of a revision; `None` for any other
+-- ids
 abbrev pub run_of : ℕ → List (List ℕ) → Option (List Revision)
 run_of n ids =
     if nat_lt 0 (length ids) && (nat_le (length ids) n && list_all is_revision_id ids)

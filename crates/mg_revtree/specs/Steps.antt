@@ -7,7 +7,8 @@ use Rattle.std.specs.Option.{option_or}
 use Rattle.mg_revtree.specs.History.{Link, Leaf, agrees, gives, leaf_order}
 use Rattle.mg_revtree.specs.Tree.{BeforeAll, IsBelow, leaf_in}
 
--- what a look-up of a revision finds after a link of this revision is added, by what it found before and the parent q that the link gives
+-- what a look-up of a revision finds after a link of this revision with the optional parent q is added: the parent that it found before, or
+-- else q. `None` is an unknown revision, `Some None` a known one without a known parent
 abbrev pub joined_found : Option (Option Revision) → Option Revision → Option (Option Revision)
 joined_found None q = Some q
 joined_found (Some p) q = Some (option_or p q)

@@ -14,12 +14,12 @@ pub record Tree : Type 0 where
 
 -- ---- the known revisions
 
--- looks up a revision among kept links: `None` if it is unknown; else its parent, if one is known
+-- looks up a revision among kept links: `None` if it is unknown, `Some None` if it has no known parent; else its parent
 abbrev pub find : Revision → List Link → Option (Option Revision)
 find r [] = None
 find r (l ∷ ls) = if same_revision r l.rev then Some l.parent else find r ls
 
--- looks up a revision among the links of all paths: `None` if it is unknown; else its parent, if one is known
+-- looks up a revision among the links of all paths: `None` if it is unknown, `Some None` if it has no known parent; else its parent
 abbrev pub known_parent : Revision → List Link → Option (Option Revision)
 known_parent r ls = if is_known r ls then Some (parent_of r ls) else None
 

@@ -26,7 +26,7 @@ use std::slice;
 pub(crate) enum Growth {
     // no revision
     Empty,
-    // one revision, which has no parent and is the leaf
+    // one revision, which has no known parent and is the leaf
     First(SharedLeaf),
     // the leaf and its parent, which has no known parent
     Pair(Pair),
@@ -138,7 +138,7 @@ impl Growth {
         }
     }
 
-    /// Makes a tree whose only revision is this one, without a parent. Errors: `NoMemory` if an allocation fails.
+    /// Makes a tree whose only revision is this one, without a known parent. Errors: `NoMemory` if an allocation fails.
     pub fn first(alloc: Global, rev: Rev, deleted: bool, body: Packed) -> Result<Growth, NoMemory>
         ensures { IfOk result
             (λ made. tree_in made ≡ first_tree

@@ -56,6 +56,6 @@ columns_before (item v vs) rest = value_before v (columns_before vs rest)
 abbrev pub row_bytes : RowValue → List ℕ
 row_bytes row = items_before row.0 row.1
 
--- the bytes of a row in two parts: those of the key, and those of the id
+-- the bytes of a row in two parts: those of the key, with the byte that ends it, and those of the id
 abbrev pub row_parts : RowValue → List ℕ × List ℕ
 row_parts row = (items_before row.0 [], row.1)

@@ -10,7 +10,7 @@ use Rattle.mg_rows.specs.Stored.{IsStoredRow, IsRow}
 abbrev pub RowsAreInTheOrderOfTheirBytes : Type 0
 RowsAreInTheOrderOfTheirBytes = (a b : RowValue) → IsStoredRow a → IsStoredRow b → bytes_order (row_bytes a) (row_bytes b) ≡ row_value_order a b
 
--- the bytes of a value determine the value, and what comes after it
+-- bytes that begin with those of a value determine the value and the bytes after it
 abbrev pub BytesGiveTheValue : Type 0
 BytesGiveTheValue = (a b : Value) (s t : List ℕ) → IsStored a → IsStored b → value_before a s ≡ value_before b t → (a ≡ b) × (s ≡ t)
 

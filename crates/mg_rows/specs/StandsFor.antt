@@ -70,7 +70,7 @@ IsRowBound-prop bytes place = ×_prop (AreStored-prop place.1) (bytes_prop bytes
 
 -- ---- bytes are those of one value
 
--- the bytes of a value determine the value, and what comes after it
+-- bytes that begin with those of a value determine the value and the bytes after it
 pub one_value : (a b : Value) (s t : List ℕ) → IsStored a → IsStored b → value_before a s ≡ value_before b t → (a ≡ b) × (s ≡ t)
 one_value a b s t f g e =
     let p = both (value_order a b) (bytes_order s t) (sym (value_cmp a b s t f g) ∙ ap (bytes_order (value_before a s)) (sym e) ∙ tied_itself nat_list_cmp_total (value_before a s)) in

@@ -9,7 +9,7 @@ use Rattle.mg_rows.specs.Bytes.{columns_before, row_parts}
 abbrev pub IsStoredRow : RowValue → Type 0
 IsStoredRow row = AreStored row.0 × IsUtf8 row.1
 
--- the code can hold the row, and the two parts are the bytes of its key and those of its id
+-- the code can hold the row, and the two parts are the bytes of its key, with the byte that ends it, and those of its id
 abbrev pub IsRow : List ℕ × List ℕ → RowValue → Type 0
 IsRow parts row = IsStoredRow row × (parts ≡ row_parts row)
 

@@ -18,10 +18,10 @@ const NEAR: u64 = 1 << 59;
 // The bits below the type, in the hint of `NEAR - 1` and of all whole numbers above it.
 const FARTHEST: u64 = ((1 << 60) - 1) << 1;
 
-/// Returns the hint of a value: its type, and for a number or a string also the first bits of what it holds; 0 for
-/// `None`, as for a row whose key is empty. Every row whose key begins with the value has the value's hint. Hints of
-/// values are even, so that a bound before or after all these rows can have the odd hint below or above. Takes no memory.
-/// Cost: constant.
+/// Returns the hint of a value: its type, for a number also the nearest number from -2^59 to 2^59 - 1, and for a string
+/// also the first 60 bits of its bytes, each plus 1; 0 for `None`, as for a row whose key is empty. Every row whose key
+/// begins with the value has the value's hint. Hints of values are even, so that a bound before or after all these rows
+/// can have the odd hint below or above. Takes no memory. Cost: constant.
 pub fn value_hint(value: Option<&Json>) -> u64 {
     match value {
         None => 0,

@@ -10,8 +10,8 @@ use std::marker::Model;
 
 /// The bytes of a key, which is built value by value and made into rows. Contracts see its values.
 ///
-/// `KeyBytes` is a buffer for reuse: it keeps its room when it is cleared. A further key takes memory only if it is
-/// longer than all keys before.
+/// `KeyBytes` is a buffer for reuse: it keeps its room when it is cleared. A further key takes memory only if it needs
+/// more room than all keys before.
 #[derive(Drop)]
 pub struct KeyBytes {
     bytes: Vec<u8>,

@@ -21,10 +21,10 @@ const KEY_END: u8 = 0;
 /// see the row.
 ///
 /// The order of the bytes is the order of rows: by key, as `mg_collate::compare_keys` orders keys, and rows of equal
-/// keys by the bytes of the id. A row takes 48 bytes; if it has more than 45 bytes, they are in a block of memory
-/// that copies share. The bytes are, for each column, the type of the value (null 1, false 2, true 3, numbers 4,
-/// strings 5, arrays 6, objects 7) and what the value holds, then 0, and then the id. A number takes 9 bytes, and
-/// a string takes two more than its own.
+/// keys by the bytes of the id. A `RowBytes` takes 48 bytes of memory, and stores up to 45 bytes of a row in itself;
+/// the bytes of a longer row are in a block that copies share. The bytes of a row are, for each column, the type of
+/// the value (null 1, false 2, true 3, numbers 4, strings 5, arrays 6, objects 7) and what the value holds, then 0,
+/// and then the id. A number takes 9 bytes, and a string takes two more than its own.
 ///
 /// Source: the order of JSON types in CouchDB's view collation, in an order-preserving encoding of tuples.
 #[derive(Drop)]

@@ -18,7 +18,7 @@ pub(crate) enum Held {
     Shared(Arc<Vec<u8>>, usize),
 }
 
-/// Bytes in two parts. Up to 45 bytes are copied; more are in a block that copies share. A copy takes no memory.
+/// Bytes in two parts: up to 45 bytes in the value itself, more in a block that copies share. A copy takes no memory.
 #[derive(Drop)]
 pub(crate) struct SplitBytes {
     held: Held,

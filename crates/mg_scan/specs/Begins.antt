@@ -87,7 +87,7 @@ beyond_at : (R : RowValue → RowValue → Ordering) → IsTotalOrder R → (x y
 beyond_at R o x y p true is h e = refl
 beyond_at R o x y p false is h e = sym (upto o x y p h is) ∙ e
 
--- a row is past the row after which a search begins if an earlier row is
+-- if x is past the row after which a search begins, a y that is not before x is past it too; without such a row, every row is past it
 pub beyond_rises : (direction : Direction) (after : Option RowValue) (x y : RowValue) → NotAfter direction x y
     → is_beyond direction (option_map (row_value_order x) after) ≡ true → is_beyond direction (option_map (row_value_order y) after) ≡ true
 beyond_rises direction None x y h e = refl

@@ -16,22 +16,22 @@ use Rattle.mg_shard.specs.Walk.{beyond}
 use Rattle.mg_shard.specs.declared.document.Document.{Document}
 use Rattle.mg_value.specs.Value.{Value}
 
--- the documents are all from where the search begins; a form that has an `_id` has its document's id there
+-- `documents` are all that the shard keeps from where the search begins on; if a form has an `_id`, that is its document's id
 pub record AreBegun (s : Search) (ds : KeptDocuments) (documents : List Document) : Type 0 where
   pub own : (id : List ℕ) (form : Value) → form_at ds id ≡ Some form → HasOwnId id form
   pub begun : map kept_entry documents ≡ beyond s.direction (λ e. begin_at s (id_row e.0)) (entries ds)
 
--- what is left to read is all from where the search begins, in an index of these columns; `None`: the shard has no such index
+-- the `Unread` is all that an index of these columns has from where the search begins on; `Nothing` if there is no such index (`None`)
 abbrev pub IsBegunIn : Option (List Steps) → Search → ShardView → Unread → Type 0
 IsBegunIn at s shard (unread.Rows rows) = (columns : List Steps) × (at ≡ Some columns) × (rows ≡ beyond s.direction (begin_at s) (rows_of columns (docs_of shard.documents)))
 IsBegunIn at s shard (unread.Documents documents) = (at ≡ Some id_columns) × AreBegun s shard.documents documents
 IsBegunIn at s shard unread.Nothing = at ≡ None
 
--- what is left to read is all from where the search begins in its target
+-- the `Unread` is all that the search's target has in the shard from where the search begins on; `Nothing` if the shard lacks the target
 abbrev pub IsBegun : Search → ShardView → Unread → Type 0
 IsBegun s shard = IsBegunIn (target_columns s.target shard.definitions) s shard
 
--- l is what is left of the first after n rows; documents and `Nothing` are left as they are, and for documents n is 0
+-- l is what an `Unread` has after its first n rows: for documents, n is 0 and all are left; `Nothing` stays `Nothing` for any n
 abbrev pub IsUnreadAfter : ℕ → Unread → Unread → Type 0
 IsUnreadAfter n (unread.Rows rows) l = l ≡ unread.Rows (drop n rows)
 IsUnreadAfter n (unread.Documents documents) l = (n ≡ 0) × (l ≡ unread.Documents documents)

@@ -7,7 +7,7 @@ use Rattle.mg_shard.specs.Rows.{rows_of}
 use Rattle.mg_shard.specs.Shard.{ShardView}
 use Rattle.mg_value.specs.declared.error.NoMemory.{NoMemory}
 
--- the result has the rows that the index has in the i-th shard, if there is one, unless an allocation failed
+-- if there is an i-th shard, counted from 0, the result has the rows that the index has there, unless an allocation failed
 abbrev pub HasRowsAt : IndexDefinition → List ShardView → ℕ → Result (List RowValue) NoMemory → Type 0
 HasRowsAt d shards i r = IfOk r (λ v. (s : ShardView) → slice_get shards i ≡ Some s → v ≡ rows_of d.columns (docs_of s.documents))
 

@@ -19,23 +19,23 @@ use Rattle.mg_shard.specs.Shard.{ShardView}
 abbrev pub lead_row : Lead → RowValue
 lead_row l = lent_row l.row
 
--- the lead is a row of this shard, which serves its document
+-- the lead names this shard, and the shard serves a document under the id of the lead's row
 pub record IsLeadOf (s : ShardView) (l : Lead) : Type 0 where
   pub shard : l.shard.now ≡ s
   pub served : is_some (form_at s.documents (lead_row l).1) ≡ true
 
--- the lead is a row of one of the shards
+-- the lead names one of the shards, and that shard serves a document under the id of the lead's row
 pub record IsLeadIn (shards : List ShardView) (l : Lead) : Type 0 where
   pub place : ℕ
   pub shard : ShardView
   pub there : slice_get shards place ≡ Some shard
   pub lead : IsLeadOf shard l
 
--- each lead is a row of one of the shards
+-- each lead names one of the shards, which serves a document under the id of the lead's row
 abbrev pub AreLeadsIn : List ShardView → List Lead → Type 0
 AreLeadsIn shards leads = AllByRecursion (IsLeadIn shards) leads
 
--- the document of each of the rows is served
+-- a document is served under the id of each row, in a shard with these documents
 abbrev pub AreServed : KeptDocuments → List RowValue → Type 0
 AreServed ds rows = AllByRecursion (λ r. is_some (form_at ds r.1) ≡ true) rows
 
@@ -53,7 +53,7 @@ lead_rows s (unread.Rows rows) = rows_on_way s rows
 lead_rows s (unread.Documents ds) = walked_documents (without_selector s) ds
 lead_rows s unread.Nothing = []
 
--- a lead that is still to come is of this shard, if the shard serves the documents of the unread rows, or keeps the unread documents
+-- the lead is one of this shard; claimed for unread rows only if it serves their documents, for unread documents only if it keeps them
 abbrev pub IsLeadUnread : ShardView → Unread → Lead → Type 0
 IsLeadUnread shard (unread.Rows rows) l = AreServed shard.documents rows → IsLeadOf shard l
 IsLeadUnread shard (unread.Documents ds) l = AreKept shard.documents ds → IsLeadOf shard l

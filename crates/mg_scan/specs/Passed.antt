@@ -19,7 +19,7 @@ abbrev pub IsIndex : Target → Type 0
 IsIndex AllDocs = ⊥
 IsIndex (Index ddoc name) = Unit {0}
 
--- how many rows of a shard (of the target `AllDocs`: documents, deleted ones too) come after the place where a search begins
+-- how many rows of a shard (for `AllDocs`, documents, deleted ones too) come after where a search begins; 0 if the shard lacks the index
 abbrev pub count_upcoming_by : Search → ShardView → ℕ
 count_upcoming_by s = count_upcoming s.target s.range.now (after_of s) s.direction
 
@@ -27,11 +27,11 @@ count_upcoming_by s = count_upcoming s.target s.range.now (after_of s) s.directi
 abbrev pub count_all_upcoming : List ShardView → Search → ℕ
 count_all_upcoming shards s = sum_by (count_upcoming_by s) shards
 
--- the range decides what a search finds in each shard
+-- each shard has the search's target, and the search's range decides its whole selector there
 abbrev pub AreDecided : List ShardView → Search → Type 0
 AreDecided shards s = All (IsDecidedIn s.target s.normal.now s.range.now) shards
 
--- the rows after the first `skip` of the first `take` rows that a search finds in all shards
+-- of the rows that a search finds in all shards together, the first `take` without the first `skip`
 abbrev pub page_after : List ShardView → Search → ℕ → List RowValue
 page_after shards s skip = drop skip (merged s.direction s.take (map (found_by s) shards))
 

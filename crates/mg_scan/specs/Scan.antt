@@ -1,5 +1,5 @@
--- What a search finds in a shard. It reads an index, whose rows are those of a JSON index of CouchDB, and finds the first rows, up to a
--- number, whose key is in a range, that come after a given row, and whose document matches a selector.
+-- What a search finds in a shard. The search reads an index, whose rows are those of a JSON index of CouchDB. Of the rows whose key is in a
+-- range, that come after a given row (if one is given), and whose document matches a selector, it finds the first ones, up to a limit.
 use Rattle.std.specs.Prelude.{ℕ, List, Bool, true, ◌&&◌, Option, Some, take, filter}
 use Rattle.std.specs.List.{filter_map}
 use Rattle.std.specs.Option.{option_map_or}
@@ -15,7 +15,7 @@ use Rattle.mg_range.specs.RangeSide.{has_key}
 use Rattle.mg_shard.specs.Histories.{ServedDocument}
 use Rattle.mg_shard.specs.Rows.{row_of}
 
--- what a search asks for: the columns of the index, which documents, which keys, after which row, how many rows, and in which direction
+-- what a search asks for: the index's columns, which documents, which keys, after which row if any, at most how many rows, which direction
 pub record SearchInput : Type 0 where
   pub columns : List Steps
   pub normal : NormalForm
@@ -28,7 +28,7 @@ pub record SearchInput : Type 0 where
 abbrev pub comes_after : Direction → Option RowValue → RowValue → Bool
 comes_after direction after r = option_map_or (λ p. is_gt (directed_order direction r p)) after true
 
--- the row's key is in the range, and the row comes after `after`
+-- the row's key is in the range, and the row comes after `after`, if there is one
 abbrev pub is_wanted : SearchInput → RowValue → Bool
 is_wanted q r = has_key q.range (item_list r.0) && comes_after q.direction q.after r
 

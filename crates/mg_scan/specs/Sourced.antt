@@ -48,7 +48,7 @@ unread_rows s shard (unread.Rows rows) = walked_all_by s shard.documents rows
 unread_rows s shard (unread.Documents ds) = walked_documents s ds
 unread_rows s shard unread.Nothing = []
 
--- a hit that is still to come is of a document that this shard keeps, if the shard keeps the unread documents
+-- the hit is of a document that this shard keeps; where documents are unread, this is claimed only if the shard keeps them
 abbrev pub IsUnread : ShardView → Unread → Hit → Type 0
 IsUnread shard (unread.Rows rows) h = IsHitOf shard.documents h
 IsUnread shard (unread.Documents ds) h = AreKept shard.documents ds → IsHitOf shard.documents h

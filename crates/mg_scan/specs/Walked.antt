@@ -23,7 +23,7 @@ is_beyond direction order = option_map_or (λ o. is_gt (directed direction o)) o
 abbrev pub reaches : Direction → RangeSide → Option Ordering → Bool
 reaches direction side order = not (is_early direction side) && is_beyond direction order
 
--- compares the place where a search begins to an item that is given as for `reaches`
+-- compares the place where a search begins to an item: the place is before an item that is reached, and after any other, in the direction
 abbrev pub begin_order : Direction → RangeSide → Option Ordering → Ordering
 begin_order direction side order = directed direction (if reaches direction side order then Less else Greater)
 

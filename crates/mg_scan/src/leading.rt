@@ -59,7 +59,7 @@ fn lead_of_rows<'a>(
 }
 
 // Reads documents up to the next one that has a row in the index of all documents, and returns its lead; `None` if no such document is
-// left, or it comes after the range. A deleted document has no row.
+// left, or the next one comes after the range. A document has no row if it is deleted, or its form has no `_id`.
 fn lead_of_documents<'a>(
     shard: &'a Shard,
     documents: &mut Documents<'a>,

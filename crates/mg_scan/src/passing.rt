@@ -103,8 +103,8 @@ fn pass_rounds<'a>(
     Ok(passed)
 }
 
-// Passes over rows in one round. Reads some rows to choose the last one to pass over, and then counts how many rows it passes over; it may
-// be none. Errors: `NoMemory` if an allocation fails.
+// Passes over rows in one round. Reads some rows to choose the last one to pass over, and then counts how many rows it passes over. It
+// may pass over nothing. Errors: `NoMemory` if an allocation fails.
 fn pass_round<'a>(
     alloc: Global,
     shards: &'a [Arc<Shard>],
@@ -158,7 +158,7 @@ fn pass_to<'a>(shards: &[Arc<Shard>], passed: LongSkip<'a>, row: &'a RowBytes) -
     }
 }
 
-// Does what `pass_to` does, for a row in the range after the place where the search begins.
+// Does what `pass_to` does, for a row that is in the range and at or after the place where the search begins.
 fn pass_counted<'a>(shards: &[Arc<Shard>], passed: LongSkip<'a>, row: &'a RowBytes) -> LongSkip<'a>
     requires index { IsIndex passed.search.target }
     requires upcoming { passed.upcoming ≡ count_all_upcoming (shards_seen shards.now) passed.search }

@@ -76,7 +76,7 @@ pub fn pull_rows<'a>(
     }
 }
 
-// Does what `pull_rows` does, for any number of shards but one: passes by counts over most of the rows of an index that are skipped.
+// Does what `pull_rows` does, for any number of shards but one: in an index, most rows of a long skip are passed over by counts.
 fn pull_rows_of_several<'a>(
     alloc: Global,
     shards: &'a [Arc<Shard>],

@@ -32,6 +32,7 @@ pub(crate) fn map_from_one_thread<R: Threads + Sync, X: Send + Drop, F: Fn(usize
 }
 
 // Makes the `count` calls from `f(from)` on, and returns their results in order. A thread is started for each call but the last.
+// Errors: those of `map_from_one_thread`.
 #[cycle(calls)]
 fn calls_from<R: Threads + Sync, X: Send + Drop, F: Fn(usize) -> X + Sync>(
     rt: &R,

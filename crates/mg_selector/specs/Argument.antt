@@ -53,7 +53,7 @@ abbrev pub array_of : Value → Result Items SelError
 array_of (list vs) = Ok vs
 array_of v = Err BadArg
 
--- the operator with the value as its argument, or a fault if the operator does not take the value; a comparison takes any value
+-- the operator with the value as its argument, or `BadArg` if the operator does not take the value; a comparison takes any value
 abbrev pub operator_with : ValueOperator → Value → Result Operator SelError
 operator_with value_operator.Lt v = Ok (less v)
 operator_with value_operator.Lte v = Ok (at_most v)

@@ -49,7 +49,7 @@ abbrev behind_first : Items → Items
 behind_first no_items = no_items
 behind_first (item v vs) = vs
 
--- the operator of this number and argument
+-- the operator of this number and argument; `$mod` for every number from 11 up
 abbrev operator_by : ℕ → Value → Operator
 operator_by n v =
     cond (n == 0) (less v) (cond (n == 1) (at_most v) (cond (n == 2) (equal v) (cond (n == 3) (unequal v)
@@ -137,7 +137,8 @@ top xs = exists false
 abbrev operator_from : List Instruction → Operator
 operator_from xs = top (run_all xs ([], [])).0
 
--- if running the instructions and then `last ∷ xs` from s is running `last ∷ xs` from t, this is so also with `last` appended to them
+-- if running the instructions and then `last ∷ xs` from s ends as running `last ∷ xs` from t does, then so does running from s the
+-- instructions with `last` appended, and then xs
 then_one : (instructions : List Instruction) (last : Instruction) (xs : List Instruction) (s t : Stacks) → run_all (instructions ++ last ∷ xs) s ≡ run_all (last ∷ xs) t → run_all ((instructions ++ last ∷ []) ++ xs) s ≡ run_all (last ∷ xs) t
 then_one instructions last xs s t e = ap (λ ys. run_all ys s) (append_assoc instructions (last ∷ []) xs) ∙ e
 

@@ -22,8 +22,8 @@ abbrev pub in_sense : Sense → Bool → Bool
 in_sense Plain b = b
 in_sense Negated b = not b
 
--- whether an operator holds of a part in a sense, where `predicate` says whether it holds of a value in the plain sense; false for a
--- missing part
+-- whether an operator other than `$exists` holds of a part in a sense, where `predicate` says whether it holds of a value in the plain
+-- sense; false for a missing part
 abbrev pub on_part : (Value → Bool) → Sense → Option Value → Bool
 on_part predicate sense None = false
 on_part predicate sense (Some v) = in_sense sense (predicate v)
@@ -48,12 +48,12 @@ abbrev mutual
   holds_in (at steps s) sense x = holds_in s sense (option_and_then (part_of steps) x)
   holds_in (asks o) sense x = operator_holds o sense x
 
-  -- each arm holds
+  -- each arm holds, in the sense, of the part; true without arms
   pub every_arm : Arms → Sense → Option Value → Bool
   every_arm no_arms sense x = true
   every_arm (arm s ss) sense x = holds_in s sense x && every_arm ss sense x
 
-  -- some arm holds
+  -- some arm holds, in the sense, of the part; false without arms
   pub some_arm : Arms → Sense → Option Value → Bool
   some_arm no_arms sense x = false
   some_arm (arm s ss) sense x = holds_in s sense x || some_arm ss sense x

@@ -1,6 +1,6 @@
 -- Whether `$type`, `$in`, `$nin`, `$size`, `$mod`, `$all`, `$elemMatch` and `$allMatch` hold of a value in the plain sense, after the
--- operator tables of the CouchDB 3.x API reference (`Meaning` has the other operators). `$all` of an empty array or of an array within
--- an array is this project's own choice.
+-- operator tables of the CouchDB 3.x API reference (`Meaning` has the other operators). What `$all` means without arguments, and with
+-- an array as its only argument, is this project's own choice.
 use Rattle.std.specs.Prelude.{ℕ, ℤ, Bool, true, false, not, ◌&&◌, ◌||◌, ◌==◌, length, int_rem}
 use Rattle.std.specs.Ordering.{is_eq, int_eq}
 use Rattle.mg_value.specs.Value.{Value, null, flag, whole, text, list, object, Items, no_items, item, item_list}

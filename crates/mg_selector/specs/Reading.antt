@@ -21,7 +21,8 @@ Fails InvalidOperator r = r ≡ Err InvalidOperator
 Fails BadArg r = r ≡ Err BadArg
 Fails Shape r = r ≡ Err Shape
 
--- a call returned what the definition gives, unless an allocation failed
+-- a call returned what the definition gives, where `seen` is what a value of the code stands for; after `NoMemory`, the definition may
+-- give anything
 abbrev pub ReadsAs : {X Y : Type 0} → (X → Y) → Result X SelError → Result Y SelError → Type 0
 ReadsAs seen (Ok x) r = r ≡ Ok (seen x)
 ReadsAs seen (Err e) r = Fails e r
@@ -32,7 +33,8 @@ abbrev pub argument : Value → Result Selector SelError → Result Selector Sel
 argument (object (member k v ms)) inner = inner
 argument v inner = Ok (asks (equal v))
 
--- the selector on the part at a path; the path is read before its argument
+-- the selector on the part at the path k, with the argument v, where `inner` is the reading of v as a selector; `BadArg` if the path has
+-- an empty step, whatever its argument is
 abbrev pub path_named : List ℕ → Value → Result Selector SelError → Result Selector SelError
 path_named k v inner = option_map_or (λ steps. fmap (at steps) (argument v inner)) (steps_of k) (Err BadArg)
 
@@ -53,7 +55,7 @@ abbrev pub named : List ℕ → Value → Result Selector SelError → Result Ar
 named k v inner arms = by_kind (kind_of_name k) k v inner arms
 
 abbrev mutual
-  -- a selector inside another, which has to be an object
+  -- a selector inside another, or its first fault; `BadArg` for a value that is not an object
   pub of_object : Value → Result Selector SelError
   of_object null = Err BadArg
   of_object (flag b) = Err BadArg
@@ -62,7 +64,7 @@ abbrev mutual
   of_object (list vs) = Err BadArg
   of_object (object ms) = fmap members (of_members ms)
 
-  -- the arms of a combinator (`$and`, `$or`, `$nor`), which have to be an array
+  -- the arms of a combinator (`$and`, `$or`, `$nor`), or their first fault; `BadArg` for a value that is not an array
   pub of_arms : Value → Result Arms SelError
   of_arms null = Err BadArg
   of_arms (flag b) = Err BadArg
@@ -71,17 +73,17 @@ abbrev mutual
   of_arms (list vs) = of_items vs
   of_arms (object ms) = Err BadArg
 
-  -- the arms one after another
+  -- the items as arms, or their first fault
   pub of_items : Items → Result Arms SelError
   of_items no_items = Ok no_arms
   of_items (item v vs) = of_object v >>= λ s. fmap (arm s) (of_items vs)
 
-  -- the members one after another
+  -- the members as arms, or their first fault
   pub of_members : Members → Result Arms SelError
   of_members no_members = Ok no_arms
   of_members (member k v ms) = named k v (of_object v) (of_arms v) >>= λ s. fmap (arm s) (of_members ms)
 
--- the selector that the value spells, or its first fault
+-- the selector that the value spells, or its first fault; `Shape` for a value that is not an object
 abbrev pub reading : Value → Result Selector SelError
 reading (object ms) = fmap members (of_members ms)
 reading v = Err Shape

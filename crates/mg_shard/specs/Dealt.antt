@@ -33,6 +33,7 @@ ShardsStandFor place shards hs = AreDealt ShardStandsFor place shards hs
 abbrev pub DraftsStandFor : Placing → List DraftView → Histories → Type 0
 DraftsStandFor place drafts hs = AreDealt DraftStandsFor place drafts hs
 
--- the document of an id, as it is kept on the shard where the id is placed; `None` if that shard has no document of the id
+-- the document of an id, as it is kept on the shard where the id is placed; `None` if that shard has no document of the id, or if
+-- there is no such shard
 abbrev pub kept_at : Placing → List ShardView → List ℕ → Option KeptDocument
 kept_at place shards id = option_and_then (λ s. get s.documents id) (slice_get shards (place id (length shards)))

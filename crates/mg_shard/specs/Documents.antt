@@ -13,7 +13,7 @@ use Rattle.mg_shard.specs.Histories.{Histories, ServedDocument}
 use Rattle.mg_shard.specs.Own.{form_in}
 use Rattle.mg_shard.specs.declared.document.Document.{Document}
 
--- a document as it is kept: its revision tree, and the form in which it is served
+-- a document as it is kept: its revision tree, and the form in which it is served (`None` if it is deleted)
 abbrev pub KeptDocument : Type 0
 KeptDocument = Tree × Option Value
 
@@ -64,7 +64,7 @@ form_of d = form_in d.served
 abbrev pub kept_of : Document → KeptDocument
 kept_of d = (d.tree, form_of d)
 
--- an id with its document
+-- a document as it is kept, with its id
 abbrev pub kept_entry : Document → List ℕ × KeptDocument
 kept_entry d = (d.id, kept_of d)
 

@@ -51,8 +51,8 @@ TouchedStandFor ds ts hs = (id : List ℕ) → DraftAt id (get ts id) (get ds id
 abbrev pub DraftStandsFor : DraftView → Histories → Type 0
 DraftStandsFor d hs = TouchedStandFor d.shard.documents d.touched hs
 
--- an edit that a look found ready changes the touched trees `ts` to `us`, by its outcome: if the edit is refused, `us` is `ts`; otherwise a
--- tree that stands for the edited history is put under the edit's id
+-- an edit of a document with the history `h`, which a look found ready, changes the touched trees `ts` to `us`, by its outcome: if the edit
+-- is refused, `us` is `ts`; otherwise a tree that stands for `h` after the edit is put under the edit's id
 abbrev pub Touches : Paths → Edit → Result Revision EditRefusal → Trees → Trees → Type 0
 Touches h e (Ok r) ts us = (t : Tree) × StandsFor t (edited h e) × (us ≡ insert ts (id_in e) t)
 Touches h e (Err x) ts us = us ≡ ts

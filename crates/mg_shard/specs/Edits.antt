@@ -1,4 +1,4 @@
--- What the edits of a bulk do, in order, to the histories of documents, and the outcome of each edit, after CouchDB's `_bulk_docs`.
+-- What the edits of a bulk do, in order, to the histories of documents, and the outcome of each edit, as in CouchDB's `_bulk_docs`.
 use Rattle.std.specs.Prelude.{ℕ, List, [], ◌∷◌, unwrap_or, Result, Ok, Err}
 use Rattle.std.specs.FinMap.{insert}
 use Rattle.mg_revtree.specs.Revision.{Revision}

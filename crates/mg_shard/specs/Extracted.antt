@@ -11,6 +11,6 @@ use Rattle.mg_shard.specs.declared.document.Document.{Document}
 abbrev pub document_row : List Steps → Document → Option RowValue
 document_row columns d = option_and_then (row_of columns) (doc_entry (kept_entry d))
 
--- the rows of a list of documents, in its order, without those that are not served or lack a column
+-- the rows of those documents of a list that are served and have every column, in the order of the list
 abbrev pub rows_in : List Steps → List Document → List RowValue
 rows_in columns ds = filter_map (document_row columns) ds

@@ -3,7 +3,7 @@ use Rattle.std.specs.Prelude.{◌≤◌, ℕ, List, take, string_bytes, IsUtf8}
 use Rattle.mg_shard.specs.declared.document_id.HeldId.{HeldId}
 use Rattle.mg_shard.specs.declared.document_id.HeldId.TheVariants.{Inline, Block}
 
--- the bytes of the id
+-- the bytes of the id; of an array in the value itself, only the first `count` bytes belong to it
 abbrev pub held_id : HeldId → List ℕ
 held_id (Inline count bytes) = take count bytes
 held_id (Block id) = string_bytes id

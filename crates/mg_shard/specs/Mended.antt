@@ -10,7 +10,7 @@ use Rattle.mg_shard.specs.Rows.{row_of}
 abbrev pub own_row : List Steps → List ℕ → Option Value → Option RowValue
 own_row columns id form = option_and_then (row_of columns) (option_map (λ v. (id, v)) form)
 
--- with any id, a document has equal rows with both forms, or no row with either
+-- with any id, a document has equal rows with both forms, or no row with either. A form of `None`: the document is not served
 abbrev pub HaveSameRow : List Steps → Option Value → Option Value → Type 0
 HaveSameRow columns form other = (id : List ℕ) → own_row columns id form ≡ own_row columns id other
 

@@ -39,21 +39,22 @@ abbrev pub last_kept : List Document → List ℕ → Option KeptDocument
 last_kept [] id = None
 last_kept (d ∷ ds) id = option_or (last_kept ds id) (cond (eq_by_cmp (slice_cmp nat_cmp) id (id_bytes d)) (Some (kept_of d)) None)
 
--- the document is placed on the i-th of n shards
+-- the document is placed on shard `i` of `n`, counted from 0
 abbrev pub IsPlace : Placing → ℕ → Document → ℕ → Type 0
 IsPlace place n d i = (i ≡ place (id_bytes d) n) × (i < n)
 
--- each document is placed on the shard, of n, whose number stands at the document's position in the list of places
+-- each document is placed on one of `n` shards: the one whose number `places` has at the document's position. There are as many places as
+-- documents
 abbrev pub ArePlaces : Placing → ℕ → List Document → List ℕ → Type 0
 ArePlaces place n ds places = AllZip (IsPlace place n) ds places
 
--- for every placement that gives the documents these places, `to` has the documents whose ids are placed on the i-th shard, and no others;
--- of several documents with one id it has the last
+-- for every placement that gives the documents these places, among any number `n` of shards, `to` has the documents whose ids are placed on
+-- shard `i`, and no others; of several documents with one id it has the last
 abbrev pub KeepsThose : List Document → List ℕ → ℕ → KeptDocuments → Type 0
 KeepsThose ds places i to =
     (place : Placing) (n : ℕ) → ArePlaces place n ds places → (id : List ℕ) → get to id ≡ cond (place id n == i) (last_kept ds id) None
 
--- the shard `s` has the documents that are placed on the i-th shard, and indexes of these definitions
+-- the shard `s` has the documents that are placed on shard `i`, and indexes of these definitions
 pub record IsMade (ds : List Document) (places : List ℕ) (definitions : List IndexDefinition) (i : ℕ) (s : ShardView) : Type 0 where
   pub keeps : KeepsThose ds places i s.documents
   pub indexes : s.definitions ≡ definitions

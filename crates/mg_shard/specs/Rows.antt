@@ -1,5 +1,5 @@
--- The rows of an index made from scratch, after the JSON indexes of the CouchDB 3.x API reference: a document has a row if it has every
--- column.
+-- The rows of an index made from scratch, as the CouchDB 3.x API reference has them for JSON indexes: a document has a row if it has
+-- every column.
 use Rattle.std.specs.Prelude.{List, Option, option_map}
 use Rattle.std.specs.List.{filter_map}
 use Rattle.mg_value.specs.Value.{Value, Items}

@@ -10,7 +10,8 @@ abbrev pub in_direction : {T : Type 0} → Direction → List T → List T
 in_direction Asc xs = xs
 in_direction Desc xs = reverse xs
 
--- what comes after a place in a direction: ascending, what is above the place; descending, what is below it, from the last to the first
+-- what comes after a place in a direction: ascending, what is above the place; descending, what is below it, from the last to the first.
+-- The place is given by its order `against` each element; elements that tie with it are left out
 abbrev pub beyond : {T : Type 0} → Direction → (T → Ordering) → List T → List T
 beyond Asc against xs = above against xs
 beyond Desc against xs = reverse (below against xs)

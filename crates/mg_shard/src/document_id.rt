@@ -4,14 +4,14 @@ ghost use Rattle.mg_shard.specs.Id.{held_id, IsText};
 
 use std::marker::Model;
 
-// The most bytes of an id that are stored in the value itself.
+// An id of at most this many bytes is stored in the value itself.
 const INLINE: usize = 38;
 
 const _: () = prove!(size_of::<DocumentId>() == 40);
 
 #[derive(Drop)]
 pub(crate) enum HeldId {
-    // how many bytes the id has, and the bytes
+    // how many bytes the id has, and the bytes, with zeros after them
     Inline(u8, [u8; 38]),
     Block(String),
 }

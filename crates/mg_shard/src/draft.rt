@@ -139,7 +139,7 @@ fn reply_of(error: EditError) -> Result<EditReply, NoMemory>
 }
 
 // Applies an edit after a look at this tree, or at the tree of which this one is a copy. Returns the outcome of the edit, and the tree
-// after it. Unless the edit is refused, its body moved into the tree.
+// after it. Unless the edit is refused, its body has moved into the tree.
 fn apply_ready(
     alloc: Global,
     ready: ReadyEdit,
@@ -171,7 +171,7 @@ fn apply_edit(alloc: Global, edit: Edit, tree: RevTree) -> Result<(EditReply, Re
 }
 
 // Applies an edit to the tree of a document that was touched before. The caller has taken the tree out of `touched`; it goes back there,
-// unless an allocation fails.
+// unless the result is `NoMemory`.
 fn edit_touched(
     alloc: Global,
     touched: &mut BTreeMap<String, RevTree>,

@@ -43,7 +43,8 @@ pub fn drafts_become_shards()
     ensures { DraftsBecomeShards }
 {}
 
-/// The definitions of each shard are a catalog: no two of them have the same design document and name. Cost: the number of shards.
+/// The definitions of each shard are a catalog: they are in the order of design document, then name, and no two have both in common.
+/// Takes no memory. Cost: the number of shards.
 pub fn definitions_are_catalogs(shards: &[Arc<Shard>])
     ensures { All (λ s. IsCatalog s.definitions) (shards_seen shards.now) }
 {

@@ -185,7 +185,7 @@ fn make_in_turn<R: Threads + Sync>(
     Ok(shards)
 }
 
-// Takes the shards out of the results; `NoMemory` if one of the results is this error.
+// Takes the shards out of the results; `NoMemory` if one of the results is this error, or if an allocation fails.
 fn all_of(alloc: Global, results: Vec<Result<Shard, NoMemory>>) -> Result<Vec<Shard>, NoMemory>
     ensures { IfOk result (λ v. results.items ≡ map Ok v.items) }
 {

@@ -135,8 +135,8 @@ impl Shard {
     }
 
     /// Lists the documents that come after a place in a direction, deleted ones too: ascending, those above the place; descending, those
-    /// below it, from the last to the first. There need not be a document at the place. Takes no memory. Cost: one look-up, and then a
-    /// step a document.
+    /// below it, from the last to the first. There need not be a document at the place; one that ties with it is not listed. Takes no
+    /// memory. Cost: one look-up, and then a step a document.
     pub fn documents_beyond<Q: Probe<Shared<Document>>>(
         &self,
         place: &Q,
@@ -238,8 +238,8 @@ impl Shard {
 
     /// Lists the rows that come after a place in a direction, in the index of this design document and name; `None` if there is no such
     /// index. Ascending, these are the rows above the place; descending, those below it, from the last to the first. There need not be a
-    /// row at the place, which may be the beginning of a range of keys. Takes no memory. Cost: that of finding the index, as for `rows`,
-    /// one look-up of the place, and then a step a row.
+    /// row at the place, which may be the beginning of a range of keys; rows that tie with it are not listed. Takes no memory. Cost: that
+    /// of finding the index, as for `rows`, one look-up of the place, and then a step a row.
     pub fn rows_beyond<Q: Probe<RowBytes>>(
         &self,
         ddoc: &str,
@@ -275,8 +275,8 @@ impl Shard {
         }
     }
 
-    /// Lists the rows strictly after a row in a direction, in the index of this design document and name; `None` if there is no such
-    /// index. The index need not have that row. Takes no memory. Cost: as for `rows_beyond`.
+    /// Lists the rows that come after a row in a direction, in the index of this design document and name; `None` if there is no such
+    /// index. The row itself is not listed, and the index need not have it. Takes no memory. Cost: as for `rows_beyond`.
     pub fn rows_after(
         &self,
         ddoc: &str,

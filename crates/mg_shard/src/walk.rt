@@ -49,7 +49,8 @@ impl<'a, T: Keyed> Walk<'a, T> {
         Walk { way }
     }
 
-    // Makes a walk over the elements that come after a key in the direction. No element need tie with the key.
+    // Makes a walk over the elements that come after a key in the direction. Elements that tie with the key are left out; there need be
+    // none.
     pub(crate) fn beyond<Q: Probe<T>>(
         pages: &'a Pages<T>,
         key: &Q,
@@ -87,7 +88,7 @@ impl<'a, T: Keyed> Walk<'a, T> {
     }
 }
 
-// Counts the elements that come after a key in the direction.
+// Counts the elements that come after a key in the direction, without those that tie with the key.
 #[tactic(auto, using(crate::proofs::Walks::reversed_length))]
 pub(crate) fn count_beyond<T: Keyed, Q: Probe<T>>(
     pages: &Pages<T>,
@@ -147,7 +148,8 @@ impl<'a> Documents<'a> {
         Documents { documents }
     }
 
-    // Makes an iterator over the documents that come after a key in the direction. No document need tie with the key.
+    // Makes an iterator over the documents that come after a key in the direction. Documents that tie with the key are left out; there
+    // need be none.
     pub(crate) fn beyond<Q: Probe<Shared<Document>>>(
         pages: &'a Pages<Shared<Document>>,
         key: &Q,

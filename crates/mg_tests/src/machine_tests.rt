@@ -55,7 +55,8 @@ fn command_of<R: Abort>(rt: &R, alloc: Global, number: usize) -> Command {
     }
 }
 
-// An event: its kind, its seat, and the number of its command or of the seat that it learns from.
+// An event: its kind and its seat. `by` is the number of its command or, modulo 3, of the seat that it learns from; an event that enters
+// does not use it.
 #[derive(Clone, Copy, Drop)]
 struct Draw {
     kind: u64,
@@ -144,7 +145,7 @@ const TELLING: [Draw; 7] = [
     },
 ];
 
-// Returns the status and the body of a reply; 0 and an empty body if there is no reply.
+// Returns the status and the body of a reply; 0 and an empty body if there is no such event (`None`), or it has no reply (`Some(None)`).
 fn status_and_body(reply: Option<&Option<Reply>>) -> (u16, &[u8]) {
     match reply {
         Some(Some(reply)) => (reply.status(), reply.body()),

@@ -70,7 +70,7 @@ fn are_all(notes: &Notes, count: usize, version: u64) -> bool {
     notes.len() == count
 }
 
-// Returns the greatest id of a note that is not above an id; `none` if there is no such note.
+// Returns the greatest id of a note at or below `id`; `none` if there is no such note.
 fn last_id<'a>(notes: &'a Notes, id: &str) -> &'a str {
     match notes.upto(&id).next() {
         Some(one) => one.id.as_str(),
@@ -78,7 +78,7 @@ fn last_id<'a>(notes: &'a Notes, id: &str) -> &'a str {
     }
 }
 
-// Whether the notes are still those of `even_notes`, in order. The limit is 6000.
+// Whether the notes are still those of `even_notes`, in order. `limit` must be 6000, for which the count and the last id below are fixed.
 fn are_as_they_were<R: Abort>(rt: &R, alloc: Global, notes: &Notes, limit: u64) -> bool {
     let mut number = 0u64;
     for one in notes.iter() {

@@ -39,7 +39,8 @@ fn is_plain<R: Threads + Sync + Abort>(
     }
 }
 
-// Counts the replies that are out of memory. Fails the test unless the other commands got the replies that they would get alone.
+// Counts the replies that are out of memory. Fails the test unless the other commands got the replies that they get from a new engine that
+// executes only them.
 fn refused_of<R: Threads + Sync + Abort>(rt: &R, alloc: Global, replies: &[Reply]) -> u32 {
     let mut before = Vec::new(alloc);
     let mut refused = 0u32;

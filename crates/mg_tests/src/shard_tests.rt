@@ -65,7 +65,7 @@ fn engine_of<R: Threads + Sync + Abort>(rt: &R, alloc: Global) -> Engine<Md5Plac
 
 fn is_form<R: Abort>(rt: &R, alloc: Global, form: Option<Part<'_>>, text: &str) -> bool {
     match form {
-        Some(form) => form.text(alloc).expect(rt, "memory").as_slice() == text.as_bytes(),
+        Some(form) => form.compact_text(alloc).expect(rt, "memory").as_slice() == text.as_bytes(),
         None => false,
     }
 }

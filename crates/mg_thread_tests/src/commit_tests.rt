@@ -229,7 +229,7 @@ fn are_answered<D: Database, C: EndsWriter, R: Wait + Threads + Sync>(
     true
 }
 
-// Lets the second seat learn what the first has seen; false if `share` was refused memory.
+// Lets the second seat learn what the first has seen; false if `share` was refused memory, which `refused` counts.
 fn teach<D: Database, C: EndsWriter, R: Wait>(
     rt: &R,
     a: &mut Seat<D, C>,
@@ -248,7 +248,7 @@ fn teach<D: Database, C: EndsWriter, R: Wait>(
     }
 }
 
-// Whether the seat's snapshot has no index and one shard; false also if it was refused memory.
+// Whether the seat's snapshot has no index and one shard; false also if `snapshot` was refused memory, which `refused` counts.
 fn is_bare<D: Database, C: EndsWriter>(seat: &mut Seat<D, C>, refused: &mut u32) -> bool {
     match seat.snapshot() {
         Ok(snapshot) => snapshot.catalog().list().is_empty() && snapshot.shards().len() == 1,
@@ -259,7 +259,8 @@ fn is_bare<D: Database, C: EndsWriter>(seat: &mut Seat<D, C>, refused: &mut u32)
     }
 }
 
-// Whether the two seats give all expected replies, and the second then has no index and one shard.
+// Whether the two seats give all expected replies to `BEFORE`, `AFTER` and `calls`, and the snapshot of the second then has no index and
+// one shard.
 fn both_answer<D: Database, C: EndsWriter, R: Wait + Threads + Sync>(
     rt: &R,
     alloc: Global,

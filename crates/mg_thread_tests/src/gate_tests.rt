@@ -103,7 +103,8 @@ impl During {
     }
 }
 
-// Queries the ids of all documents once the writer is ready. The gate holds the query at its snapshot.
+// Queries the ids of all documents once the writer is ready. The gate holds the query at its snapshot. Makes no query if the body cannot be
+// read.
 fn ask<D: Database, C: EndsWriter, R: Wait + Threads + Sync>(
     rt: &R,
     alloc: Global,
@@ -122,7 +123,8 @@ fn ask<D: Database, C: EndsWriter, R: Wait + Threads + Sync>(
     seat
 }
 
-// Makes the write while the query is held. Before a reshard, a document is written first, and then the query may begin.
+// Lets the query begin, and makes the write while the query is held. Before a reshard, first writes a document, and then lets the query
+// begin. Does none of this if a body cannot be read.
 fn write<D: Database, C: EndsWriter, R: Wait + Threads + Sync>(
     rt: &R,
     alloc: Global,

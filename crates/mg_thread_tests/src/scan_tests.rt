@@ -124,7 +124,7 @@ fn find_rows<R: Threads + Sync + Abort>(
     .expect(rt, "memory")
 }
 
-// A shard, a place in its list, and the expected id there.
+// A shard, a place in its list, and the expected id there; `None`: the list ends before this place.
 const FOUND: &[(usize, usize, Option<&str>)] = &[
     (0, 0, Some("b")),
     (0, 1, None),

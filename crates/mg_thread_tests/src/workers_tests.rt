@@ -14,7 +14,8 @@ use std::sync::atomic::{AtomicU64, Ordering};
 use std::thread::Threads;
 
 // Counts the shards that are being read, and holds each shard that begins until as many have begun as there are workers. Counts faults: a
-// shard begins while every worker is reading another, a shard begins or is done twice or out of order, or a wait gives up.
+// shard begins while every worker is reading another, a shard begins or is done twice or is done before it began, a shard has a number
+// above 3, or a wait gives up.
 #[derive(Drop)]
 struct AtOnce {
     workers: u64,

@@ -55,7 +55,7 @@ abbrev built : List Step → Stacks → Stacks
 built [] s = s
 built (x ∷ xs) s = built xs (build x s)
 
--- the steps that build a value
+-- the steps that build a value; those of items leave an array, and those of members an object, on the stack of these
 abbrev mutual
   steps : Value → List Step
   steps null = inr (inr 0) ∷ []
@@ -78,7 +78,7 @@ abbrev top : List Value → Value
 top [] = null
 top (v ∷ a) = v
 
--- the value that the steps build
+-- the value that the steps, from empty stacks, leave on top; null if they leave none
 abbrev from_steps : List Step → Value
 from_steps xs = top (built xs ([], [], [])).0
 

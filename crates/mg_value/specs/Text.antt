@@ -37,7 +37,7 @@ IsText bytes d = IsUtf8 bytes × (read bytes ≡ Some d)
 abbrev pub Reads : List ℕ → Value → Type 0
 Reads bytes v = (d : Data) × IsText bytes d × (whole_of d ≡ Some v)
 
--- the data that a text of the value is parsed as
+-- the data of a value: what its texts are parsed as, if it is held (`IsHeld`) and nests at most 127 deep
 abbrev mutual
   pub data_of : Value → Data
   data_of null = parsed.null
@@ -65,12 +65,14 @@ abbrev mutual
   compact (list vs) = 91 ∷ compact_items false vs
   compact (object ms) = 123 ∷ compact_members false ms
 
-  -- the rest of an array, with the closing bracket; a comma comes first where there is an item before
+  -- the items of an array that are left, with the closing bracket; a comma precedes each item but the array's first; `later`: the
+  -- array's first item is not among those left
   pub compact_items : Bool → Items → List ℕ
   compact_items later no_items = 93 ∷ []
   compact_items later (item v vs) = comma_if later ++ (compact v ++ compact_items true vs)
 
-  -- the rest of an object, with the closing brace; a comma comes first where there is a member before
+  -- the members of an object that are left, with the closing brace; a comma precedes each member but the object's first; `later`: the
+  -- object's first member is not among those left
   pub compact_members : Bool → Members → List ℕ
   compact_members later no_members = 125 ∷ []
   compact_members later (member k v ms) = comma_if later ++ (quoted k ++ 58 ∷ (compact v ++ compact_members true ms))

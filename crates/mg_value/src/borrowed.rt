@@ -1,5 +1,5 @@
-// The fast path of `read`, over a parse tree that borrows its strings. It gives up (`None`) if the text is not JSON, a
-// number is not an `i64`, or memory ran out.
+// The fast path of `read`, over a parse tree that borrows its strings. It gives up (`None`) if the text is not JSON or
+// nests more than 127 deep, a number is not an `i64`, or memory ran out.
 ghost use Rattle.std.specs.Prelude.{◌≡◌, ◌<◌, ◌==◌, true, false, length, slice_index, Some, IsTrue, IfSome, option_and_then};
 ghost use Rattle.json.specs.Value.{value_view, items_view as tree_items, members_view as tree_members};
 ghost use Rattle.serde_json.specs.Find.{as_i64};
@@ -45,7 +45,8 @@ impl ReadBuffer {
     }
 }
 
-// Reads the value of the text; `None` if the text is not JSON, one of its numbers is not an `i64`, or memory ran out.
+// Reads the value of the text; `None` if the text is not JSON, nests more than 127 deep, one of its numbers is not an
+// `i64`, or memory ran out.
 pub(crate) fn read_fast(alloc: Global, text: &str, buffer: &mut ReadBuffer) -> Option<Json>
     ensures { IfSome result (λ v. Reads text.now (view v)) }
 {

@@ -28,14 +28,19 @@ pub trait LentValue: Sized + Drop {
     /// The members that a walk has not reached yet.
     type Rest: Drop;
 
+    // the value that it stands for
     ghost value: { Self → Value };
 
+    // the bytes of a text
     ghost bytes: { Self.Text → List ℕ };
 
+    // the items of an array
     ghost items: { Self.List → Items };
 
+    // the members of an object
     ghost members: { Self.Object → Members };
 
+    // the members that a walk has not reached yet
     ghost rest: { Self.Rest → Members };
 
     /// Borrows the value again.

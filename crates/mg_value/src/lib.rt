@@ -1,4 +1,4 @@
-//! JSON values whose numbers are whole: reading, writing, copying and lending them, and access to the
+//! JSON values whose numbers are `i64`: reading, writing, copying and lending them, and access to the
 //! members of objects.
 #![tactic(auto)]
 

@@ -51,8 +51,8 @@ impl Edit {
     /// is dropped.
     ///
     /// Errors: those of `apply`, except the `Conflict` of a made revision that is already known, which only `ReadyEdit::apply` finds. No
-    /// refusal needs memory. Cost: for a path that of `RevTree::knows_whole` and `fits`, and, if the path is known whole, a copy of its
-    /// newest revision; else one look-up among the leaves.
+    /// refusal needs memory. Cost: for a replica's path, that of `RevTree::knows_whole`; then, if the path is known whole, a copy of its
+    /// newest revision, and if it is not, the cost of `RevTree::fits`. For a new edit, one look-up among the leaves.
     pub fn look(self, tree: &RevTree) -> Result<Look, EditError>
         ensures foreseen { (h : Paths) → StandsFor tree.now h → Foreseen h self result tree.now }
         ensures edit { IfOk result (GivesBack self) }

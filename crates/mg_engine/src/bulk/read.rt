@@ -53,8 +53,8 @@ impl PreparedBulk {
     }
 }
 
-// Reads the shape of a body, and returns the bulk, whose edits are not read yet. `None` if the body is no object, has no array `docs`, or
-// has another fault that `read_documents` finds.
+// Reads the shape of a body, and returns the bulk, whose edits are not read yet. `None` if the body is not an object, has no array `docs`,
+// has a `new_edits` that is neither true nor false, or has a document that is not an object.
 fn read_bulk(body: Part<'_>) -> Option<Bulk<'_>>
     ensures { option_map bulk_seen result ≡ bulk_of body.entry }
 {

@@ -80,7 +80,7 @@ fn frame_body(
     }
 }
 
-/// Returns what a head with this method, target and fields asks for, and the number of bytes of the body.
+/// Returns what a head with this method, target and fields asks for, and the number of bytes of the body. The fields are spans of `bytes`.
 ///
 /// Errors: why the message is refused before its body: more than `MAX_FIELDS` fields, out of memory for the decoded target, or an error
 /// of `frame_body`.
@@ -184,7 +184,8 @@ fn read_whole(
     }
 }
 
-/// Reads the head that the bytes, at most 16,384, begin with. `spans` is room for the head's fields, of which at most 5,461 fit into it.
+/// Reads the head that the bytes, at most 16,384, begin with. `spans` is room for the head's fields: so many bytes hold at most 5,461
+/// fields.
 pub(crate) fn read_head(
     alloc: Global,
     db: &str,

@@ -206,7 +206,8 @@ impl RouteMatch {
         is_second_literal(literals, segment)
     }
 
-    /// Matches one more segment: as a literal if some route that is left has it (`is_literal`), else as a parameter.
+    /// Matches one more segment: as a literal if some route that is left has it (`is_literal`), else as a parameter, which no empty
+    /// segment matches.
     ///
     /// Errors: out of memory.
     fn enter(
@@ -236,7 +237,7 @@ impl RouteMatch {
         Ok(self)
     }
 
-    /// Matches the whole path.
+    /// Matches the whole path. No route matches a path that does not begin with a slash.
     ///
     /// Errors: out of memory.
     pub(crate) fn of(

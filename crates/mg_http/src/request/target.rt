@@ -21,8 +21,8 @@ pub enum ParsedRequest {
     Body(Endpoint),
     /// A command; the body is ignored.
     Asks(Command),
-    /// A refusal. It is written after the body was read; or at once, if the body lacks a length that it needs, has a Transfer-Encoding or is
-    /// too large.
+    /// A refusal. It is written after the body was read; or at once, if the body lacks a length that it needs, has a Transfer-Encoding or
+    /// is too large.
     Refuses(Refusal),
 }
 
@@ -75,8 +75,8 @@ fn as_text(bytes: &[u8]) -> &str
     }
 }
 
-/// Returns the command that reads a document. The parameters are UTF-8: the database's name and the id. If there are not two, the
-/// request is refused as missing.
+/// Returns the command that reads a document (`conflicts`: with its conflicts). The parameters are UTF-8: the database's name and the id.
+/// If there are not two, the request is refused as missing.
 ///
 /// Errors: out of memory.
 fn document(
@@ -119,8 +119,8 @@ fn drop_index(
     }
 }
 
-/// Returns what the method asks for at a matched path. Refuses, in this order: a path that no route matches, or a parameter that is not
-/// UTF-8; another database's name; a method that no route with this path has.
+/// Returns what the method and the query ask for; `matched` is the state after all segments of the path. Refuses, in this order: a path
+/// that no route matches, or a parameter that is not UTF-8; another database's name; a method that no route with this path has.
 ///
 /// Errors: out of memory.
 fn request_at(

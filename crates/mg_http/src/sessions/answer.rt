@@ -17,7 +17,8 @@ use std::thread::Threads;
 
 /// Reads the body as JSON, and returns the endpoint's command with this value. The body of a bulk is read into one block.
 ///
-/// Errors: those of `mg_value::read_in`; for a bulk, those of `Packed::read_in`.
+/// Errors: the body is not JSON; a number of its value is not an `i64`; out of memory, also for a bulk whose block would be longer than
+/// 4,294,967,295 bytes.
 fn read_command(
     alloc: Global,
     endpoint: Endpoint,
@@ -49,8 +50,8 @@ pub(crate) enum MessageReply {
 
 /// Reads the body as JSON, and asks the service for the endpoint's command.
 ///
-/// Refuses a body that is not JSON or has a number that is not an `i64`; replies out of memory if there is none for the body. In both cases
-/// the service is not asked.
+/// Refuses a body that is not JSON, or whose value has a number that is not an `i64`; replies out of memory if there is no memory for the
+/// body's value. In both cases the service is not asked.
 fn answer_body<H: Wait + Threads + Sync, S: Service>(
     rt: &H,
     alloc: Global,

@@ -163,7 +163,7 @@ impl Inbox {
 
     /// Reads until at least `want` bytes are unanswered.
     ///
-    /// Errors: why the last read gave no byte. The bytes of the reads before it are kept.
+    /// Errors: why no more bytes were read. The bytes that were read before are kept.
     pub(crate) fn fill<R: Read>(&mut self, reader: &mut Device<R>, want: usize) -> Result<(), Stop>
         requires { has_failed reader.old ≡ false }
         ensures bytes { (came : List ℕ)

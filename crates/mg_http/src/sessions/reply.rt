@@ -61,7 +61,7 @@ fn body_to_write(omits_body: bool, body: &[u8]) -> &[u8]
 
 /// Writes the text of a reply with this status and body. A reply that omits its body still gives its length.
 ///
-/// Errors: those of the writer.
+/// Errors: as for `Device::put`.
 fn write_text<W: Write>(
     writer: &mut Device<W>,
     output: &mut Vec<u8>,
@@ -87,7 +87,7 @@ fn write_text<W: Write>(
 
 /// Writes a reply of the service.
 ///
-/// Errors: those of the writer.
+/// Errors: as for `Device::put`.
 pub(crate) fn write_reply<W: Write>(
     writer: &mut Device<W>,
     output: &mut Vec<u8>,
@@ -103,7 +103,7 @@ pub(crate) fn write_reply<W: Write>(
 
 /// Writes a refusal as a reply. Allocates nothing but room in `output`.
 ///
-/// Errors: those of the writer.
+/// Errors: as for `Device::put`.
 pub(crate) fn write_refusal<W: Write>(
     writer: &mut Device<W>,
     output: &mut Vec<u8>,
@@ -125,7 +125,7 @@ pub(crate) fn write_refusal<W: Write>(
 
 /// Writes the reply to a message.
 ///
-/// Errors: those of the writer.
+/// Errors: as for `Device::put`.
 pub(crate) fn write_answer<W: Write>(
     writer: &mut Device<W>,
     output: &mut Vec<u8>,

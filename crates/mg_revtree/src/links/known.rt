@@ -27,7 +27,7 @@ fn is_within_root(number: usize, square: usize) -> bool
 }
 
 // Whether the newer list may hold `newer` revisions: at most 64, or about four times the square root of `older` (the division
-// rounds down, so up to three more).
+// rounds down, so up to three more), whichever is more.
 fn are_few(newer: usize, older: usize) -> bool {
     newer <= FEW || is_within_root(newer / ROOTS, older)
 }
@@ -36,10 +36,10 @@ fn are_few(newer: usize, older: usize) -> bool {
 ///
 /// They are kept in two lists: an older one, which copies share, and a newer one, which is copied. A list is older or newer by when its
 /// revisions were joined, not by their positions. The newer list holds at most 64 revisions, or about four times the square root of the
-/// number of older ones. Before it grows beyond that limit, it is folded into a copy of the older list, and that copy becomes the older
-/// list. Therefore a copy of the tree never copies more revisions than the limit. The next fold comes only when the runs that were joined
-/// since the last one have more revisions than the limit, known ones included. The parent of a revision is the one in the older list; if
-/// that list has none, the one in the newer list.
+/// number of older ones, whichever is more. Before it grows beyond that limit, it is folded into a copy of the older list, and that copy
+/// becomes the older list. Therefore a copy of the tree never copies more revisions than the limit. The next fold comes only when the
+/// runs that were joined since the last fold have more revisions than the limit, known ones included. The parent of a revision is the one
+/// in the older list; if that list has none, the one in the newer list.
 #[derive(Drop)]
 pub struct KnownLinks {
     older: Older,
