@@ -15,7 +15,7 @@ use Rattle.mg_doc.specs.Digest.{digest_of}
 use Rattle.mg_doc.specs.declared.error.EditRefusal.{EditRefusal}
 use Rattle.mg_doc.specs.declared.error.EditRefusal.TheVariants.{Conflict, BadHistory}
 
--- an accepted path: its newest revision, and the revisions after that one
+-- an accepted path: its newest revision, and the older ones, newest first
 abbrev pub Accepted : Type 0
 Accepted = Revision × List Revision
 

@@ -33,8 +33,8 @@ impl State {
     /// defines no index, the reply refuses it and there is no next state.
     ///
     /// Errors: `NoMemory` if an allocation fails, or if there are too many references to a part of this state. Cost: the size of the body
-    /// and the number of indexes; if the catalog has an equal definition already, also the number of shards; otherwise also a copy of the
-    /// catalog, a step for each document, and a sort of the rows.
+    /// and the numbers of indexes and of shards; unless the catalog has an equal definition already, also a copy of the catalog, a step for
+    /// each document, and a sort of the rows.
     pub(crate) fn create_index<R: Threads + Sync, G>(
         &self,
         context: &Context<'_, R, G>,
@@ -116,7 +116,7 @@ impl State {
     /// command and there is no next state.
     ///
     /// Errors: `NoMemory` if an allocation fails, or if there are too many references to a part of this state. Cost: a look-up in the
-    /// catalog; if the index is there, also a copy of the catalog, and that of `Shard::without_index` for each shard.
+    /// catalog; if the index is there, also a copy of the catalog and, for each shard, the cost of `Shard::without_index`.
     pub(crate) fn drop_index(
         &self,
         alloc: Global,

@@ -66,7 +66,7 @@ pub(crate) fn entry_offset(bytes: &[u8], count: usize, index: usize) -> usize
     }
 }
 
-// How many bytes the object takes once an entry of this length stands in the gap, instead of the gap's own entries.
+// How many bytes the object takes once an entry of this length replaces the entries from `gap.before` up to `gap.after`, which may be none.
 fn len_with(bytes: &[u8], count: usize, gap: Gap, entry_len: u32) -> Result<u32, NoMemory>
     requires block { IsObjectBlock bytes.now }
     requires counted { count ≡ length (entries_in bytes.now) }
@@ -82,7 +82,7 @@ fn len_with(bytes: &[u8], count: usize, gap: Gap, entry_len: u32) -> Result<u32,
     Ok(len)
 }
 
-// Adds the offsets that the entries have once an entry of this length stands in the gap, instead of the gap's own entries.
+// Adds the offsets that the entries have once an entry of this length replaces those from `gap.before` up to `gap.after`.
 fn push_offsets(
     out: &mut Vec<u8>,
     bytes: &[u8],

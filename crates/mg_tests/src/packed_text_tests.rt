@@ -6,7 +6,7 @@ use mg_value::Json;
 use std::alloc::Global;
 use std::process::Abort;
 
-// Whether the compact text of the part is appended to the bytes that are given.
+// Whether `append_compact_text` keeps the bytes that were there, and appends `COMPACT`.
 fn is_added<R: Abort>(rt: &R, alloc: Global, whole: &Part<'_>) -> bool {
     let front = Vec::from_slice(alloc, b"[").expect(rt, "memory");
     let all = whole.append_compact_text(front).expect(rt, "memory");
