@@ -10,12 +10,12 @@ again. With --as-they-are both are used as they are, and nothing is created or d
 below: one JSON object a line, such as {"method":"POST","target":"_find","body":{"selector":{}}}. In a target and in the texts of a body,
 `REV:ID` stands for the newest revision that each side has shown of the document ID, and `BOOKMARK` for that side's last bookmark.
 
-Replies are alike if they have the same status and the same value. These differences, which the reference names, are set aside:
+Replies are alike if they have the same status and the same value. These differences, which docs/MIGRATE.md names, are set aside:
 - the order of members, and the reasons of errors;
 - ids that a server makes, of revisions and of documents without `_id`: the ids of both sides are matched in the order of their making;
 - the form of a bookmark, and what a page has besides its documents and its bookmark, such as `warning`;
 - `partitioned` of an index, and what `_explain` says of anything but the index, limit and skip.
-A request below may expect one more difference, by its name in the reference. Every other difference is red.
+A request below may expect one more difference, by its name there. Every other difference is red.
 
 It has been tested with this program on both sides and against an imitation, and never against a CouchDB. Exit status: 0 if no
 difference is red, 1 if one is, 2 if nothing could be compared.
@@ -38,7 +38,7 @@ class Trouble(Exception):
 
 @dataclass(frozen=True)
 class Named:
-    """A difference that the reference names, and what is known of the reply here and of that of CouchDB."""
+    """A difference that docs/MIGRATE.md names, and what is known of the reply here and of that of CouchDB."""
 
     name: str
     here: dict = field(default_factory=dict)

@@ -9,6 +9,9 @@ ratio where the input costs a product of two parts that both grow. A shape passe
 share of the memory, and at most twice its share of the processor time (with --full 1.5 times: without it, other work runs at the same
 time, and more of the input is outside the caches). The ratios are printed.
 
+The larger input also takes at most 64 MiB and 64 times its largest message of memory, beside what the program takes without input. MORE
+lists the inputs that take more, what the database keeps and the reply included. What was measured is printed.
+
 What does not depend on the size is not counted: 2 MiB of memory, and the time of a sixteenth of the smaller input. The sizes grow until the
 smaller input takes a tenth of a second beyond that; if a body cannot be so large, each input is sent to as many processes as take a tenth of
 a second together. A time that is too long is measured up to three times. The replies must end in the bytes that the shape writes out, and
@@ -17,6 +20,7 @@ The last line is 'N passed, M failed'.
 """
 import math
 import os
+import re
 import resource
 import subprocess
 import sys
@@ -35,6 +39,14 @@ MOST_ROUNDS = 100
 TINY = 16
 ROOM = 2 << 20
 STACK = 1 << 20
+BODY_ROOM = 64 << 20
+BODY_TIMES = 64
+# beside BODY_ROOM, how many times its largest message an input takes that takes more than BODY_TIMES times it
+MORE = {"or_arms": 130, "nor_arms": 130, "negated_choices": 140, "deep_negations": 130, "arms_under_a_path": 140, "deep_arrays": 140,
+        # these have an atom for each operator, with its argument
+        "atoms_under_a_path": 120, "atoms_at_every_depth": 120,
+        # most of this is what the database keeps
+        "steps_of_an_index": 150, "documents_without_an_id": 330}
 LAST = get("%00")
 LAST_REPLY = reply(404, '{"error":"not_found","reason":"missing"}')
 
@@ -102,6 +114,20 @@ def costs_of(program, shape, inputs, rounds):
     return [(used - first[0], memory) for used, memory in others]
 
 
+def largest_message(given):
+    """Returns the size of the largest message of an input."""
+    return max(len(message) for message in re.split(rb"(?=(?:GET|POST) /db/)", given))
+
+
+def check_memory(program, shape, given, memory, tally):
+    """Checks that an input takes at most what a body may take, beside what the program takes without input."""
+    size = largest_message(given)
+    taken = memory - measure(program, shape, b"", b"")[1]
+    print(f"{shape.name}: {taken / 2**20:.0f} MiB for a message of {size / 2**20:.2f} MiB: {taken / size:.0f} times its size", flush=True)
+    most = BODY_ROOM + MORE.get(shape.name, BODY_TIMES) * size
+    tally.expect(f"{shape.name}: memory of a body, at most {most >> 20} MiB", taken <= most, True)
+
+
 def compare(program, shape, small, times, slack, tally):
     """Compares one shape at two sizes. The larger one may take `slack` times its share of the processor time."""
     small, rounds = find_size(program, shape, small, times)
@@ -120,6 +146,7 @@ def compare(program, shape, small, times, slack, tally):
               f"{f', {rounds} processes' if rounds > 1 else ''}", flush=True)
         tally.expect(f"{shape.name}: time", other <= slack * share * one, True)
         tally.expect(f"{shape.name}: memory", much - ROOM <= 1.5 * share * (little + ROOM), True)
+        check_memory(program, shape, inputs[-1][0], much, tally)
 
 
 def set_small_stack():
@@ -159,7 +186,7 @@ def check_depth(program, tally):
 def main():
     args, tally = arguments(__doc__, only=[]), Tally()
     shapes = values.SHAPES + queries.SHAPES + writes.SHAPES
-    tally.expect("names without a shape", sorted(set(args.only) - {shape.name for shape in shapes}), [])
+    tally.expect("names without a shape", sorted({*args.only, *MORE} - {shape.name for shape in shapes}), [])
     for shape in shapes:
         if not args.only or shape.name in args.only:
             size, times, slack = (shape.full, 2, 1.5) if args.full else (shape.gate, 4, 2)

@@ -4,8 +4,8 @@
 usage: compare.py --program PATH
 
 The imitation, tests/imitation/front.py, is a proxy in front of a second program. It differs from the first program only in what
-docs/REFERENCE.md names as a difference. Each further run plants one more difference, which must be found. The names of differences must be
-those of the reference. The last line is 'N passed, M failed'.
+docs/MIGRATE.md names as a difference. Each further run plants one more difference, which must be found. The names of differences must be
+those of docs/MIGRATE.md. The last line is 'N passed, M failed'.
 """
 import contextlib
 import json
@@ -16,7 +16,7 @@ from pathlib import Path
 from common.arguments import arguments
 from common.example import database_url, run_example
 from common.modules import module_in
-from common.reference import REFERENCE
+from common.reference import TOP
 from common.server import Launch, listening
 from common.tally import Tally
 from common.wire import ask_once
@@ -156,9 +156,9 @@ def check_databases(tally, program):
 
 def main():
     program, tally = arguments(__doc__).program, Tally()
-    rows = REFERENCE.read_text(encoding="utf-8")
+    rows = (TOP / "docs" / "MIGRATE.md").read_text(encoding="utf-8")
     for name in sorted({request.named.name for request in example.requests() if request.named}):
-        tally.expect(f"the row of the reference: {name}", f"| {name} |" in rows, True)
+        tally.expect(f"the row of docs/MIGRATE.md: {name}", f"| {name} |" in rows, True)
     check_runs(tally, program)
     check_databases(tally, program)
     with tempfile.TemporaryDirectory() as folder:

@@ -1,13 +1,14 @@
 #!/usr/bin/env python3
-"""Counts the instructions of requests of each kind, and compares them with the counts in bench/counts.json.
+"""Counts what requests of each kind take, and compares with the counts in bench/counts.json.
 
 usage: counts.py --program PATH [--counts FILE]
 
-A kind fails if a request takes more than 1.1 times as many instructions as the file says, so that no loss of speed goes unseen. If the file
-says more than 1.1 times as many as it takes, that is printed. Then, or after a change that is worth its cost, write a new file by
-`bench/misses --program PATH --write bench/counts.json`. The counts come from `valgrind`, which must be installed, and hardly depend on
-the machine; the file names the documents, requests and numbers of shards. Each reply must be right. The last line is
-'N passed, M failed'.
+Counted are the instructions of a request over standard input; those of a `GET` over TCP, also with a long head, whole and in two pieces, so that a
+head that is parsed once more is seen; and the system calls of a `GET` over TCP, alone and among others that are sent at once. A row
+fails if it takes more than 1.05 times what the file says, so that no loss of speed goes unseen. If the file says more than 1.05 times what a
+row takes, that is printed. Then, or after a change that is worth its cost, write a new file by `bench/counts --program PATH --write`.
+The counts come from `valgrind` and a preloaded shim compiled by `cc`, which must be installed, and hardly depend on the machine. Each
+reply must be right. The last line is 'N passed, M failed'.
 """
 import json
 import sys
@@ -16,13 +17,14 @@ from common.arguments import arguments
 from common.modules import TOP, module_in
 from common.tally import Tally
 
-MORE = 1.1
+MORE = 1.05
 counted = module_in("bench", "measuring.counted")
+over_tcp = module_in("bench", "measuring.over_tcp")
 
 
 def compare(tally, name, found, kept):
-    """Compares the instructions of one kind of request."""
-    change = f"{found:,} instructions a request, {found / kept:.2f} times the {kept:,} of the file"
+    """Compares the count of one row."""
+    change = f"{found:,} a request, where the file has {kept:,}"
     tally.count(name, [change] if found > kept * MORE else [])
     if found < kept / MORE:
         print(f"{name}: {change}, so the file can be replaced", flush=True)
@@ -33,10 +35,14 @@ def main():
     tally = Tally()
     with open(args.counts) as file:
         kept = json.load(file)
-    if tally.needs("valgrind") and tally.needs("callgrind_control"):
-        for setting, kinds in counted.of_sizes(args.program, kept["sizes"]).items():
+    if all([tally.needs(command) for command in ("valgrind", "callgrind_control", "cc")]):
+        for pair, kinds in counted.of_sizes(args.program, kept["sizes"]).items():
             for kind, (instructions, _) in kinds.items():
-                compare(tally, f"{kind}, {setting} shards and workers", instructions, kept["counts"][setting][kind][0])
+                compare(tally, f"instructions of {kind}, {pair} shards and workers", instructions, kept["counts"][pair][kind][0])
+        for row, instructions in over_tcp.instructions(args.program).items():
+            compare(tally, f"instructions of a {row} over TCP", instructions, kept["over TCP"]["instructions"][row])
+        for row, calls in over_tcp.system_calls(args.program).items():
+            compare(tally, f"system calls of a {row}", sum(calls.values()), sum(kept["over TCP"]["system calls"][row].values()))
     return tally.end()
 
 

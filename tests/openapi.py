@@ -3,7 +3,9 @@
 
 usage: openapi.py --program PATH [--document FILE]
 
-- The routes and the refusals of docs/openapi.json are exactly those of the tables of the reference.
+- The routes and the refusals of docs/openapi.json are exactly those of the tables of the reference; its version is the newest of CHANGELOG.md.
+- Each operation has a description, a tag of the document, the refusal of other methods, and examples of its request and its reply, which
+  are allowed by their schemas and are examples of the reference. Each schema has a description.
 - For each example of the reference, of tests/sessions and of tests/conversations: its path, method and status are in the document. The
   document allows its reply, but not a reply with a member left out, added or of another type.
 - The document allows the body of each accepted request, but no body that was refused for its JSON, shape, operators, sort or documents.
@@ -172,6 +174,34 @@ def check_document(tally, surface, text):
         tally.expect(f"parameters of {path}", named, set(re.findall(r"{(\w+)}", path)))
 
 
+def examples_of(operation):
+    """Yields the examples of an operation's request and replies, each with its schema."""
+    contents = [operation.get("requestBody"), *(response for status, response in operation["responses"].items() if status < "300")]
+    for content in contents:
+        if content is not None:
+            media = content["content"]["application/json"]
+            yield media.get("example"), media["schema"]
+
+
+def check_operations(tally, surface, text):
+    """Checks what each operation says for its readers."""
+    document = surface.document
+    newest = re.search(r"^## ([0-9.]+)", (TOP / "CHANGELOG.md").read_text(encoding="utf-8"), re.MULTILINE)
+    tally.expect("the version of the surface", document["info"]["version"], newest and newest[1])
+    known = {json.dumps(parse(body), sort_keys=True) for _, _, body, _, _ in reference_examples(text)}
+    known |= {json.dumps(parse(reply), sort_keys=True) for _, _, _, _, reply in reference_examples(text)}
+    tags = {tag["name"] for tag in document["tags"]}
+    operations = {f"{method} {path}": item[method] for path, item in document["paths"].items() for method in METHODS if method in item}
+    tally.expect("names of operations", len({one["operationId"] for one in operations.values()}), len(operations))
+    for name, operation in operations.items():
+        found = (bool(operation["summary"] and operation["description"]), set(operation["tags"]) <= tags, "405" in operation["responses"])
+        tally.expect(f"what {name} says", found, (True, True, True))
+        for example, schema in examples_of(operation):
+            is_known = json.dumps(example, sort_keys=True) in known
+            tally.expect(f"an example of {name}", (example is not None, surface.schemas.allows(schema, example), is_known), (True, True, True))
+    tally.expect("schemas without a description", [name for name, one in document["components"]["schemas"].items() if not one.get("description")], [])
+
+
 def refusals_of(surface):
     """Yields each status from 400 on, with each error and reason of its responses."""
     operations = [item[method] for item in surface.document["paths"].values() for method in METHODS if method in item]
@@ -189,6 +219,7 @@ def main():
     tally, text = Tally(), REFERENCE.read_text(encoding="utf-8")
     surface = Surface(json.loads(args.document.read_text(encoding="utf-8")))
     check_document(tally, surface, text)
+    check_operations(tally, surface, text)
     counts = []
     for where, examples in ((REFERENCE.name, reference_examples(text)), ("sessions", session_examples()), ("conversations", conversation_examples())):
         before = tally.passed + tally.failed

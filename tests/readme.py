@@ -1,16 +1,19 @@
 #!/usr/bin/env python3
-"""Runs commands of README.md in a shell, and compares their output with the expected output.
+"""Runs the commands of README.md and docs/TUTORIAL.md in a shell, and compares their output with the expected output.
 
-usage: readme.py --program PATH [--part conversation|command]
+usage: readme.py --program PATH [--part conversations|readme|tutorial|command]
 
-`conversation` is the first conversation. The commands of the `sh` blocks of its section run in one shell, with the path and the port of
-the program put in; their output must be the `text` blocks, joined. Needs `curl`.
-`command` is the first `sh` block, unchanged, which builds and runs the program without proving it: its output must end in the
-bytes of crates/mangod/stdout. Needs `rt`; README.md says how long it takes. The last line is 'N passed, M failed'.
+`readme` is the section "Run it" of README.md up to its text block, `tutorial` is docs/TUTORIAL.md; `conversations`, the default, is both.
+The commands of the `sh` blocks run in one shell, from the top of the repository; their output must be the `text` blocks, joined. The
+program takes the place of `rt try` and of crates/mangod/out/mangod, free ports that of 5984 and 5985, and a new folder that of /tmp. Needs
+`curl`.
+`command` is the `sh` block of README.md with `printf`, unchanged, which builds and runs the program without proving it: its output must end
+in the bytes of crates/mangod/stdout. Needs `rt`. The last line is 'N passed, M failed'.
 """
 import re
 import subprocess
 import sys
+import tempfile
 from pathlib import Path
 
 from common.arguments import arguments
@@ -20,37 +23,63 @@ from common.tally import Tally
 SECONDS = 60
 PATIENCE = 1800
 TOP = Path(__file__).resolve().parent.parent
+LIST = '{"indexes":[{"ddoc":null,"def":{"fields":[{"_id":"asc"}]},"name":"_all_docs","type":"special"}],"total_rows":1}\n'
+# the first command of README.md, up to the program's arguments
+TRY = re.compile(r"\(cd crates/mangod && rt try --seconds [0-9]+ -- (.*)\) &")
+KILL = "trap 'kill $(jobs -p)' EXIT\n"
 
 
 def blocks(text, kind):
     return re.findall(rf"^```{kind}\n(.*?)^```$", text, re.S | re.M)
 
 
-def check_conversation(text, program, tally):
-    section = text[text.index("## A first conversation"):text.index("## What is proved")]
-    commands, expected = ("".join(blocks(section, kind)) for kind in ("sh", "text"))
-    commands = commands.replace("crates/mangod/out/mangod", str(program)).replace("5984", str(free_port()))
-    done = subprocess.run(["bash", "-c", f"trap 'kill %1' EXIT\n{commands}"], capture_output=True, text=True, timeout=SECONDS)
-    tally.expect("the first conversation", (done.stdout, done.stderr), (expected, "mangod: listening\n"))
+def run(commands, program):
+    """Runs commands in one shell at the top of the repository. Returns their standard output."""
+    with tempfile.TemporaryDirectory() as folder:
+        commands = commands.replace("/tmp/", f"{folder}/")
+        for port in ("5984", "5985"):
+            commands = commands.replace(port, str(free_port()))
+        commands = KILL + TRY.sub(rf"{program} \1 &", commands).replace("crates/mangod/out/mangod", str(program))
+        done = subprocess.run(["bash", "-c", commands], cwd=TOP, stdin=subprocess.DEVNULL, capture_output=True, text=True, timeout=SECONDS)
+    return done.stdout
 
 
-def check_command(text, _program, tally):
-    block = blocks(text, "sh")[0]
+def check_readme(program, tally):
+    """The first two commands start a server and print its list of indexes, which README.md does not show; then comes the conversation."""
+    section = (TOP / "README.md").read_text(encoding="utf-8").partition("## Run it\n")[2].partition("\nWith the address `-`")[0]
+    commands, expected = blocks(section, "sh"), blocks(section, "text")
+    tally.expect("blocks of README.md", (len(commands), len(expected)), (2, 1))
+    tally.expect("a command that starts a server", len(TRY.findall(section)), 1)
+    tally.expect("the first conversation", run("".join(commands), program), LIST + "".join(expected))
+
+
+def check_tutorial(program, tally):
+    text = (TOP / "docs" / "TUTORIAL.md").read_text(encoding="utf-8")
+    commands, expected = blocks(text, "sh"), blocks(text, "text")
+    tally.expect("blocks of the tutorial", (len(commands), len(commands) == len(expected)), (9, True))
+    tally.expect("the tutorial", run("".join(commands), program), "".join(expected))
+
+
+def check_command(_program, tally):
+    text = (TOP / "README.md").read_text(encoding="utf-8")
+    block = next((one for one in blocks(text, "sh") if "printf" in one), "false")
     done = subprocess.run(["bash", "-c", block], cwd=TOP, stdin=subprocess.DEVNULL, capture_output=True, timeout=PATIENCE)
     expected = (TOP / "crates" / "mangod" / "stdout").read_bytes()
     tally.expect(f"the status of {block!r}", done.returncode, 0)
     tally.expect("what it writes", done.stdout[-len(expected):], expected)
 
 
-# each part, and the program that it needs
-PARTS = {"conversation": (check_conversation, "curl"), "command": (check_command, "rt")}
+# the checks of each part, and the program that they need
+PARTS = {"conversations": ([check_readme, check_tutorial], "curl"), "readme": ([check_readme], "curl"),
+         "tutorial": ([check_tutorial], "curl"), "command": ([check_command], "rt")}
 
 
 def main():
-    args, tally = arguments(__doc__, part="conversation"), Tally()
-    part, needed = PARTS[args.part]
+    args, tally = arguments(__doc__, part="conversations"), Tally()
+    parts, needed = PARTS[args.part]
     if tally.needs(needed):
-        part((TOP / "README.md").read_text(encoding="utf-8"), args.program, tally)
+        for check in parts:
+            check(args.program, tally)
     return tally.end()
 
 

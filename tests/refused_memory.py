@@ -5,9 +5,9 @@ usage: refused_memory.py --program PATH [--full] [--only NAME ..]
 
 The messages are those of the conversations of tests/conversations named below, followed by some that read everything: the indexes, each
 document with its conflicts, and the rows of each index that was created. Each conversation is run with 1 and 7 shards and 1 and 2
-workers. The shim refuse/refuse.c refuses its nth request for memory, or that and all later ones, for each n until a run meets no refusal.
-Without --full these are about ten n, spread over all requests; for two conversations, with 7 shards and 2 workers, each n where one request
-alone is refused. A run is right if
+workers. The shim refuse/refuse.c refuses its nth request for memory, or that and all later ones, until a run meets no refusal: alone on one
+shard, each n in turn; elsewhere about ten n, spread over all requests, and each n with --full. The conversations run side by side, one on
+each processor. A run is right if
 - nothing was written and the program ended with `mangod: out of memory` (the session never began), and the refused request is one that a
   session without input makes, too; or
 - each reply is `out_of_memory`, or that of the model (the folder model/), which gets no command that was answered `out_of_memory`; and the
@@ -19,6 +19,8 @@ the file of the conversation. A conversation passes or fails as one, with all nu
 was ever refused. The shim needs a C compiler, `cc`. The last line is 'N passed, M failed'.
 """
 import json
+import multiprocessing
+import os
 import resource
 import sys
 
@@ -36,11 +38,10 @@ NAMES = ["first-write-and-query", "type-order", "comparison-across-types", "miss
          "limit-and-skip", "choice-of-index", "bad-documents", "bad-queries", "refused-queries", "arrays", "bookmark-spelling",
          "five-shards-of-all-docs", "work", "conflicts", "paths", "sixty-five-rows", "resharding",
          "what-is-dealt"]
-TOO_LARGE = [(queries.atoms_under_a_path, 3_000, 1), (writes.tiny_documents, 90_000, 1), (values.deep_arrays, 8_000, 3),
+TOO_LARGE = [(queries.atoms_under_a_path, 400_000, 1), (writes.tiny_documents, 90_000, 1), (values.deep_arrays, 8_000, 3),
              (writes.documents_without_an_id, 120_000, 1)]
 GRANTED = 60 << 20
 SETTINGS = [(1, 1), (7, 1), (1, 2), (7, 2)]
-EACH = ["first-write-and-query", "new-edits"]
 RUNS = 10
 
 
@@ -125,7 +126,7 @@ def faults_of(refusal, program, audited, place, full):
     step = 1 if full else max(1, count_requests(refusal, command, b"".join(audited.messages)) // RUNS)
     faults, seen = [], set()
     for onward in (False, True):
-        is_each = full or (audited.name in EACH and not onward and place == len(SETTINGS) - 1)
+        is_each = full or (shards == 1 and not onward)
         begin = 1 if is_each else 1 + (2 * place + onward) * step // 8
         found, refused = refuse_each(refusal, command, audited, onward, 1 if is_each else step, begin)
         faults += found
@@ -137,10 +138,24 @@ def faults_of(refusal, program, audited, place, full):
     return [f"{shards} shards, {workers} workers: {fault}" for fault in faults]
 
 
-def check(refusal, program, audited, full, tally):
-    tally.expect(f"{audited.name}: the model", list(model_faults(audited.conversation)), [])
-    faults = [fault for place in range(len(SETTINGS)) for fault in faults_of(refusal, program, audited, place, full)]
-    tally.count(audited.name, faults[:3])
+def faults_in(work):
+    """Returns a conversation's name, and the faults of its runs with one number of shards and of workers, with a shim of its own."""
+    program, conversation, place, full = work
+    with refusals() as refusal:
+        return conversation.name, faults_of(refusal, program, Audited(conversation), place, full)
+
+
+def check_each(program, conversations, full, tally):
+    """Checks the conversations side by side, those with the most requests for memory first."""
+    ordered = sorted(conversations, key=lambda found: -sum(map(len, found.messages())))
+    work = [(program, found, place, full) for found in ordered for place in range(len(SETTINGS))]
+    faults = {found.name: [] for found in ordered}
+    with multiprocessing.Pool(os.cpu_count()) as pool:
+        for name, found in pool.imap_unordered(faults_in, work, chunksize=1):
+            faults[name] += found
+    for found in ordered:
+        tally.expect(f"{found.name}: the model", list(model_faults(found)), [])
+        tally.count(found.name, faults[found.name][:3])
 
 
 def set_limit():
@@ -162,9 +177,7 @@ def main():
     conversations = all_conversations()
     check_little_memory(args.program, Audited(conversations[NAMES[0]]), tally)
     if tally.needs("cc"):
-        with refusals() as refusal:
-            for name in args.only or NAMES:
-                check(refusal, args.program, Audited(conversations[name]), args.full, tally)
+        check_each(args.program, [conversations[name] for name in args.only or NAMES], args.full, tally)
         print(f"each conversation on {len(SETTINGS)} pairs of shards and workers:")
     return tally.end()
 

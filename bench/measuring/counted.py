@@ -1,107 +1,131 @@
-"""Counts what requests of each kind take, with callgrind of valgrind: instructions, and reads that miss a simulated cache."""
+"""Counts what requests of each kind take, with callgrind of valgrind: instructions, and reads that miss a simulated cache. The program runs
+over its standard input, so counts hardly depend on the machine."""
 import contextlib
 import glob
 import os
+import shutil
 import subprocess
 import tempfile
 from concurrent import futures
 
-from .documents import INDEXES, Corpus
-from .piped import Piped
-from .processes import run
-from .program import parse_pairs
-from .rows import REQUESTS, load
-from .rust import PROGRAM, built
+from .cells import load
+from .documents import INDEXES, MARKER, Corpus, Request
+from .program import Connection, Program
 
-KINDS = ["get", "equality", "falling", "two", "deep", "commit"]
 # what the gate counts, in half a minute
 GATE = {
-    "documents": 2000, "shape": "nested", "ids": "fronted", "shards": "1,16", "cache": 1 << 18, "requests": 40,
+    "documents": 2000, "shape": "nested", "ids": "fronted", "pairs": [(1, 1), (16, 1)], "cache": 1 << 18, "requests": 40,
     "kinds": ["get", "equality", "falling", "two", "deep", "scan", "commit"],
 }
-# what bench/run counts
-MANY = {"documents": 10000, "shape": "nested", "ids": "short", "shards": "1,4/4,16/4,16,64/32", "cache": 1 << 20, "requests": 60}
+# what bench/run counts, at each of two numbers of documents
+MANY = {"shape": "flat", "ids": "short", "pairs": [(1, 1), (16, 1), (64, 32)], "cache": 1 << 20, "requests": 60,
+        "kinds": ["get", "equality", "falling", "commit"]}
+TOOL = ["valgrind", "--quiet", "--tool=callgrind", "--instr-atstart=no"]
 
 
-class Counted(Piped):
-    """The program under callgrind, which counts only while it is switched on; without settings of the C library."""
+class Pipes:
+    """The two pipes of a process, with the methods of a socket."""
 
-    def __init__(self, path, corpus, pair, cache, folder):
-        tool = ["valgrind", "--quiet", "--tool=callgrind", "--instr-atstart=no", "--cache-sim=yes"]
-        tool += [f"--LL={cache},16,64", f"--callgrind-out-file={folder}/counts", f"--log-file={folder}/log"]
-        super().__init__(path, corpus, pair, tool, tunables="")
+    def __init__(self, process):
+        self.given, self.taken = process.stdin, process.stdout.fileno()
+
+    def sendall(self, text):
+        self.given.write(text)
+        self.given.flush()
+
+    def recv(self, size):
+        return os.read(self.taken, size)
+
+
+class Session(Connection):
+    """The only session of a process. Each message is sent after the reply to the one before was read."""
+
+    def __init__(self, process, corpus):
+        self.socket, self.corpus = Pipes(process), corpus
+
+
+class Counter:
+    """Callgrind on a process, which counts only while it is switched on."""
+
+    def __init__(self, folder):
         self.folder = folder
 
-    def fill(self):
-        load(self, self.corpus)
-        for which in INDEXES:
-            self.index(which)
+    def options(self):
+        return [f"--callgrind-out-file={self.folder}/counts", f"--log-file={self.folder}/log"]
 
-    def control(self, *args):
-        subprocess.run(["callgrind_control", *args, str(self.process.pid)], check=True, capture_output=True)
+    def control(self, pid, *args):
+        subprocess.run(["callgrind_control", *args, str(pid)], check=True, capture_output=True)
 
-    def count(self, prepared, warm):
-        """Sends the requests. Returns the instructions and the reads from memory of one. The first `warm` requests fill the simulated cache
-        uncounted."""
-        self.control("--instr=on")
-        run(self.connection, prepared[:warm])
-        self.control("--zero")
-        run(self.connection, prepared[warm:])
-        self.control("--dump")
-        self.control("--instr=off")
-        found = self.newest()
-        return found["Ir"] / (len(prepared) - warm), found["DLmr"] / (len(prepared) - warm)
-
-    def newest(self):
-        """Returns the sums of the last dump."""
-        name = max(glob.glob(f"{self.folder}/counts.*"), key=lambda one: int(one.rpartition(".")[2]))
+    def count(self, pid, warm_up, work):
+        """Does some work after a warm-up, which fills the simulated cache uncounted. Returns the sums of what the work took, by their names."""
+        self.control(pid, "--instr=on")
+        warm_up()
+        self.control(pid, "--zero")
+        work()
+        self.control(pid, "--dump")
+        self.control(pid, "--instr=off")
+        name = max(glob.glob(f"{self.folder}/counts.*"), key=lambda one: int(one.rpartition(".")[2].partition("-")[0]))
         with open(name) as counts:
             lines = dict(line.rstrip("\n").split(": ", 1) for line in counts if line.startswith(("events: ", "totals: ")))
         return dict(zip(lines["events"].split(), map(int, lines["totals"].split())))
 
 
-def counted(path, corpus, pair, kinds, requests, cache):
+class Counted(Program):
+    """The program under callgrind, over pipes, without settings of the C library."""
+
+    def __init__(self, path, corpus, pair, cache, folder):
+        self.name, self.corpus, self.counter, self.revisions = "counted", corpus, Counter(folder), {}
+        tool = [*TOOL, "--cache-sim=yes", f"--LL={cache},16,64", *self.counter.options()]
+        args = [*tool, path, "db", *map(str, pair), "1", "-"]
+        self.process = subprocess.Popen(args, stdin=subprocess.PIPE, stdout=subprocess.PIPE)
+        self.loaded = Session(self.process, corpus)
+
+    def ask_all(self, requests):
+        for one in requests:
+            self.loaded.ask(self.loaded.prepare(one), one.answer)
+
+    def count(self, requests, warm):
+        """Returns the instructions and the reads from memory of one request; the first `warm` ones are a warm-up."""
+        found = self.counter.count(self.process.pid, lambda: self.ask_all(requests[:warm]), lambda: self.ask_all(requests[warm:]))
+        return [round(found[event] / (len(requests) - warm)) for event in ("Ir", "DLmr")]
+
+
+def numbered(requests):
+    """Returns requests in which each new document has another id: its number in place of the marker."""
+    return [one if one.answer else Request(one.kind, (one.about[0].replace(MARKER, f"{at:010}"), one.about[1]), None)
+            for at, one in enumerate(requests)]
+
+
+def counted(path, corpus, pair, sizes):
     """Returns for each kind the instructions and the reads from memory of a request, all with one database."""
-    with tempfile.TemporaryDirectory() as folder, contextlib.closing(Counted(path, corpus, pair, cache, folder)) as program:
-        program.fill()
+    with tempfile.TemporaryDirectory() as folder, contextlib.closing(Counted(path, corpus, pair, sizes["cache"], folder)) as program:
+        load(program)
+        for which in INDEXES:
+            program.index(which)
         found = {}
-        for kind in kinds:
+        for kind in sizes["kinds"]:
             # each scan reads all documents, so a few scans suffice
-            number = max(2, requests // 20) if kind == "scan" else requests
-            prepared = [(program.connection.prepare(one), one.answer) for one in corpus.requests(kind, number + number // 2, 1)]
-            found[kind] = program.count(prepared, number // 2)
+            number = max(2, sizes["requests"] // 20) if kind == "scan" else sizes["requests"]
+            found[kind] = program.count(numbered(corpus.requests(kind, number + number // 2)), number // 2)
         return found
 
 
 def of_sizes(path, sizes):
-    """Returns for each pair of shards and workers, such as `16/4`, and each kind: the instructions and the reads, rounded. The pairs are counted
-    side by side, since counts do not depend on what else the machine does."""
-    corpus, wanted = Corpus(sizes["documents"], sizes["shape"], sizes["ids"]), parse_pairs(sizes["shards"])
+    """Returns for each pair of shards and workers, such as `16/4`, and each kind: the instructions and the reads. The pairs are counted side by
+    side, since counts do not depend on what else the machine does."""
+    corpus = Corpus(sizes["documents"], sizes["shape"], sizes["ids"])
     with futures.ThreadPoolExecutor(os.cpu_count()) as pool:
-        made = list(pool.map(lambda pair: counted(path, corpus, pair, sizes["kinds"], sizes["requests"], sizes["cache"]), wanted))
-    found = {}
-    for (shards, workers), kinds in zip(wanted, made):
-        found[f"{shards}/{workers}"] = {kind: [round(instructions), round(reads)] for kind, (instructions, reads) in kinds.items()}
-    return found
+        made = list(pool.map(lambda pair: counted(path, corpus, pair, sizes), sizes["pairs"]))
+    return {"{}/{}".format(*pair): kinds for pair, kinds in zip(sizes["pairs"], made)}
 
 
-def counts(args):
-    """Returns the counts of the gate with more documents, for the program and for plain Rust: for each program and pair, and each kind."""
-    sizes = {**GATE, **({"documents": 1000, "shards": "1", "requests": 4} if args.smallest else MANY)}
-    programs = {"mangod": (args.program, sizes)}
-    if not args.smallest and "rust" in args.systems and built():
-        programs["plain Rust"] = (PROGRAM, {**sizes, "shards": "1"})
-    with futures.ThreadPoolExecutor() as pool:
-        made = pool.map(lambda one: of_sizes(*one), programs.values())
-    return {f"{name} {pair}": kinds for name, found in zip(programs, made) for pair, kinds in found.items()}
-
-
-def counts_table(found):
-    """Yields the lines of a table of instructions and reads from memory, with a column for each program."""
-    if not found:
+def instructions(args, add):
+    """The instructions of requests on pairs of shards and workers. They are exact, so only the first turn counts them, if
+    valgrind is installed."""
+    if args.turn or not shutil.which("valgrind"):
         return
-    yield f"| instructions, and reads from memory | {' | '.join(found)} |"
-    yield "|---" * (len(found) + 1) + "|"
-    for kind in GATE["kinds"]:
-        cells = ["{:,}, {:,}".format(*kinds[kind]) for kinds in found.values()]
-        yield f"| {REQUESTS[kind][0]} | {' | '.join(cells)} |"
+    for count in sorted({min(10_000, args.usual), args.usual}):
+        sizes = {**MANY, "documents": count, **({"requests": 4} if args.smallest else {})}
+        for pair, kinds in of_sizes(args.program, sizes).items():
+            for kind, (taken, reads) in kinds.items():
+                add(f"mangod {pair}, {count:,} {MANY['shape']}", f"{kind}, counted", {"instructions": taken, "reads": reads})

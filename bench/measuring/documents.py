@@ -1,13 +1,12 @@
 """The documents of the measurements, the requests for them, and the right answers.
 
-All prices differ, so the price alone decides each order by price.
+All prices differ, so the price alone decides each order by price. New documents have other groups, texts and greater prices than those that
+were loaded, so they change no right answer.
 """
 import base64
 import json
 import random
 from dataclasses import dataclass
-
-from .shapes import IDS, SHAPES, member_at
 
 BULK = 1000
 PAGE = 25
@@ -16,6 +15,38 @@ IN_GROUP = 20
 KINDS = 7
 PRIME = 1000003
 INDEXES = {"group": ["group"], "price": ["price"], "kind": ["kind", "price"]}
+# in the id of a new document: ten digits, which the client makes
+MARKER = "@" * 10
+
+
+class Flat:
+    """Documents of some 200 bytes: five members, in ASCII and without escapes."""
+
+    paths = {"group": "group", "kind": "kind", "price": "price", "text": "text"}
+
+    @staticmethod
+    def body(i, group, kind, price):
+        text = f"a document of the measurement, number {i:07d}, with some words that nobody asks for"
+        return {"group": group, "kind": kind, "price": price, "tags": ["red", "blue", i % 3], "text": text}
+
+
+class Nested:
+    """Documents of some 250 bytes: two objects, an array of objects, and texts with escapes and beyond ASCII."""
+
+    paths = {"group": "customer.group", "kind": "customer.kind", "price": "order.price", "text": "order.note"}
+
+    @staticmethod
+    def body(i, group, kind, price):
+        return {
+            "customer": {"group": group, "kind": kind, "name": f'Zo\u00eb "Z{i % 10}" \u00c5ngstr\u00f6m'},
+            "lines": [{"count": i % 3, "item": "cr\u00e8me br\u00fbl\u00e9e"}, {"count": 2, "item": "tea"}],
+            "order": {"note": f"number {i:07d}:\nto the\tback \\ door, \u5317\u4eac", "price": price},
+        }
+
+
+SHAPES = {"flat": Flat, "nested": Nested}
+# eight bytes, which suits look-ups best, and sixteen with a common front
+IDS = {"short": "d{:07d}", "fronted": "customer:{:07d}"}
 
 
 @dataclass(frozen=True)
@@ -33,7 +64,7 @@ class Answer:
 
 @dataclass(frozen=True)
 class Request:
-    """A request: its kind, its arguments, and the right answer."""
+    """A request: its kind, its arguments, and the right answer; None: a document is written."""
 
     kind: str
     about: tuple
@@ -47,8 +78,9 @@ def compact(value):
 class Corpus:
     """`count` documents of a shape, with ids of a kind, and their order by price."""
 
-    def __init__(self, count, shape="flat", ids="short"):
-        self.count, self.shape, self.name = count, SHAPES[shape], IDS[ids].format
+    def __init__(self, count, shape="flat", ids="short", ascending=False):
+        self.count, self.shape, self.name, self.ascending = count, SHAPES[shape], IDS[ids].format, ascending
+        self.title = f"{count:,} {shape}"
         self.groups = max(1, count // IN_GROUP)
         self.prices = sorted(self.price(i) for i in range(count))
         self.unprice = pow(7919, -1, PRIME)
@@ -59,13 +91,17 @@ class Corpus:
     def body(self, i):
         return self.shape.body(i, i % self.groups, f"kind{i % KINDS}", self.price(i))
 
+    def new_body(self, i):
+        """Returns the content of a new document."""
+        return self.shape.body(self.count + i, self.groups + i % self.groups, f"kind{i % KINDS}", PRIME + self.price(i))
+
+    def edited_body(self, i):
+        """Returns the content of an edited document: its text is another one."""
+        return self.shape.body(self.count + i, i % self.groups, f"kind{i % KINDS}", self.price(i))
+
     def path(self, member):
         """Returns the path of a member that requests use."""
         return self.shape.paths[member]
-
-    def number(self, name):
-        """Returns the number of the document with this id; for the id of a new document, the number of the document that it copies."""
-        return int(name.partition(":")[2][:7] or name[1:8])
 
     def columns(self, which):
         """Returns the paths of an index."""
@@ -73,12 +109,16 @@ class Corpus:
 
     def text(self, i):
         """Returns the text of a document that no other document has."""
-        return member_at(self.path("text"), self.body(i))
+        value = self.body(i)
+        for step in self.path("text").split("."):
+            value = value[step]
+        return value
 
     def numbers(self):
-        """Returns the numbers of the documents in a random order, in which they are loaded."""
+        """Returns the numbers of the documents in the order in which they are loaded: a random one, or ascending."""
         order = list(range(self.count))
-        random.Random(1).shuffle(order)
+        if not self.ascending:
+            random.Random(1).shuffle(order)
         return order
 
     def at(self, rank):
@@ -89,57 +129,55 @@ class Corpus:
         """Returns the number of pages by price before the deep one: 1,000, or all but the last if there are not so many."""
         return min(DEPTH, self.count // PAGE - 1)
 
-    def requests(self, kind, number, seed):
-        """`number` requests of a kind. With another seed, new documents have other ids."""
+    def requests(self, kind, number, seed=1):
+        """Returns requests of a kind, drawn with a seed."""
         dice = random.Random(seed)
-        ask = getattr(self, f"ask_{kind}")
-        return [ask(dice, seed, turn) for turn in range(number)]
+        return [getattr(self, f"ask_{kind}")(dice) for _ in range(number)]
 
-    def ask_get(self, dice, seed, turn):
+    def ask_get(self, dice):
         i = dice.randrange(self.count)
         return Request("get", (self.name(i),), Answer(1, self.name(i), self.name(i)))
 
-    def ask_equality(self, dice, seed, turn):
+    def ask_equality(self, dice):
         group = dice.randrange(self.groups)
         return Request("equality", (group,), Answer(IN_GROUP, self.name(group), self.name(group + (IN_GROUP - 1) * self.groups)))
 
-    def ask_falling(self, dice, seed, turn):
+    def ask_falling(self, dice):
         """Returns the request for a page below a price, most expensive first."""
         rank = dice.randrange(PAGE, self.count)
         return Request("falling", (self.prices[rank],), Answer(PAGE, self.name(self.at(rank - 1)), self.name(self.at(rank - PAGE))))
 
-    def ask_two(self, dice, seed, turn):
-        """Returns the request for a page of one kind from a price on; the page is shorter if there are too few documents of the kind."""
+    def ask_two(self, dice):
+        """Returns the request for a page of one kind from a price on."""
         start = dice.randrange(max(1, self.count - 2 * PAGE * KINDS))
         kind = dice.randrange(KINDS)
-        found = []
-        for rank in range(start, self.count):
-            if self.at(rank) % KINDS == kind:
-                found.append(self.at(rank))
-                if len(found) == PAGE:
-                    break
+        found = [one for rank in range(start, min(self.count, start + 2 * PAGE * KINDS)) if (one := self.at(rank)) % KINDS == kind][:PAGE]
         return Request("two", (f"kind{kind}", self.prices[start]), Answer(len(found), self.name(found[0]), self.name(found[-1])))
 
-    def ask_deep(self, dice, seed, turn):
+    def ask_deep(self, dice):
         """Returns the request for the page after the first `depth()` pages by price."""
         rank = self.depth() * PAGE
         before = self.at(rank - 1)
         return Request("deep", (self.price(before), self.name(before)), Answer(PAGE, self.name(self.at(rank)), self.name(self.at(rank + PAGE - 1))))
 
-    def ask_scan(self, dice, seed, turn):
+    def ask_scan(self, dice):
         i = dice.randrange(self.count)
         return Request("scan", (self.text(i),), Answer(1, self.name(i), self.name(i)))
 
-    def ask_commit(self, dice, seed, turn):
+    def ask_commit(self, dice):
+        """Returns the request to make a document whose id follows a random one."""
         i = dice.randrange(self.count)
-        return Request("commit", (f"{self.name(i)}-{seed}-{turn}", compact(self.body(i))), None)
+        return Request("commit", (f"{self.name(i)}-{MARKER}", i), None)
 
-    def ask_mixture(self, dice, seed, turn):
-        return self.ask_commit(dice, seed, turn) if turn % 10 == 9 else self.ask_get(dice, seed, turn)
+    def ask_ascending(self, dice):
+        """Returns the request to make a document whose id is the last one."""
+        return Request("commit", (f"e{MARKER}", dice.randrange(self.count)), None)
+
+    def ask_mix(self, dice):
+        """Returns a query by an index (80 %), a `GET` (15 %), or a commit of one document (5 %)."""
+        return getattr(self, f"ask_{dice.choices(['equality', 'get', 'commit'], [80, 15, 5])[0]}")(dice)
 
     def bookmark(self, price, last):
         """Returns the bookmark after the document with this price, for pages by price."""
         place = compact(["_design/m", "price", "asc", [price], last])
         return base64.urlsafe_b64encode(place.encode()).decode().rstrip("=")
-
-

@@ -20,8 +20,6 @@ SETTINGS = [
     "max-allowed-packet=64M",
 ]
 ROW = "SELECT id, body FROM docs WHERE "
-# without FORCE the optimizer reads all documents of a kind where the price is low
-FORCED = "SELECT id, body FROM docs FORCE INDEX (by_kind) WHERE "
 # the type of the generated column for each member
 TYPES = {"group": "BIGINT", "price": "BIGINT", "kind": "VARCHAR(16)"}
 # protocol 4.1, a database at the start, names of methods to log in, and no EOF packets
@@ -29,6 +27,8 @@ ABLE = 0x200 | 0x8 | 0x8000 | 0x80000 | 0x1000000
 UTF8_BINARY = 46
 QUERY, PREPARE, EXECUTE = b"\x03", b"\x16", b"\x17"
 NUMBER, TEXT = b"\x08\0", b"\xfd\0"
+# in place of the number of a statement: the one that was prepared last
+LAST = b"\xff\xff\xff\xff"
 
 
 def program():
@@ -42,21 +42,14 @@ def column(member):
 
 def statements_of(corpus):
     """Returns the statement for each kind of request."""
-    group, kind, price = map(column, ("group", "kind", "price"))
+    group, price = map(column, ("group", "price"))
     return {
         "get": ROW + "id = ?",
         "equality": ROW + f"{group} = ? ORDER BY id LIMIT {PAGE}",
         "falling": ROW + f"{price} < ? ORDER BY {price} DESC, id DESC LIMIT {PAGE}",
-        "two": FORCED + f"{kind} = ? AND {price} >= ? ORDER BY {price}, id LIMIT {PAGE}",
-        "deep": ROW + f"{price} >= ? AND ({price} > ? OR id > ?) ORDER BY {price}, id LIMIT {PAGE}",
         "scan": ROW + f"JSON_VALUE(body, '$.{corpus.path('text')}') = ? ORDER BY id LIMIT {PAGE}",
         "commit": "INSERT INTO docs (id, body) VALUES (?, ?)",
     }
-
-
-def values_of(request):
-    """Returns the values of a statement: the deep page names its price twice."""
-    return (request.about[0], *request.about) if request.kind == "deep" else request.about
 
 
 def sized(data):
@@ -75,8 +68,8 @@ def bound(number, values):
 class Connection:
     """A connection that sends each command after it has read the answer to the one before."""
 
-    def __init__(self, path, statements):
-        self.socket, self.rest = socket.socket(socket.AF_UNIX), b""
+    def __init__(self, path, corpus, statements):
+        self.socket, self.rest, self.corpus = socket.socket(socket.AF_UNIX), b"", corpus
         self.socket.connect(path)
         self.packet()
         words = ABLE.to_bytes(4, "little") + (1 << 24).to_bytes(4, "little") + bytes([UTF8_BINARY]) + bytes(23)
@@ -107,47 +100,28 @@ class Connection:
         return answer[1:5]
 
     def exchange(self, message):
-        """Sends a command; returns the packets of its answer: the rows, or the only packet if it has none."""
+        """Sends a command; returns the packets of its answer: one that begins with 0, or rows up to a short one that begins with 254."""
         self.socket.sendall(message)
-        data, at, end, packets, last = self.rest, 0, 0, [], None
-        while last is None:
-            while len(data) < at + 4 or len(data) < (end := at + 4 + int.from_bytes(data[at : at + 3], "little")):
-                data += receive(self.socket, "MariaDB")
-            code = data[at + 4]
-            if code == 0xFF:
-                raise OSError(f"MariaDB: {data[at + 7 : end]!r}")
-            packets.append(data[at + 4 : end])
-            at = end
-            # an answer without rows is one packet that begins with 0; the last packet after rows begins with 254 and is short
-            if len(packets) == 1 and code == 0:
-                last = packets
-            elif len(packets) > 1 and code == 0xFE and len(packets[-1]) < 1 << 10:
-                last = packets[1 + packets[0][0] : -1]
-        self.rest = data[at:]
-        return last
+        packets = [self.packet()]
+        while packets[0][0] != 0 and (len(packets) == 1 or packets[-1][0] != 0xFE or len(packets[-1]) >= 1 << 10):
+            packets.append(self.packet())
+        return packets
 
     def query(self, text):
         body = QUERY + text.encode()
         return self.exchange(len(body).to_bytes(3, "little") + b"\0" + body)
 
     def prepare(self, request):
-        body = bound(self.statements[request.kind], values_of(request))
+        values = (request.about[0], compact(self.corpus.new_body(request.about[1]))) if request.kind == "commit" else request.about
+        body = bound(self.statements[request.kind], values)
         return len(body).to_bytes(3, "little") + b"\0" + body
 
-    def ask(self, message, answer):
-        rows = self.exchange(message)
-        if answer is None:
-            right = rows[0][:2] == b"\0\1"
-        else:
-            # a row: a byte 0, a byte of flags, and the id after its length
-            ids = [row[3 : 3 + row[2]].decode() for row in rows]
-            right = answer.fits(ids)
-        if not right:
-            raise ValueError(f"{message[:300]!r} was answered by {str(rows)[:300]}, wanted {answer}")
+    def reply(self, message):
+        return b"".join(self.exchange(message))
 
 
 class MariaDB(Server):
-    name = "MariaDB"
+    name, framing = "MariaDB", "mariadb"
 
     def __init__(self, corpus):
         self.corpus, self.columns, self.bulks = corpus, set(), {}
@@ -165,21 +139,31 @@ class MariaDB(Server):
         self.connection.query("USE bench")
 
     def first_client(self):
-        return Connection(self.socket, {})
+        """Returns a connection without statements."""
+        return Connection(self.socket, self.corpus, {})
 
     def last_words(self):
         with open(self.log.name) as file:
             return file.read()[-1000:]
 
-    def client(self):
-        client = self.first_client()
+    def client(self, kinds=Server.kinds):
+        """Returns a connection with the statements of some kinds of requests prepared."""
+        client, statements = self.first_client(), statements_of(self.corpus)
         client.query("USE bench")
-        client.statements = {kind: client.prepared(statement) for kind, statement in statements_of(self.corpus).items()}
+        client.statements = {kind: client.prepared(statements[kind]) for kind in kinds}
         return client
 
-    def pages(self):
-        """Returns the size of the file of the table and its indexes in bytes."""
-        return os.path.getsize(os.path.join(self.data, "bench", "docs.ibd"))
+    def records(self, requests):
+        """Returns the requests, all of one kind, with the statement that is prepared last: its number is another one on each connection."""
+        self.kind = requests[0].kind
+        client = self.client(())
+        client.statements = {self.kind: LAST}
+        found = [(self.code, one.answer.last.encode() if one.answer else b"", client.prepare(one)) for one in requests]
+        client.socket.close()
+        return found
+
+    def sockets(self, number):
+        return [self.client([self.kind]).socket for _ in range(number)]
 
     def prepare_bulk(self, numbers):
         if len(numbers) not in self.bulks:
@@ -207,7 +191,7 @@ class MariaDB(Server):
 
     def check_plan(self, kind, statement, request):
         """Ends the run unless the plan of a statement reads an index and sorts nothing."""
-        for value in values_of(request):
+        for value in request.about:
             statement = statement.replace("?", str(value) if isinstance(value, int) else f"'{value}'", 1)
         plan = b"\n".join(self.connection.query(f"EXPLAIN {statement}")).decode(errors="replace")
         if not ("PRIMARY" in plan if kind == "get" else "by_" in plan) or "filesort" in plan:

@@ -1,219 +1,222 @@
-"""The tables of docs/PERFORMANCE.md, by name, from one measurement."""
-import operator
-import statistics
+"""The text of docs/PERFORMANCE.md: that of bench/performance.md, with the tables of a measurement."""
+import json
+import re
+import sys
 import textwrap
+from pathlib import Path
 
-from .alone import CROWDS
-from .grids import lines, shown
-from .plan import FEW
-from .rows import REQUESTS
-from .pairs import ALONE, PAIRS
-from .tables import Results, spelled
+from .cells import KINDS, Cell
+from .figures import is_less, middle, number, spread
 
-QUERIES = ["get", "equality", "falling", "two", "deep", "scan"]
-SHORT = ["get", "equality", "falling", "scan", "commit"]
-OURS, RUST = "mangod", "plain Rust"
-OTHERS = ["nested", "flat, long ids"]
+TEMPLATE = Path(__file__).resolve().parent.parent / "performance.md"
+PLACE = re.compile(r"<!-- bench/page: ([a-z ]+) -->")
+MOST_LINES = 150
+ALL_PAIRS = [(1, 1), (4, 4), (16, 4), (16, 1), (64, 32)]
+SYSTEMS = ["plain Rust", "SQLite", "PostgreSQL", "MariaDB", "Tarantool", "Redis"]
+
+
+def read(name):
+    with open(name, encoding="utf-8") as file:
+        return json.load(file)
+
+
+def where_of(pair, documents, sessions=16):
+    return "mangod {}/{}".format(*pair) + f", {sessions} sessions" * (sessions != 16) + (f", {documents}" if documents else "")
 
 
 class Measurement:
-    """The medians of a measurement, by variant, number of documents, system, row and figure."""
+    """A measurement, with the figures of all parts by database, row and name."""
 
     def __init__(self, found):
-        self.found, self.usual, self.results = found, found["usual"], Results()
-        self.results.add_all(found["runs"])
-        self.sizes, self.systems = self.results.counts("flat"), self.results.systems()
+        self.found, self.rows = found, {}
+        for part in found["figures"].values():
+            for where, rows in part.items():
+                for row, figures in rows.items():
+                    self.rows.setdefault(where, {}).setdefault(row, {}).update(figures)
+        self.usual = f"{found['usual']:,} flat"
+        self.nested = f"{found['usual']:,} nested"
+        self.few = f"{min(found['usual'], 10_000):,} flat"
 
-    def median(self, size, system, row, figure="processor_us", variant="flat"):
-        """Returns the median of a figure; None if it was not measured."""
-        values = self.results.values(variant, size, system, row, figure)
-        return statistics.median(values) if values else None
+    def values(self, where, row, figure="processor"):
+        """Returns the values of a figure; an empty list if it was not measured."""
+        return self.rows.get(where, {}).get(str(row), {}).get(figure, [])
 
-    def clients(self):
-        """Returns the numbers of clients that were measured with the usual number of documents."""
-        return [one for one in self.found["clients"] if self.median(self.usual, OURS, f"get {one}")]
-
-    def pair_rows(self):
-        """Returns the rows of the pairs of shards and workers, at the greatest number of documents."""
-        found = self.found["pairs"]
-        return found[max(found, key=int)] if found else {}
-
-    def grid(self, part):
-        return self.found["grids"].get(part, {"rows": {}})
+    def each(self):
+        """Yields all figures: the database, the row, the name and the values."""
+        for where, rows in self.rows.items():
+            for row, figures in rows.items():
+                yield from ((where, row, name, values) for name, values in figures.items())
 
 
-def table(first, systems, rows):
-    """Yields the lines of a table with a column for each system. A row is a title, and a function from a system to a cell."""
-    yield f"| {first} | {' | '.join(systems)} |"
-    yield "|---" * (len(systems) + 1) + "|"
-    for title, cell in rows:
-        cells = [shown(cell(system)) for system in systems]
-        if any(cells):
-            yield f"| {title} | {' | '.join(cells)} |"
+def table(first, columns, rows):
+    """Returns the lines of a table; none if nothing of it was measured. A row is a title and its cells: texts, or values that are shown with their
+    spread."""
+    lines = [f"| {title} | {' | '.join(one if isinstance(one, str) else spread(one) for one in cells)} |" for title, cells in rows if any(cells)]
+    return [f"| {first} | {' | '.join(columns)} |", "|---" * (len(columns) + 1) + "|", *lines] if lines else []
 
 
 def source(measurement):
-    """Returns the lines on the source of the tables: the commit, the command, the machine, and the versions of the others."""
+    """Returns the lines on the source of the tables."""
     found = measurement.found
-    versions = ", ".join(f"{name} {number}" for name, number in found["versions"].items())
-    runs = f"{found['repeat']} run{'s' if found['repeat'] > 1 else ''}"
-    minutes = sum(found["took"].values()) / 60
-    words = f"Measured on {found['date']} at commit `{found['commit']}` by `{found['command']}` in {minutes:.0f} minutes, on "
-    failed = f"Failed: {', '.join(found['failed'])}. " if found["failed"] else ""
-    words += f"{found['machine']}, beside {versions}. {failed}A cell is the median of {runs}; a row of a run takes "
-    words += f"{2 * found['share']:g} s of processor time. [All figures](measured/{named(found)})."
+    if not found["figures"]:
+        return ["No measurement of a quiet machine stands in bench/results."]
+    there = {name: number for name, number in found["versions"].items() if number != "none"}
+    absent = [name for name in found["versions"] if name not in there]
+    versions = ", ".join(f"{name} {number}" for name, number in there.items()) + (f" (not installed: {', '.join(absent)})" if absent else "")
+    loops, others = [look["loop_ms"] for look in found["looks"]], max(look["others"] for look in found["looks"])
+    minutes = sum(part["took"] for part in found["parts"].values()) / 60
+    words = (f"Measured on {found['date']} at commit `{found['commit']}` in {minutes:.0f} minutes, on {found['machine']}, beside {versions}. "
+             f"Meanwhile other processes took at most {others:.2f} processors, and a loop that is always the same took {min(loops):.1f} to "
+             f"{max(loops):.1f} ms. A figure is the median of {found['turns']} turns, with the least and the greatest in brackets; a turn of a "
+             f"cell takes {found['seconds']:g} s.")
+    if not found["cycles"]:
+        words += " This machine does not count cycles, so processor time stands for them."
     return textwrap.wrap(words, 148, break_long_words=False, break_on_hyphens=False)
 
 
-def named(found):
-    """Returns the name of the file with all tables of a measurement."""
-    return f"{found['date']}-{found['commit']}.md"
+def requests(measurement):
+    one = where_of((1, 1), measurement.usual)
+    rows = []
+    for kind in ("get", "equality", "falling", "scan", "commit", "ascending", "update"):
+        rates = [measurement.values(one, Cell(kind, clients), "rate") for clients in (1, 4, 16)]
+        cells = [measurement.values(one, Cell(kind)), measurement.values(where_of((1, 1), measurement.nested), Cell(kind))]
+        rows.append((KINDS[kind][0], [*cells, *rates, measurement.values(one, Cell(kind, 16), "p99")]))
+    columns = ["processor time, µs", "nested documents, µs", "requests a second: 1 client", "4 clients", "16 clients", "99 % wait at most, of 16, µs"]
+    return table(f"{measurement.found['usual']:,} documents, three indexes", columns, rows)
 
 
-# what is measured once or by one client: its title, its row, its figure, and the factor from the figure to the unit of the title
-ONE_EACH = [
-    *((f"{title}, µs", f"{kind} 1", "processor_us", 1) for kind, (title, _) in REQUESTS.items()),
-    ("load, µs a document", "load", "processor_us", 1),
-    ("an index on one field, ms", "build", "processor_us", 1e-3),
-    ("memory a document, bytes", "memory", "bytes", 1),
-    ("memory a document with three indexes, bytes", "indexed", "bytes", 1),
-]
+def people(measurement):
+    """Yields a table with the rate and the waits of clients on few sessions."""
+    usual, many, small = where_of((4, 4), measurement.usual, 4), where_of((4, 4), measurement.usual), where_of((4, 4), "1,000 flat", 4)
+    rows = [(f"{KINDS['mix'][0]}; 16 clients", usual, Cell("mix", 16)), ("`GET`, 16 clients", usual, Cell("get", 16)),
+            ("`GET`, 64 clients that pause 30 ms", usual, Cell("get", 64, 30)),
+            ("`GET`, 1,000 clients that pause 30 ms, 16 sessions", many, Cell("get", 1000, 30))]
+    rows += [(f"{KINDS[kind][0]}, beside four clients that commit, 16 sessions", many, f"{kind} by 1 beside commits by 4")
+             for kind in ("get", "equality")]
+    rows += [(f"`GET`, beside 1,000 connections with {what} (3 s are measured)", small, f"get by 1 beside 1,000 with {what}")
+             for what in ("half a head", "half a body", "an unread reply")]
+    made = [(title, [measurement.values(where, row, figure) for figure in ("rate", "median", "p99")]) for title, where, row in rows]
+    yield from table("4 sessions where nothing else is said", ["a second", "median, µs", "99 % at most, µs"], made)
+    yield ""
+    for title, values in [
+        ("`GET`s a second of one client that sends 1,000 at once", measurement.values(usual, Cell("get", depth=1000), "rate")),
+        ("5,000 connections that each send a `GET` at once are answered within, ms (20 s are waited)",
+         measurement.values(small, "5,000 at once", "ms")),
+        ("Memory of each of 5,000 silent connections, bytes", measurement.values(small, "5,000 idle", "bytes")),
+    ]:
+        if values:
+            yield f"- {title}: {spread(values)}."
 
 
-def behind(measurement):
-    """Yields the lines of a table of the rows in which another system is better: it takes less, or makes more commits with several clients."""
-    def row(title, place, factor, better):
-        ours, *others = ((measurement.median(measurement.usual, system, *place), system) for system in measurement.systems)
-        ahead = sorted((one for one in others if ours[0] and one[0] is not None and better(one[0], ours[0])), reverse=better is operator.gt)
-        if ahead:
-            yield f"| {title} | {spelled(ours[0] * factor)} | {', '.join(f'{system} {spelled(value * factor)}' for value, system in ahead)} |"
-
-    yield f"| {measurement.usual:,} flat documents: processor time, memory, commits | mangod | better |\n|---|---|---|"
-    for title, kind, figure, factor in ONE_EACH:
-        if kind != "mixture 1":
-            yield from row(title, (kind, figure), factor, operator.lt)
-    yield from row("commits a second by four clients", ("commit 4", "a_second"), 1, operator.gt)
+def less(some, others):
+    """Returns the differences, turn by turn."""
+    return [one - other for one, other in zip(some, others)]
 
 
-def of_kind(measurement, kind, variant="flat"):
-    return lambda system: measurement.median(measurement.usual, system, f"{kind} 1", variant=variant)
+def divided(values, by):
+    return [value / by for value in values]
 
 
-def queries(measurement):
-    rows = [(REQUESTS[kind][0], of_kind(measurement, kind)) for kind in QUERIES]
-    rows += [(f"{REQUESTS[kind][0]}, {variant}", of_kind(measurement, kind, variant)) for variant in OTHERS for kind in FEW[:2]]
-    return table(f"µs of processor time, {measurement.usual:,} documents, one client", measurement.systems, rows)
-
-
-def together(measurement):
-    clients = [one for one in measurement.clients() if one > 1]
-
-    def cell(kind):
-        def of(system):
-            values = [measurement.median(measurement.usual, system, f"{kind} {one}", "a_second") for one in clients]
-            return values if all(values) else None
-        return of
-
-    title = f"requests a second by the clock, {measurement.usual:,} documents, clients: {' / '.join(map(str, clients))}"
-    return table(title, measurement.systems, [(REQUESTS[kind][0], cell(kind)) for kind in SHORT])
-
-
-def by_size(measurement, row, figure):
-    """Returns the numbers of documents with which a row was measured, as a text; and a function from a system to its figures at these numbers."""
-    sizes = [size for size in measurement.sizes if measurement.median(size, OURS, row, figure)]
-
-    def cell(system):
-        values = [measurement.median(size, system, row, figure) for size in sizes]
-        return " / ".join("-" if value is None else spelled(value) for value in values) if any(values) else None
-
-    return " / ".join(f"{size:,}" for size in sizes), cell
-
-
-def writes(measurement):
-    def build(system):
-        value = measurement.median(measurement.usual, system, "build")
-        return value and value / 1e3
-
-    def load(variant):
-        return lambda system: measurement.median(measurement.usual, system, "load", variant=variant)
-
-    sizes, cell = by_size(measurement, "commit 1", "processor_us")
-    rows = [(f"a commit of one document among {sizes}, µs", cell)]
-    rows += [(f"a commit of one document, {variant}, µs", of_kind(measurement, "commit", variant)) for variant in OTHERS]
-    rows += [(f"load, {variant}, µs a document", load(variant)) for variant in ("flat", "nested")]
-    rows.append(("an index on one field, ms", build))
-    return table(f"processor time, {measurement.usual:,} documents where no number is said", measurement.systems, rows)
-
-
-def memory(measurement):
-    def cell(row, variant):
-        return lambda system: measurement.median(measurement.usual, system, row, "bytes", variant)
-
-    sizes, by_sizes = by_size(measurement, "memory", "bytes")
-    rows = [(f"{sizes} flat documents, without indexes", by_sizes)]
-    for row, variant, title in (("indexed", "flat", ""), ("pages", "flat", ", on pages"), ("indexed", "nested", "")):
-        rows.append((f"{measurement.usual:,} {variant} documents, with three indexes{title}", cell(row, variant)))
-    return table("bytes a document", measurement.systems, rows)
-
-
-def proof(measurement):
-    """Yields the lines of a table of the ratios of the program's figures to those of plain Rust."""
-    columns = [("flat", size) for size in measurement.sizes] + [("nested", measurement.usual)]
-    yield f"| figures of mangod divided by those of plain Rust, one client | {' | '.join(f'{size:,} {variant}' for variant, size in columns)} |"
-    yield "|---" * (len(columns) + 1) + "|"
-    for title, row, figure, _ in ONE_EACH:
-        if row.split()[0] in ("two", "deep", "mixture"):
-            continue
-        both = [[measurement.median(size, system, row, figure, variant) for system in (OURS, RUST)] for variant, size in columns]
-        cells = [f"{ours / theirs:.2f}" if ours and theirs else "" for ours, theirs in both]
-        if any(cells):
-            yield f"| {title.rpartition(', ')[0]} | {' | '.join(cells)} |"
+def room(measurement):
+    """Yields a table of memory and of what is done once."""
+    one, nested = (where_of((1, 1), documents) for documents in (measurement.usual, measurement.nested))
+    flat = lambda row: measurement.values(one, row, "bytes")
+    many = where_of((64, 32), None)
+    rows = [
+        ("bytes a flat document, no index; three indexes", [flat("load"), flat("indexed")]),
+        ("bytes a nested document, no index; three indexes", [measurement.values(nested, row, "bytes") for row in ("load", "indexed")]),
+        ("bytes a document with random ids; with ascending ones", [flat("random keys"), flat("ascending keys")]),
+        ("bytes a row of an index with random keys; with ascending ones",
+         [less(flat(f"{order} keys, with an index"), flat(f"{order} keys")) for order in ("random", "ascending")]),
+        ("bytes of a document that was made and deleted",
+         [measurement.values(where_of((1, 1), None), "a document that was made and deleted", "bytes")]),
+        ("blocks of memory of a flat document without indexes", [measurement.values(where_of((1, 1), None), "a flat document", "blocks")]),
+        ("bytes that an index of 10 rows takes on each of 64 shards", [measurement.values(many, "an index of 10 rows, a shard", "bytes")]),
+        ("load, µs of processor time a document: flat; nested", [measurement.values(where, "load") for where in (one, nested)]),
+        ("an index on one field, ms of processor time; on two fields", [measurement.values(one, f"index {which}") for which in ("price", "kind")]),
+        ("250 indexes on 64 shards, 32 workers and 1,000 documents, ms by the clock; 1,000 indexes",
+         [measurement.values(many, f"{count} indexes", "ms") for count in ("250", "1,000")]),
+    ]
+    rows = [(title, [*cells, ""][:2]) for title, cells in rows]
+    most = measurement.found["most"]
+    sizes = [(f"a commit among {count:,} documents, µs of processor time", where_of((1, 1), f"{count:,} flat"))
+             for count in sorted({min(10_000, measurement.found["usual"]), measurement.found["usual"], most})]
+    return table(f"{measurement.found['usual']:,} documents", ["", "and"],
+                 [*rows, *((title, [measurement.values(where, Cell("commit")), ""]) for title, where in sizes)])
 
 
 def pairs(measurement):
-    """Yields the lines of a table of the pairs of shards and workers: processor time, requests by several clients, instructions and reads from
-    memory."""
-    names = ["{}/{}".format(*one) for one in PAIRS]
-    rows = {title: [statistics.median(one) for one in cells] for title, cells in measurement.pair_rows().items() if title in ALONE.values()}
-    clients = " / ".join(map(str, CROWDS))
-    rows.update({f"{title}, clients: {clients}, a second": cells for title, cells in measurement.grid("crowd")["rows"].items()})
-    rows.update(measurement.grid("skips")["rows"])
-    counted = [measurement.found["counts"].get(name) for name in [*(f"mangod {one}" for one in names), f"{RUST} 1/1"]]
-    for kind in SHORT if counted[0] else []:
-        rows[f"{REQUESTS[kind][0]}: instructions, reads"] = ["{:,}, {:,}".format(*one[kind]) if one else None for one in counted]
-    most = max(map(int, measurement.found["pairs"]), default=0)
-    yield f"| {most:,} nested documents, requests a second of {measurement.usual:,} flat; shards/workers | {' | '.join(names)} | {RUST} |"
-    yield "|---" * (len(names) + 2) + "|"
-    for title, cells in rows.items():
-        yield f"| {title} | {' | '.join(map(shown, [*cells, None][: len(names) + 1]))} |"
+    """Returns a table of the pairs of shards and workers."""
+    def cells(documents, row, figure="processor", sessions=16):
+        return [measurement.values(where_of(pair, documents, sessions), row, figure) for pair in ALL_PAIRS]
+
+    rows = []
+    for documents in dict.fromkeys((measurement.usual, measurement.few)):
+        for kind in ("equality", "falling") + ("get", "commit") * (documents == measurement.usual):
+            counted = cells(documents, f"{kind}, counted", "instructions")
+            both = [spread(used) + (f"; {number(middle(exact))}" if exact else "") for used, exact in zip(cells(documents, Cell(kind)), counted)]
+            rows.append((f"{KINDS[kind][0]}, {documents}: µs of processor time; instructions", both))
+    rows.append((f"{KINDS['scan'][0]}: ms by the clock", [divided(one, 1e3) for one in cells(measurement.usual, Cell("scan"), "median")]))
+    rows.append(("an index on two fields: ms by the clock", cells(measurement.usual, "index kind", "clock")))
+    rows += [(f"{KINDS[kind][0]}, 16 clients: requests a second", cells(measurement.usual, Cell(kind, 16), "rate"))
+             for kind in ("equality", "commit")]
+    rows += [(f"{title}, 4 sessions: requests a second", cells(measurement.usual, cell, "rate", 4))
+             for title, cell in ((f"{KINDS['mix'][0]}; 16 clients", Cell("mix", 16)), ("`GET`, 64 clients that pause 30 ms", Cell("get", 64, 30)))]
+    return table("shards/workers", ["{}/{}".format(*pair) for pair in ALL_PAIRS], rows)
 
 
-def start(measurement):
-    """Yields the lines of a sentence on the time of a start."""
-    found = measurement.grid("starts")
-    if found["rows"]:
-        times = dict(zip(found["columns"], map(spelled, found["rows"]["ms by the clock"])))
-        rust = f"; plain Rust takes {times.pop(RUST)} ms" if RUST in times else ""
-        starts = ", ".join(f"{time} ms with {pair}" for pair, time in times.items())
-        yield from textwrap.wrap(f"From the start to the first reply, without documents, it takes {starts} shards/workers{rust}.", 148)
+# what is compared with other systems: a title, a row, a figure, whether more is better
+COMPARED = [
+    *((f"{KINDS[kind][0]}, µs", Cell(kind), "processor", False) for kind in ("get", "equality", "falling", "scan", "commit")),
+    *((f"{KINDS[kind][0]}, a second by 16 clients", Cell(kind, 16), "rate", True) for kind in ("get", "equality", "commit")),
+    ("a commit of a new document, a second by 4 clients", Cell("commit", 4), "rate", True),
+    ("load, µs a document", "load", "processor", False),
+    ("an index on one field, ms", "index price", "processor", False),
+    ("memory a document, bytes", "load", "bytes", False),
+    ("memory a document with three indexes, bytes", "indexed", "bytes", False),
+]
 
 
-def catalogs(measurement):
-    """Yields the lines of a sentence on the time that many indexes take."""
-    found = measurement.grid("catalogs")
-    if found["rows"]:
-        times = " / ".join(map(spelled, found["rows"]["seconds by the clock"]))
-        words = f"To define {' / '.join(found['columns'])} indexes, on a database with 64 shards, 32 workers and 1,000 documents, takes {times} s."
-        yield from textwrap.wrap(words, 148)
+def others(measurement):
+    """Returns a table of mangod beside the other systems: which are better, and which cannot be told apart. A system is better where the intervals
+    of both do not touch."""
+    rows = []
+    for title, row, figure, more in COMPARED:
+        ours = measurement.values(where_of((1, 1), measurement.usual), row, figure)
+        theirs = {name: values for name in SYSTEMS if (values := measurement.values(f"{name}, {measurement.usual}", row, figure))}
+        lower = {name for name, values in theirs.items() if is_less(values, ours)}
+        higher = {name for name, values in theirs.items() if is_less(ours, values)}
+
+        def cell(names, shown=spread):
+            order = sorted(names, key=lambda name: middle(theirs[name]), reverse=more)
+            return ", ".join(f"{name} {shown(theirs[name])}" for name in order)
+
+        better, worse = (higher, lower) if more else (lower, higher)
+        if ours and theirs:
+            worse = cell(worse, lambda values: number(middle(values)))
+            rows.append((title, [ours, cell(better), cell(set(theirs) - lower - higher), worse]))
+    return table(f"{measurement.found['usual']:,} flat documents", ["mangod", "better", "not told apart", "worse"], rows)
 
 
-def of_grid(part):
-    def made(measurement):
-        found = measurement.grid(part)
-        return lines(found) if found["rows"] else []
+def settings(measurement):
+    columns = {"load, µs a document": ("load", "processor"), "`GET`, µs": (Cell("get"), "processor"),
+               "20 documents by an index, µs": (Cell("equality"), "processor"), "a commit, µs": (Cell("commit"), "processor"), "bytes a document": ("load", "bytes"), "with three indexes": ("indexed", "bytes")}
+    names = {"without the settings": "mangod 1/1 without settings", "with them": "mangod 1/1",
+             "with `tcache_count=10000` too": "mangod 1/1 with `tcache_count=10000` too"}
+    rows = [(title, [measurement.values(f"{name}, {measurement.usual}", *place) for place in columns.values()]) for title, name in names.items()]
+    return table("processor time and memory, one client", columns, rows)
+
+
+TABLES = {"source": source, "requests": requests, "people": people, "room": room, "pairs": pairs, "others": others, "settings": settings}
+
+
+def text(found):
+    """Returns the page of a measurement. Ends the run if bench/performance.md and this module have different tables, or if the page is too long."""
+    kept, measurement = TEMPLATE.read_text(encoding="utf-8"), Measurement(found)
+    unknown = set(PLACE.findall(kept)) ^ set(TABLES)
+    if unknown:
+        sys.exit(f"bench/performance.md and bench/measuring/page.py differ in the tables {', '.join(sorted(unknown))}")
+    made = PLACE.sub(lambda match: "\n".join(TABLES[match[1]](measurement)), kept)
+    if made.count("\n") > MOST_LINES:
+        sys.exit(f"the page has {made.count(chr(10))} lines, more than {MOST_LINES}")
     return made
-
-
-TABLES = {"source": source, "behind": behind, "queries": queries, "together": together, "writes": writes, "memory": memory, "proof": proof,
-          "pairs": pairs, "starts": start, "catalogs": catalogs,
-          **{part: of_grid(part) for part in ("workers", "waits", "limits", "allocation")}}

@@ -8,6 +8,7 @@ processes.
 import glob
 import os
 import shutil
+import signal
 import socket
 import struct
 import subprocess
@@ -17,15 +18,16 @@ import time
 from . import processes
 from .documents import PAGE, compact
 from .receive import receive
+from .server import Server
 
 SETTINGS = {
-    "listen_addresses": "''", "fsync": "off", "synchronous_commit": "off", "full_page_writes": "off", "autovacuum": "off",
+    "listen_addresses": "", "fsync": "off", "synchronous_commit": "off", "full_page_writes": "off", "autovacuum": "off",
     "shared_buffers": "2GB", "maintenance_work_mem": "512MB", "max_wal_size": "8GB", "jit": "off",
     "max_parallel_workers_per_gather": "0", "max_parallel_maintenance_workers": "0",
     "plan_cache_mode": "force_generic_plan",
 }
 ROW = "SELECT id, body FROM docs WHERE "
-JSON_WORDS = {"equality": {0}, "falling": {0}, "two": {0, 1}, "deep": {0}, "scan": {0}}
+JSON_WORDS = {"equality": {0}, "falling": {0}, "scan": {0}}
 
 
 def programs():
@@ -40,16 +42,21 @@ def member(path):
 
 def statements_of(corpus):
     """Returns the statement for each kind of request."""
-    group, kind, price, text = (member(corpus.path(name)) for name in ("group", "kind", "price", "text"))
+    group, price, text = (member(corpus.path(name)) for name in ("group", "price", "text"))
     return {
         "get": ROW + "id = $1",
         "equality": ROW + f"{group} = $1 ORDER BY id LIMIT {PAGE}",
         "falling": ROW + f"{price} < $1 ORDER BY {price} DESC, id DESC LIMIT {PAGE}",
-        "two": ROW + f"{kind} = $1 AND {price} >= $2 ORDER BY {kind}, {price}, id LIMIT {PAGE}",
-        "deep": ROW + f"({price}, id) > ($1, $2) ORDER BY {price}, id LIMIT {PAGE}",
         "scan": ROW + f"{text} = $1 ORDER BY id LIMIT {PAGE}",
         "commit": "INSERT INTO docs VALUES ($1, $2)",
     }
+
+
+def words_of(corpus, request):
+    """Returns the values of a statement as texts."""
+    if request.kind == "commit":
+        return [request.about[0], compact(corpus.new_body(request.about[1]))]
+    return [compact(word) if place in JSON_WORDS.get(request.kind, ()) else word for place, word in enumerate(request.about)]
 
 
 def part(kind, *pieces):
@@ -60,8 +67,8 @@ def part(kind, *pieces):
 class Connection:
     """A connection with these statements prepared."""
 
-    def __init__(self, folder, statements):
-        self.socket = socket.socket(socket.AF_UNIX)
+    def __init__(self, folder, corpus, statements):
+        self.socket, self.corpus = socket.socket(socket.AF_UNIX), corpus
         self.socket.connect(os.path.join(folder, ".s.PGSQL.5432"))
         self.rest = b""
         words = b"user\0postgres\0database\0postgres\0\0"
@@ -90,26 +97,17 @@ class Connection:
         return self.exchange(part(b"Q", text.encode(), b"\0"))
 
     def prepare(self, request):
-        json_words = JSON_WORDS.get(request.kind, ())
-        words = [compact(word) if place in json_words else word for place, word in enumerate(request.about)]
+        words = words_of(self.corpus, request)
         values = b"".join(struct.pack("!i", len(word.encode())) + word.encode() for word in words)
         bind = part(b"B", b"\0", request.kind.encode(), b"\0", struct.pack("!hh", 0, len(words)), values, struct.pack("!h", 0))
         return bind + part(b"E", b"\0", struct.pack("!i", 0)) + part(b"S")
 
-    def ask(self, message, answer):
-        parts = self.exchange(message)
-        if answer is None:
-            right = any(kind == b"C" and text == b"INSERT 0 1\0" for kind, text in parts)
-        else:
-            ids = [text[6 : 6 + int.from_bytes(text[2:6], "big")].decode() for kind, text in parts if kind == b"D"]
-            right = answer.fits(ids)
-        if not right:
-            raise ValueError(f"{message[:300]!r} was answered by {str(parts)[:300]}, wanted {answer}")
+    def reply(self, message):
+        return b"".join(text for _, text in self.exchange(message))
 
 
-class PostgreSQL:
-    name = "PostgreSQL"
-    in_process = False
+class PostgreSQL(Server):
+    name, framing = "PostgreSQL", "postgres"
 
     def __init__(self, corpus):
         self.corpus = corpus
@@ -117,16 +115,18 @@ class PostgreSQL:
         if os.getuid() == 0:
             shutil.chown(self.folder, "postgres")
         self.data = os.path.join(self.folder, "data")
-        self.call("initdb", "-D", self.data, "-A", "trust", "-U", "postgres", "--no-sync", "--locale=C", "-E", "UTF8")
-        with open(os.path.join(self.data, "postgresql.conf"), "a") as file:
-            file.writelines(f"{setting} = {value}\n" for setting, value in SETTINGS.items())
-            file.write(f"unix_socket_directories = '{self.folder}'\n")
-        self.call("pg_ctl", "-D", self.data, "-w", "-l", os.path.join(self.folder, "log"), "start")
-        with open(os.path.join(self.data, "postmaster.pid")) as file:
-            self.pid = int(file.readline())
-        self.connection = Connection(self.folder, {})
+        self.start("initdb", "-A", "trust", "-U", "postgres", "--no-sync", "--locale=C", "-E", "UTF8").wait()
+        settings = [word for setting, value in SETTINGS.items() for word in ("-c", f"{setting}={value}")]
+        self.process = self.start("postgres", *settings, "-c", f"unix_socket_directories={self.folder}")
+        self.connection = self.connected()
         self.connection.query("CREATE UNLOGGED TABLE docs (id text PRIMARY KEY, body jsonb)")
         self.wait_until_still()
+
+    def start(self, program, *args):
+        """Starts a program of PostgreSQL on the folder of its data, as the user postgres if this one is root."""
+        user = {"user": "postgres", "group": "postgres", "extra_groups": []} if os.getuid() == 0 else {}
+        return subprocess.Popen([os.path.join(programs(), program), "-D", self.data, *args], stdin=subprocess.DEVNULL,
+                                stdout=subprocess.DEVNULL, stderr=subprocess.DEVNULL, cwd=self.folder, **user)
 
     def wait_until_still(self):
         """Waits until the memory of PostgreSQL no longer changes, at most three seconds: after a start it grows and shrinks."""
@@ -135,26 +135,15 @@ class PostgreSQL:
             sizes.append(self.size())
             time.sleep(0.2)
 
-    def call(self, program, *args):
-        front = ["runuser", "-u", "postgres", "--"] if os.getuid() == 0 else []
-        done = subprocess.run([*front, os.path.join(programs(), program), *args], stdin=subprocess.DEVNULL,
-                              stdout=subprocess.DEVNULL, stderr=subprocess.PIPE, cwd=self.folder, text=True)
-        if done.returncode:
-            raise SystemExit(f"{program}: {done.stderr}")
+    def first_client(self):
+        """Returns a connection without statements."""
+        return Connection(self.folder, self.corpus, {})
 
     def client(self):
-        return Connection(self.folder, statements_of(self.corpus))
+        return Connection(self.folder, self.corpus, statements_of(self.corpus))
 
-    def processor(self):
-        return processes.family_processor(self.pid)
-
-    def size(self):
-        return processes.family_memory(self.pid)
-
-    def pages(self):
-        """Returns the size of the table and its indexes in bytes."""
-        parts = self.connection.query("SELECT pg_total_relation_size('docs')")
-        return int(next(text for kind, text in parts if kind == b"D")[6:])
+    def pids(self):
+        return processes.family(self.process.pid)
 
     def prepare_bulk(self, numbers):
         rows = (f"{self.corpus.name(i)}\t{compact(self.corpus.body(i))}" for i in numbers)
@@ -166,10 +155,9 @@ class PostgreSQL:
         if (b"C", f"COPY {count}\0".encode()) not in parts:
             raise SystemExit(f"PostgreSQL took not all of {count} documents: {parts}")
 
-    def index(self, which, name=None):
-        """Builds an index; `name` is that of a further one on the same members."""
+    def index(self, which):
         columns = ", ".join(f"({member(path)})" for path in self.corpus.columns(which))
-        self.connection.query(f"CREATE INDEX {name or f'by_{which}'} ON docs ({columns}, id)")
+        self.connection.query(f"CREATE INDEX by_{which} ON docs ({columns}, id)")
 
     def settle(self):
         self.connection.query("VACUUM ANALYZE docs")
@@ -181,17 +169,15 @@ class PostgreSQL:
 
     def check_plan(self, client, request):
         """Ends the run unless the plan of a statement reads an index and not the whole table."""
-        words = [compact(word) if place in JSON_WORDS.get(request.kind, ()) else word for place, word in enumerate(request.about)]
+        words = words_of(self.corpus, request)
         quoted = ", ".join("'{}'".format(word.replace("'", "''")) for word in words)
         parts = client.query(f"EXPLAIN EXECUTE {request.kind} ({quoted})")
         plan = "\n".join(text[6:].decode() for kind, text in parts if kind == b"D")
         if "Index" not in plan or "Seq Scan" in plan:
             raise SystemExit(f"PostgreSQL does not read {request.kind} by an index:\n{plan}")
 
-    def open_to_clients(self):
-        """Nothing to do before several clients connect."""
-
     def close(self):
         self.connection.socket.close()
-        self.call("pg_ctl", "-D", self.data, "-m", "immediate", "-w", "stop")
+        self.process.send_signal(signal.SIGQUIT)
+        self.process.wait()
         shutil.rmtree(self.folder)

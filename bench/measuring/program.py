@@ -8,6 +8,7 @@ from .documents import PAGE, compact
 from .receive import receive
 from .server import Server
 
+USUAL_SESSIONS = 16
 # the settings of the C library that suit large databases best: docs/PERFORMANCE.md says what each does
 TUNABLES = "glibc.malloc.hugetlb=1:glibc.malloc.arena_max=1"
 
@@ -17,21 +18,27 @@ def free_port():
         return server.getsockname()[1]
 
 
-def parse_pairs(text):
-    """Parses pairs such as `1,4/4`: numbers of shards, each with a number of workers after a slash (1 if there is none)."""
-    numbers = [word.partition("/") for word in text.split(",")]
-    return [(int(shards), int(workers or 1)) for shards, _, workers in numbers]
-
-
-def titled(pair):
-    """Returns the name of a pair of shards and workers in tables."""
-    shards, workers = pair
-    return f"{shards} shard{'s' * (shards > 1)}, {workers} worker{'s' * (workers > 1)}"
-
-
 def message(method, target, body=None):
     data = b"" if body is None else (body if isinstance(body, str) else compact(body)).encode()
     return f"{method} /db/{target} HTTP/1.1\r\nContent-Length: {len(data)}\r\n\r\n".encode() + data
+
+
+def prepared(corpus, request):
+    """Returns the message of a request."""
+    about = request.about
+    group, kind, price, text = map(corpus.path, ("group", "kind", "price", "text"))
+    find = {
+        "equality": lambda: {"selector": {group: about[0]}},
+        "falling": lambda: {"selector": {price: {"$lt": about[0]}}, "sort": [{price: "desc"}], "limit": PAGE},
+        "two": lambda: {"selector": {kind: about[0], price: {"$gte": about[1]}}, "sort": [kind, price], "limit": PAGE},
+        "deep": lambda: {"selector": {price: {"$gte": 0}}, "sort": [price], "limit": PAGE, "bookmark": corpus.bookmark(*about)},
+        "scan": lambda: {"selector": {text: about[0]}},
+    }
+    if request.kind == "get":
+        return message("GET", about[0])
+    if request.kind == "commit":
+        return message("POST", "_bulk_docs", {"docs": [{"_id": about[0], **corpus.new_body(about[1])}]})
+    return message("POST", "_find", find[request.kind]())
 
 
 class Connection:
@@ -50,80 +57,102 @@ class Connection:
             data += receive(self.socket, "the program")
         at = data.index(b"Content-Length: ") + 16
         whole = end + 4 + int(data[at : data.index(b"\r\n", at)])
-        if len(data) < whole:
-            pieces, have = [data], len(data)
-            while have < whole:
-                pieces.append(receive(self.socket, "the program"))
-                have += len(pieces[-1])
-            data = b"".join(pieces)
-        return data[9:12], data[end + 4 :]
+        pieces, have = [data], len(data)
+        while have < whole:
+            pieces.append(receive(self.socket, "the program"))
+            have += len(pieces[-1])
+        return data[9:12], b"".join(pieces)[end + 4 :]
+
+    def reply(self, text):
+        return self.exchange(text)[1]
 
     def prepare(self, request):
-        about = request.about
-        group, kind, price, text = map(self.corpus.path, ("group", "kind", "price", "text"))
-        find = {
-            "equality": lambda: {"selector": {group: about[0]}},
-            "falling": lambda: {"selector": {price: {"$lt": about[0]}}, "sort": [{price: "desc"}], "limit": PAGE},
-            "two": lambda: {"selector": {kind: about[0], price: {"$gte": about[1]}}, "sort": [kind, price], "limit": PAGE},
-            "deep": lambda: {"selector": {price: {"$gte": 0}}, "sort": [price], "limit": PAGE, "bookmark": self.corpus.bookmark(*about)},
-            "scan": lambda: {"selector": {text: about[0]}},
-        }
-        if request.kind == "get":
-            return message("GET", about[0])
-        if request.kind == "commit":
-            return message("POST", "_bulk_docs", '{"docs":[{"_id":"%s",%s]}' % (about[0], about[1][1:]))
-        return message("POST", "_find", find[request.kind]())
+        return prepared(self.corpus, request)
 
     def ask(self, text, answer):
         """Sends a message, and compares the reply with the right answer: the number of documents, the first and the last."""
         status, body = self.exchange(text)
+        value = json.loads(body)
         if answer is None:
-            right = status == b"201" and b'"ok":true' in body
+            right = status == b"201" and value[0].get("ok") is True
         else:
-            first, last = (f'{{"_id":"{one}"'.encode() for one in (answer.first, answer.last))
-            whole = body.startswith(first) if answer.count == 1 and body.startswith(b'{"_id"') else b'"docs":[' + first in body
-            right = status == b"200" and whole and last in body and body.count(b'"_id":"') == answer.count
+            right = status == b"200" and answer.fits([one["_id"] for one in value.get("docs", [value])])
         if not right:
-            raise ValueError(f"{text[:300]!r} was answered by {status!r} {body[:300]!r}, wanted {answer}")
-
-
-def tuned(tunables):
-    """Returns the environment of a program with some settings of the C library."""
-    return {**os.environ, "GLIBC_TUNABLES": tunables}
+            raise SystemExit(f"{text[:300]!r} was answered by {status!r} {body[:300]!r}, wanted {answer}")
 
 
 class Program(Server):
-    """The program with a database for the documents, and a pair of shards and workers."""
+    """The program with a database for the documents, a pair of shards and workers, and so many sessions."""
 
     called = "mangod"
+    kinds = (*Server.kinds, "ascending", "update", "mix")
 
-    def __init__(self, path, corpus, pair=(1, 1), sessions=8, tunables=TUNABLES):
-        self.name = self.called if pair == (1, 1) else f"{self.called}, {titled(pair)}"
+    def __init__(self, path, corpus, pair=(1, 1), sessions=USUAL_SESSIONS, tunables=TUNABLES, tool=(), environment=None):
+        self.name = "{} {}/{}".format(self.called, *pair) + f", {sessions} sessions" * (sessions != USUAL_SESSIONS)
         self.corpus, self.port = corpus, free_port()
-        args = [path, "db", *map(str, pair), str(sessions), f"127.0.0.1:{self.port}"]
-        self.process = subprocess.Popen(args, stdin=subprocess.DEVNULL, stderr=subprocess.PIPE, env=tuned(tunables))
+        args = [*tool, path, "db", *map(str, pair), str(sessions), f"127.0.0.1:{self.port}"]
+        environment = {**os.environ, **(environment or {}), "GLIBC_TUNABLES": tunables}
+        self.process = subprocess.Popen(args, stdin=subprocess.DEVNULL, stderr=subprocess.PIPE, env=environment)
         if not self.process.stderr.readline().endswith(b": listening\n"):
             raise SystemExit(f"{path} does not listen")
-        self.connection = self.client()
+        self.loaded, self.revisions, self.edited = self.client(), {}, 0
 
     def client(self):
         return Connection(self.port, self.corpus)
+
+    def sockets(self, number):
+        """The client in C makes its own connections."""
+        self.rest()
+        return None
+
+    def rest(self):
+        """Closes the connection of the load, which frees a session; it is opened again when it is needed."""
+        if self.loaded:
+            self.loaded.socket.close()
+            self.loaded = None
+
+    def exchange(self, method, target, body=None):
+        """Sends a message over the connection of the load. Returns the value of the reply, which must be one of success."""
+        self.loaded = self.loaded or self.client()
+        text = body if isinstance(body, bytes) else message(method, target, body)
+        status, reply = self.loaded.exchange(text)
+        if status not in (b"200", b"201"):
+            raise SystemExit(f"{text[:300]!r} was answered by {status} {reply[:300]}")
+        return reply
+
+    def records(self, requests):
+        found = []
+        for one in requests:
+            mark = f'"_id":"{one.answer.last}"'.encode() if one.answer else b'"ok":true'
+            found.append((200 if one.answer else 201, mark, prepared(self.corpus, one)))
+        return found
+
+    def updates(self, number):
+        """Returns records of edits, each of another loaded document; each can be sent once."""
+        order = [i for i in self.corpus.numbers() if self.corpus.name(i) in self.revisions][self.edited : self.edited + number]
+        self.edited += number
+        docs = ({"_id": (name := self.corpus.name(i)), "_rev": self.revisions[name], **self.corpus.edited_body(i)} for i in order)
+        return [(201, b'"ok":true', message("POST", "_bulk_docs", {"docs": [one]})) for one in docs]
 
     def prepare_bulk(self, numbers):
         return message("POST", "_bulk_docs", {"docs": [{"_id": self.corpus.name(i), **self.corpus.body(i)} for i in numbers]})
 
     def send_bulk(self, text, count):
-        status, body = self.connection.exchange(text)
-        if status != b"201" or body.count(b'"ok":true') != count:
-            raise SystemExit(f"a bulk was answered by {status} {body[:300]}")
+        """Sends a bulk, whose documents must all be accepted; returns the reply."""
+        reply = self.exchange("POST", "_bulk_docs", text)
+        if reply.count(b'"ok":true') != count:
+            raise SystemExit(f"a bulk was answered by {reply[:300]}")
+        return reply
+
+    def keep_revisions(self, reply):
+        """Keeps the revisions of documents, which edits of them must name."""
+        self.revisions.update((one["id"], one["rev"]) for one in json.loads(reply))
 
     def index(self, which, name=None):
         """Builds an index; `name` is that of a further one on the same members."""
-        definition = {"index": {"fields": self.corpus.columns(which)}, "ddoc": "m" if name is None else "further", "name": name or which}
-        status, body = self.connection.exchange(message("POST", "_index", definition))
-        if status != b"200" or json.loads(body)["result"] != "created":
-            raise SystemExit(f"an index was answered by {status} {body}")
+        self.define(self.corpus.columns(which), name or which, "m" if name is None else "further")
 
-    def open_to_clients(self):
-        """Closes its own connection, which frees a session for a client."""
-        self.connection.socket.close()
+    def define(self, fields, name, ddoc="m"):
+        definition = {"index": {"fields": fields}, "ddoc": ddoc, "name": name}
+        if json.loads(self.exchange("POST", "_index", definition))["result"] != "created":
+            raise SystemExit(f"the index {name} is not new")

@@ -21,7 +21,8 @@ def command(*words):
 class Connection:
     """A connection that sends each command after it has read the answer to the one before."""
 
-    def __init__(self, port):
+    def __init__(self, port, corpus):
+        self.corpus = corpus
         self.socket = socket.create_connection(("127.0.0.1", port), timeout=600)
         self.socket.setsockopt(socket.IPPROTO_TCP, socket.TCP_NODELAY, 1)
 
@@ -37,17 +38,15 @@ class Connection:
                 return data
 
     def prepare(self, request):
-        return command("GET", request.about[0]) if request.kind == "get" else command("SET", *request.about)
+        name, *more = request.about
+        return command("SET", name, compact(self.corpus.new_body(more[0]))) if more else command("GET", name)
 
-    def ask(self, text, answer):
-        data = self.exchange(text)
-        if data != b"+OK\r\n" if answer is None else not data.startswith(b"$") or f'"_id":"{answer.first}"'.encode() not in data:
-            raise ValueError(f"{text[:300]!r} was answered by {data[:300]!r}, wanted {answer}")
+    reply = exchange
 
 
 class Redis(Server):
-    name = "Redis"
-    kinds = ("get", "commit", "mixture")
+    name, framing = "Redis", "redis"
+    kinds = ("get", "commit")
 
     def __init__(self, corpus):
         self.corpus, self.port = corpus, free_port()
@@ -56,7 +55,7 @@ class Redis(Server):
         self.connection = self.connected()
 
     def client(self):
-        return Connection(self.port)
+        return Connection(self.port, self.corpus)
 
     def prepare_bulk(self, numbers):
         documents = ((self.corpus.name(i), compact({"_id": self.corpus.name(i), **self.corpus.body(i)})) for i in numbers)

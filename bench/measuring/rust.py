@@ -2,7 +2,7 @@
 import os
 import subprocess
 
-from .program import TUNABLES, Program
+from .program import Program
 
 FOLDER = os.path.join(os.path.dirname(os.path.dirname(os.path.abspath(__file__))), "peer")
 CARGO = "/usr/bin/cargo"
@@ -17,12 +17,13 @@ def built():
     home = os.path.join(FOLDER, "target", "home")
     os.makedirs(home, exist_ok=True)
     args = [CARGO, "build", "--release", "--offline", "--locked", "--quiet"]
-    subprocess.run(args, cwd=FOLDER, env={"PATH": "/usr/bin:/bin", "HOME": home, "CARGO_HOME": home}, check=True)
-    return PROGRAM
+    done = subprocess.run(args, cwd=FOLDER, env={"PATH": "/usr/bin:/bin", "HOME": home, "CARGO_HOME": home})
+    return PROGRAM if done.returncode == 0 else None
 
 
 class PlainRust(Program):
     called = "plain Rust"
 
-    def __init__(self, corpus, tunables=TUNABLES):
-        super().__init__(PROGRAM, corpus, tunables=tunables)
+    def __init__(self, corpus):
+        super().__init__(PROGRAM, corpus)
+        self.name = self.called

@@ -38,7 +38,7 @@ end
 """
 SPACE = 600
 INDEXES = {"group": 1, "price": 2, "kind": 3}
-EQUAL, LESS, AT_LEAST, GREATER = 0, 3, 5, 6
+EQUAL, LESS = 0, 3
 SELECT, INSERT, CALL = 1, 2, 10
 
 
@@ -101,26 +101,16 @@ class Connection:
             "get": lambda: selection(0, EQUAL, about, 1),
             "equality": lambda: selection(INDEXES["group"], EQUAL, about),
             "falling": lambda: selection(INDEXES["price"], LESS, about),
-            "two": lambda: selection(INDEXES["kind"], AT_LEAST, about),
-            "deep": lambda: selection(INDEXES["price"], GREATER, about[:1]),
             "scan": lambda: message(CALL, {0x22: "scan", 0x21: about}),
-            "commit": lambda: message(INSERT, {0x10: SPACE, 0x21: [about[0], self.corpus.body(self.corpus.number(about[0]))]}),
+            "commit": lambda: message(INSERT, {0x10: SPACE, 0x21: [about[0], self.corpus.new_body(about[1])]}),
         }
         return made[request.kind]()
 
-    def ask(self, text, answer):
-        data = self.exchange(text)
-        if answer is not None:
-            # a row is an array of two items, of which the first is the id
-            rows = [b"\x92" + packed(one) for one in (answer.first, answer.last)]
-            size = len(rows[0]) - len(answer.first)
-            front = rows[0][: size + 1]
-            if data.count(front) != answer.count or rows[0] not in data or data.rindex(front) != data.find(rows[1]):
-                raise ValueError(f"{text!r} was answered by {data[:300]!r}, wanted {answer}")
+    reply = exchange
 
 
 class Tarantool(Server):
-    name = "Tarantool"
+    name, framing = "Tarantool", "tarantool"
 
     def __init__(self, corpus):
         self.corpus, self.port = corpus, free_port()
@@ -131,14 +121,11 @@ class Tarantool(Server):
         self.process = subprocess.Popen(args, cwd=self.folder, stdin=subprocess.DEVNULL, stdout=subprocess.DEVNULL, stderr=subprocess.DEVNULL)
         self.connection = self.connected()
 
-    def first_client(self):
+    def client(self):
         """Returns a connection. Raises `OSError` if there is no space yet."""
-        connection = self.client()
+        connection = Connection(self.port, self.corpus)
         connection.exchange(selection(0, EQUAL, ["none"]))
         return connection
-
-    def client(self):
-        return Connection(self.port, self.corpus)
 
     def prepare_bulk(self, numbers):
         rows = [message(INSERT, {0x10: SPACE, 0x21: [self.corpus.name(i), self.corpus.body(i)]}) for i in numbers]

@@ -98,10 +98,18 @@ def arms_under_a_path(n):
 
 
 def atoms_under_a_path(n):
-    """n operators below a path of n steps, all of them required. Each keeps the whole path, so the cost is a product."""
+    """n operators below a path of n steps, all of them required: they share the path's steps."""
     steps = b".".join([b"s"] * n)
     arms = b",".join(b'{"$gt":%d}' % i for i in range(n))
     return find(b'{"%s":{"$and":[%s]}}' % (steps, arms)), NOTHING
+
+
+def atoms_at_every_depth(n):
+    """A hundred paths of n / 100 steps, each below the one before, and n / 100 required operators below each: they share the steps of
+    all paths above them."""
+    steps = b".".join([b"s"] * (n // 100))
+    arms = b'"$and":[%s]' % b",".join(b'{"$gt":%d}' % i for i in range(n // 100))
+    return find(b'{%s"%s":{%s}%s}' % (b'"%s":{%s,' % (steps, arms) * 99, steps, arms, b"}" * 99)), NOTHING
 
 
 def many_fields(n):
@@ -153,7 +161,7 @@ SHAPES = [Shape(in_arguments, 400_000, 900_000), Shape(nin_arguments, 400_000, 9
           Shape(choices, 20_000, 100_000), Shape(negated_choices, 20_000, 100_000), Shape(deep_negations, 2_000, 12_000),
           Shape(steps_of_a_selector, 400_000, 1_000_000), Shape(steps_of_fields, 400_000, 1_000_000),
           Shape(steps_of_a_sort, 400_000, 1_000_000), Shape(steps_of_an_index, 400_000, 1_000_000), Shape(arms_under_a_path, 64_000, 500_000),
-          Shape(atoms_under_a_path, 1_600, 4_000, 2),
+          Shape(atoms_under_a_path, 64_000, 450_000), Shape(atoms_at_every_depth, 64_000, 450_000),
           Shape(many_fields, 400_000, 600_000), Shape(columns, 2_000, 8_000, 2), Shape(indexes, 800, 2_000, 2),
           Shape(indexes_on_64_shards, 240, 1_000, 2, "64", "32"),
           Shape(queries_by_indexes, 8_000, 40_000), Shape(edits_under_indexes, 16_000, 100_000),

@@ -1,27 +1,34 @@
--- What to do after a failed accept (accept(2) of Linux; its EPERM and EOPNOTSUPP count as faults of the listener), and with a connection
--- after its session.
+-- What to do after a failed accept (accept(2) of Linux), and with a connection after its session.
 use Rattle.std.specs.Prelude.{ℤ, pos, Bool, true, false, ◌||◌, if◌then◌else◌, Option, None, Some}
 use Rattle.std.specs.Ordering.{int_eq}
+use Rattle.std.specs.declared.io.ErrorKind.{ErrorKind}
+use Rattle.std.specs.declared.io.ErrorKind.TheVariants as kind
 use Rattle.mg_http.specs.declared.sessions.SessionEnd.{SessionEnd}
 use Rattle.mg_http.specs.declared.sessions.SessionEnd.TheVariants.{Eof, Closed, Refused, ReadFault, WriteFault, Limit}
 use Rattle.mangod.specs.declared.faults.AfterFault.{AfterFault}
-use Rattle.mangod.specs.declared.faults.AfterFault.TheVariants.{Again, Never, WithMore}
+use Rattle.mangod.specs.declared.faults.AfterFault.TheVariants.{Again, AtAnEvent, Never, Soon, WithMore}
 use Rattle.mangod.specs.declared.faults.Disposal.{Disposal}
 use Rattle.mangod.specs.declared.faults.Disposal.TheVariants.{Close, CloseGently, Keep}
 
--- whether the number means that descriptors or buffers ran out: ENFILE, EMFILE or ENOBUFS
+-- whether the number means that the listener is gone: EBADF, EINVAL or ENOTSOCK
+abbrev pub is_gone : ℤ → Bool
+is_gone number = int_eq number (pos 9) || (int_eq number (pos 22) || int_eq number (pos 88))
+
+-- whether the number means that descriptors, buffers or memory ran out: ENOMEM, ENFILE, EMFILE or ENOBUFS
 abbrev pub is_shortage : ℤ → Bool
-is_shortage number = int_eq number (pos 23) || (int_eq number (pos 24) || int_eq number (pos 105))
+is_shortage number = int_eq number (pos 12) || (int_eq number (pos 23) || (int_eq number (pos 24) || int_eq number (pos 105)))
 
--- whether the number means a fault that concerns one connection only: ENONET, EPROTO, ENOPROTOOPT or EHOSTDOWN
-abbrev pub is_of_one_connection : ℤ → Bool
-is_of_one_connection number =
-    int_eq number (pos 64) || (int_eq number (pos 71) || (int_eq number (pos 92) || int_eq number (pos 112)))
+-- what to do after a failed accept whose number decides nothing, by its kind
+abbrev pub after_kind : ErrorKind → AfterFault
+after_kind kind.WouldBlock = AtAnEvent
+after_kind kind.OutOfMemory = WithMore
+after_kind kind.ConnectionAborted = Again
+after_kind _ = Soon
 
--- what to do after a failed accept if the kind of its error does not decide: by the number of the error (`None`: it has no number)
-abbrev pub after_number : Option ℤ → AfterFault
-after_number None = Never
-after_number (Some number) = if is_shortage number then WithMore else if is_of_one_connection number then Again else Never
+-- what to do after a failed accept: only a number that means that the listener is gone ends the accepting
+abbrev pub after_fault : ErrorKind → Option ℤ → AfterFault
+after_fault kind None = after_kind kind
+after_fault kind (Some number) = if is_gone number then Never else if is_shortage number then WithMore else after_kind kind
 
 -- what to do with a connection, by its session's end and whether the program ended the session's input between two messages, though the
 -- client may still send more

@@ -1,6 +1,6 @@
 //! Decides what to do after a failed accept, and with a connection after its session.
 ghost use Rattle.std.specs.Prelude.{◌≡◌};
-ghost use Rattle.mangod.specs.Faults.{after_number, disposal_after, is_of_one_connection, is_shortage};
+ghost use Rattle.mangod.specs.Faults.{after_fault, disposal_after, is_gone, is_shortage};
 
 use mg_http::SessionEnd;
 use std::io::ErrorKind;
@@ -12,47 +12,43 @@ pub(crate) enum AfterFault {
     Again,
     /// Accept again at the next event of the listener: no connection is waiting.
     AtAnEvent,
-    /// Accept again soon: descriptors or memory ran out.
+    /// Accept again soon.
+    Soon,
+    /// Accept again soon: descriptors or memory ran out, so close a connection meanwhile.
     WithMore,
-    /// Accept no more: the listener failed.
+    /// Accept no more: the listener is gone.
     Never,
 }
 
 /// Returns what to do after a failed accept, by the kind of the error and its number on Linux (`None`: it has no number). Interruption by
 /// a signal does not occur here: std repeats an interrupted accept.
 pub(crate) fn after_fault(kind: ErrorKind, number: Option<i32>) -> AfterFault
-    ensures aborted { kind ≡ ErrorKind.ConnectionAborted → result ≡ AfterFault.Again }
-    ensures none { kind ≡ ErrorKind.WouldBlock → result ≡ AfterFault.AtAnEvent }
-    ensures memory { kind ≡ ErrorKind.OutOfMemory → result ≡ AfterFault.WithMore }
-    ensures other { kind ≡ ErrorKind.Uncategorized → result ≡ after_number number }
+    ensures { result ≡ after_fault kind number }
 {
-    match kind {
-        ErrorKind::ConnectionAborted
-        | ErrorKind::NetworkDown
-        | ErrorKind::NetworkUnreachable
-        | ErrorKind::HostUnreachable => AfterFault::Again,
-        ErrorKind::WouldBlock => AfterFault::AtAnEvent,
-        ErrorKind::OutOfMemory => AfterFault::WithMore,
-        _ => match number {
-            Some(number) if is_shortage(number) => AfterFault::WithMore,
-            Some(number) if is_of_one_connection(number) => AfterFault::Again,
-            _ => AfterFault::Never,
+    match number {
+        Some(number) if is_gone(number) => AfterFault::Never,
+        Some(number) if is_shortage(number) => AfterFault::WithMore,
+        _ => match kind {
+            ErrorKind::WouldBlock => AfterFault::AtAnEvent,
+            ErrorKind::OutOfMemory => AfterFault::WithMore,
+            ErrorKind::ConnectionAborted => AfterFault::Again,
+            _ => AfterFault::Soon,
         },
     }
 }
 
-// Whether on Linux this number means that the system or the process ran out of descriptors, or that buffers ran out.
+// Whether on Linux this number means that the listener is gone: no descriptor, none that listens, or no socket.
+fn is_gone(number: i32) -> bool
+    ensures { result ≡ is_gone number }
+{
+    number == 9 || number == 22 || number == 88
+}
+
+// Whether on Linux this number means that the system or the process ran out of descriptors, buffers or memory.
 fn is_shortage(number: i32) -> bool
     ensures { result ≡ is_shortage number }
 {
-    number == 23 || number == 24 || number == 105
-}
-
-// Whether on Linux this number means a fault that concerns one connection: its network, its protocol, its options or its host.
-fn is_of_one_connection(number: i32) -> bool
-    ensures { result ≡ is_of_one_connection number }
-{
-    number == 64 || number == 71 || number == 92 || number == 112
+    number == 12 || number == 23 || number == 24 || number == 105
 }
 
 /// What to do with a connection after its session.

@@ -133,7 +133,7 @@ impl Lobby {
     }
 
     /// Accepts a connection if one may be waiting, and admits it; closes it if `TCP_NODELAY` cannot be set. Returns the longest wait for
-    /// the next event; `None`: the listener failed.
+    /// the next event; `None`: the listener is gone.
     fn accept<H: Wait + Clock>(&self, rt: &H, watch: &mut Watch) -> Option<Duration> {
         if !watch.is_accepting {
             return Some(Duration::from_millis(SEARCH_MILLIS));
@@ -152,6 +152,7 @@ impl Lobby {
                     watch.is_accepting = false;
                     SEARCH_MILLIS
                 }
+                AfterFault::Soon => SHORTAGE_MILLIS,
                 AfterFault::WithMore => {
                     watch.has_shortage = true;
                     SHORTAGE_MILLIS

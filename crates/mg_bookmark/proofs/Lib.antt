@@ -2,3 +2,4 @@ mod Spellings
 mod Readings
 mod Unspelled
 mod Carried
+pub mod Alphabet

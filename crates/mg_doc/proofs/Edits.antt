@@ -1,10 +1,10 @@
 -- What an edit adds to a history, by what its tree accepts.
-use Rattle.std.proofs.Common.{◌≡◌, ℕ, ◌+◌, List, [], ◌∷◌, Bool, true, false, ◌==◌, inl, inr, Option, Some, None, option_map, Result, Ok, Err, refl, sym, ap, ◌∙◌, subst}
+use Rattle.std.proofs.Common.{◌≡◌, ℕ, ◌+◌, List, [], ◌∷◌, Bool, true, false, ◌==◌, if◌then◌else◌, inl, inr, Option, Some, None, option_map, Result, Ok, Err, refl, sym, ap, ◌∙◌, subst}
 use Rattle.std.specs.Option.{option_to_list}
 use Rattle.std.specs.Result.{IsErrAnd, result_err, result_map_both}
 use Rattle.mg_value.specs.Value.{Value}
 use Rattle.mg_revtree.specs.Revision.{Revision}
-use Rattle.mg_revtree.specs.History.{Paths, newest_of, fits, all_links}
+use Rattle.mg_revtree.specs.History.{Leaf, Paths, newest_of, fits, all_links, winner_of}
 use Rattle.mg_revtree.specs.Changes.{Decides, extension, may_extend, next_position, next_revision, path_of, position_below, refusal_of, run_over, with_path}
 use Rattle.mg_revtree.specs.Tree.{Tree, StandsFor}
 use Rattle.mg_revtree.specs.declared.error.MergeError.{MergeError}
@@ -20,7 +20,7 @@ use Rattle.mg_doc.specs.Acceptance.{AcceptsAs, ReportsRefusal}
 use Rattle.mg_doc.specs.Base.{LooksFor, MisfitReport, base_found, extended_by, look_of, extended_found, extended_over, unplaced}
 use Rattle.mg_doc.specs.Digest.{digest_of}
 use Rattle.mg_doc.specs.Document.{Edit}
-use Rattle.mg_doc.specs.Edit.{Accepted, accepted_by, extended, first_refusal, history_after, must_name, path_over, newest_accepted, refused_by, replicated, unless}
+use Rattle.mg_doc.specs.Edit.{Accepted, accepted_by, base_of, extended, first_refusal, history_after, is_alive, must_name, path_over, newest_accepted, refused_by, replicated, unless}
 use Rattle.mg_doc.specs.Conversions.{error_of_merge, error_of_tree}
 use Rattle.mg_doc.specs.declared.change.Change.TheVariants.{New, Replica}
 use Rattle.mg_doc.specs.declared.error.EditError.{EditError}
@@ -116,6 +116,41 @@ extended_over_base h d b base id copy n t e f r p s =
     let S : List ℕ → Type 0 = λ i. StandsFor t (with_path h (extension base i d b)) in
     let Q : List ℕ → Type 0 = λ i. AcceptsAs h d b (extended_over h d b base) (Ok (n, i)) t in
     subst Q (sym (f ∙ e)) (made_now h d b base n t (subst R e r) p (subst S e s))
+
+-- a refusal of the tree is that of the edit
+refused_made : (o : Option TreeRefusal) (x : TreeError) (a : Accepted) (refused : EditRefusal) → Decides o (Err x) → unless (option_map refused_by o) a ≡ Err refused → error_of_tree x ≡ error_of refused
+refused_made None x a refused d said = absurd cc
+refused_made (Some NotLeaf) x a refused d said = let e : x ≡ not_leaf = cc in let k : Conflict ≡ refused = cc in ap error_of_tree e ∙ ap error_of k
+refused_made (Some Full) x a refused d said = let e : x ≡ full = cc in let k : BadHistory ≡ refused = cc in ap error_of_tree e ∙ ap error_of k
+refused_made (Some Known) x a refused d said = let e : x ≡ known = cc in let k : Conflict ≡ refused = cc in ap error_of_tree e ∙ ap error_of k
+
+pub refused_over : (h : Paths) (d : Bool) (b : Value) (base : Option Revision) (id : List ℕ) (x : TreeError) (refused : EditRefusal) → id ≡ digest_of d base b → Decides (refusal_of h base id) (Err x)
+    → extended_over h d b base ≡ Err refused → error_of_tree x ≡ error_of refused
+refused_over h d b base id x refused e decided said =
+    let P : List ℕ → Type 0 = λ i. Decides (refusal_of h base i) (Err x) in
+    refused_made (refusal_of h base (digest_of d base b)) x (path_over base (digest_of d base b)) refused (subst P e decided) said
+
+accepted_not_refused : (o : Option TreeRefusal) (a : Accepted) (refused : EditRefusal) → o ≡ None → unless (option_map refused_by o) a ≡ Err refused → ⊥
+accepted_not_refused None a refused e said = absurd cc
+accepted_not_refused (Some x) a refused e said = absurd cc
+
+pub not_refused_over : (h : Paths) (d : Bool) (b : Value) (base : Option Revision) (id : List ℕ) (refused : EditRefusal) → id ≡ digest_of d base b → refusal_of h base id ≡ None → extended_over h d b base ≡ Err refused → ⊥
+not_refused_over h d b base id refused e none said =
+    let P : List ℕ → Type 0 = λ i. refusal_of h base i ≡ None in
+    accepted_not_refused (refusal_of h base (digest_of d base b)) (path_over base (digest_of d base b)) refused (subst P e none) said
+
+-- an edit that names no revision has no base if the document has no winner
+unnamed_with : (w : Option Leaf) → option_map (λ (l : Leaf). l.rev) w ≡ None → (if is_alive w then Err Conflict else Ok (option_map (λ (l : Leaf). l.rev) w)) ≡ Ok None
+unnamed_with None e = refl
+unnamed_with (Some l) e = absurd cc
+
+pub unnamed_first : (h : Paths) → base_of h None ≡ None → base_found h None ≡ Ok None
+unnamed_first h e = unnamed_with (winner_of h) e
+
+-- the refusal of an edit is that of its path
+pub newest_refused : (a : Result Accepted EditRefusal) (refused : EditRefusal) → newest_accepted a ≡ Err refused → a ≡ Err refused
+newest_refused (Ok a) refused e = absurd cc
+newest_refused (Err x) refused e = let k : x ≡ refused = cc in ap Err k
 
 -- if no base is found, a new edit is refused for the same reason
 pub no_base : (h : Paths) (d : Bool) (b : Value) (named : Option Revision) (o : Option EditRefusal) → ReportsRefusal (base_found h named) o → ReportsRefusal (extended_by h d b named) o

@@ -1,4 +1,5 @@
 mod Cases
+mod Digests
 mod Edits
 mod Forms
 mod Readings

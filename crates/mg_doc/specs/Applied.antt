@@ -4,7 +4,7 @@ use Rattle.mg_revtree.specs.Revision.{Revision}
 use Rattle.mg_revtree.specs.History.{Paths, is_known_whole}
 use Rattle.mg_revtree.specs.Tree.{Tree, StandsFor}
 use Rattle.mg_doc.specs.Document.{Edit}
-use Rattle.mg_doc.specs.Edit.{edited, first_refusal, outcome_of}
+use Rattle.mg_doc.specs.Edit.{base_of, edited, first_refusal, outcome_of}
 use Rattle.mg_doc.specs.declared.change.Change.{Change}
 use Rattle.mg_doc.specs.declared.change.Change.TheVariants.{New, Replica}
 use Rattle.mg_doc.specs.declared.edit.apply.Look.{Look}
@@ -43,6 +43,12 @@ changes_nothing h (Replica run) = is_known_whole h run
 -- an edit is ready: the history does not refuse it before its revision is made, and does not know its path whole
 abbrev pub IsReady : Paths → Edit → Type 0
 IsReady h e = (first_refusal h e.change ≡ None) × (changes_nothing h e.change ≡ false)
+
+-- a new edit names the revision that it extends, or makes the first revision of its document: so the id of the revision that it makes
+-- follows from the edit alone
+abbrev pub NamesItsBase : Paths → Change → Type 0
+NamesItsBase h (New named) = base_of h named ≡ named
+NamesItsBase h (Replica run) = ⊥
 
 -- the look foresees the edit: it finds a path that is known whole, its newest revision is the outcome, and the tree already stands for
 -- the edited history; or it finds the edit ready; or its error is right

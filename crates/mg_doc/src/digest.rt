@@ -1,6 +1,6 @@
-ghost use Rattle.std.specs.Prelude.{◌≡◌, IfOk, IfSome, option_copied, string_bytes};
+ghost use Rattle.std.specs.Prelude.{◌≡◌, IfOk, option_copied, option_map, string_bytes};
 ghost use Rattle.mg_value.specs.Text.{compact};
-ghost use Rattle.mg_doc.specs.Ahead.{named_in};
+ghost use Rattle.mg_doc.specs.Ahead.{ahead_of};
 ghost use Rattle.mg_doc.specs.Digest.{digest_of, parent_text};
 
 use crate::change::Change;
@@ -44,29 +44,11 @@ pub(crate) fn id_ahead(
     body: &Packed,
 ) -> Result<Option<String>, NoMemory>
     ensures { IfOk result
-        (λ o. IfSome o (λ id. string_bytes id ≡ digest_of deleted (named_in change.now) body.now)) }
+        (λ o. option_map string_bytes o ≡ ahead_of change.now deleted body.now) }
 {
     match change {
         Change::New(named) => Ok(Some(rev_id(alloc, deleted, named.as_ref(), &body.part())?)),
         Change::Replica(_) => Ok(None),
-    }
-}
-
-// Returns the id that was made ahead; if there is none, makes the id. Errors: those of `rev_id`.
-pub(crate) fn id_over(
-    alloc: Global,
-    ahead: Option<String>,
-    deleted: bool,
-    base: Option<&Rev>,
-    body: &Packed,
-) -> Result<String, NoMemory>
-    requires { IfSome ahead (λ id. string_bytes id ≡ digest_of deleted (option_copied base) body.now) }
-    ensures { IfOk result
-        (λ id. string_bytes id ≡ digest_of deleted (option_copied base.entry) body.now) }
-{
-    match ahead {
-        Some(id) => Ok(id),
-        None => rev_id(alloc, deleted, base, &body.part()),
     }
 }
 

@@ -23,15 +23,14 @@ pub struct Edit {
     deleted: bool,
     body: Packed,
     // the id of a new edit's revision, made before the tree is known: right if the edit extends the revision that it names, or makes the
-    // first revision of its document; `None` for a replica's change, and in a copy
+    // first revision of its document; `None` for a replica's change
     ahead: Option<String>,
 }
 
 impl Model for Edit {
-    ghost use Rattle.std.specs.Prelude.{◌≡◌, IfSome, option_map, string_bytes};
+    ghost use Rattle.std.specs.Prelude.{◌≡◌, option_map, string_bytes};
     ghost use Rattle.mg_doc.specs.Code.{edit_code};
-    ghost use Rattle.mg_doc.specs.Ahead.{named_in};
-    ghost use Rattle.mg_doc.specs.Digest.{digest_of};
+    ghost use Rattle.mg_doc.specs.Ahead.{ahead_of};
     ghost use Rattle.mg_doc.specs.Document.{Edit as EditValue};
 
     ghost Value = { EditValue };
@@ -45,8 +44,7 @@ impl Model for Edit {
       body = e.body;
     } };
 
-    ghost invariant = { λ e. IfSome e.ahead
-        (λ id. string_bytes id ≡ digest_of e.deleted (named_in e.change) e.body) };
+    ghost invariant = { λ e. option_map string_bytes e.ahead ≡ ahead_of e.change e.deleted e.body };
 }
 
 impl Edit {
@@ -104,8 +102,7 @@ impl Edit {
         }
     }
 
-    /// Copies the edit without the id that was made ahead. A copy of a new edit makes the id of its revision when it is applied. Errors:
-    /// `NoMemory` if an allocation fails. Cost: the lengths of the edit's id, path and body.
+    /// Copies the edit. Errors: `NoMemory` if an allocation fails. Cost: the lengths of the edit's id, path and body.
     pub fn copy(&self, alloc: Global) -> Result<Edit, NoMemory>
         ensures { IfOk result (λ edit. edit ≡ self.now) }
     {
@@ -114,7 +111,7 @@ impl Edit {
             change: self.change.copy(alloc)?,
             deleted: self.deleted,
             body: self.body.copy(alloc)?,
-            ahead: None,
+            ahead: copy_id(alloc, self.ahead.as_deref())?,
         })
     }
 }

@@ -1,5 +1,5 @@
 -- What each command answers and which world it leaves: the whole behaviour of the database for one caller, after the CouchDB 3.x API
--- reference. docs/REFERENCE.md lists the differences from CouchDB.
+-- reference. docs/MIGRATE.md lists the differences from CouchDB.
 use Rattle.std.specs.Prelude.{ℕ, List, [], ◌∷◌, Bool, true, false, codes, Option, Some, None, is_some, option_map, unwrap_or, Result, Ok, Err, if◌then◌else◌}
 use Rattle.std.specs.FinMap as finite
 use Rattle.mg_value.specs.Value.{Value, list}

@@ -1,4 +1,13 @@
 //! The engine: executes commands on documents, indexes and shards. specs/Commands.antt defines each reply, over plain revision paths.
+//!
+//! Promises. `Engine::new` returns an engine of the empty world (`stands`) with as many shards as asked for
+//! (`shards`). `step` returns, for each world that the engine represents, the definition's reply, and the
+//! engine then represents the next world; or memory was refused and the engine is as it was (`answers`,
+//! `refused`); `execute` does so for a command that it takes by value. `answer` and `answer_by` are for
+//! commands that read. `commit` returns the next engine exactly if the status is 200 or 201 (`next`);
+//! `commit_prepared` does so for a command that `Prepared::of` has prepared, which for a bulk reads the
+//! documents. `run` answers a list of commands; after an `Err` it has executed no command (`none_run`). Laws:
+//! `where_memory_suffices`, `reshards_change_no_reply`, `reshards_change_no_world`.
 #![tactic(auto)]
 
 mod body;

@@ -1,7 +1,6 @@
-ghost use Rattle.std.specs.Prelude.{◌≡◌, ◌≤◌, length, map, option_map, string_bytes};
+ghost use Rattle.std.specs.Prelude.{◌≡◌, ◌≤◌, length, option_map};
 ghost use Rattle.std.specs.List.{find};
 ghost use Rattle.mg_value.specs.View.{view};
-ghost use Rattle.mg_path.specs.Equal.{path_eq};
 ghost use Rattle.mg_selector.specs.View.{operator_of};
 ghost use Rattle.mg_normal.specs.View.{atom_view, atoms_view, sense_of};
 ghost use Rattle.mg_index.specs.Bound.{allows, bound_by, bound_in, bound_on, bounds_on, is_exact, is_fixed, is_bounded, bounded_count};
@@ -55,19 +54,12 @@ impl<'a> Bound<'a> {
         ensures { option_map (λ b. bound_by b.comparison (view b.value.now)) result
             ≡ bound_on column.now (atom_view atom.now) }
     {
-        if is_on(atom, column) {
+        if atom.is_on(column) {
             bound_of(&atom.op, atom.negated)
         } else {
             None
         }
     }
-}
-
-// Whether the atom is on the part at the path.
-pub(crate) fn is_on(atom: &Atom, column: &Path) -> bool
-    ensures { result ≡ path_eq (map string_bytes atom.now.steps.items) column.now }
-{
-    atom.steps.as_slice() == column.steps()
 }
 
 // Finds the bound that the operator gives in the negated or the plain sense; `None` if it gives no bound.

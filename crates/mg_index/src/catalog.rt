@@ -1,4 +1,4 @@
-ghost use Rattle.std.specs.Prelude.{◌≡◌, ◌≢◌, List, [], ◌∷◌, IfOk, OnOk, OnErr, Ok, Some, true, option_map, is_some};
+ghost use Rattle.std.specs.Prelude.{◌≡◌, ◌≢◌, List, [], ◌∷◌, IfOk, OnOk, OnErr, Ok, None, Some, true, option_map, is_some};
 ghost use Rattle.mg_index.specs.Catalog.{IsCatalog, definition_at, with_definition, without_definition};
 ghost use Rattle.mg_index.specs.Places.{IsPlaceOf, IsSlotOf};
 ghost use Rattle.mg_index.specs.Same.{is_there};
@@ -94,8 +94,8 @@ impl Catalog {
     /// Returns `Exists` if an equal definition was already there (see `IndexDef::is_same`); then nothing has
     /// changed. Otherwise returns `Created`.
     ///
-    /// Errors: `NoMemory` if an allocation fails; then nothing has changed. Cost: linear in the number of
-    /// definitions.
+    /// Errors: `NoMemory` if an allocation fails, which only a definition with a new design document and name
+    /// needs; then nothing has changed. Cost: linear in the number of definitions.
     pub fn add(&mut self, definition: IndexDef) -> Result<Added, NoMemory>
         ensures ok { OnOk result (self.new ≡ with_definition definition self.old) }
         ensures exists { result ≡ Ok Added.Exists
@@ -103,6 +103,8 @@ impl Catalog {
         ensures created { result ≡ Ok Added.Created
             → definition_at definition.ddoc definition.name self.old ≢ Some definition }
         ensures err { OnErr result (self.new ≡ self.old) }
+        ensures room { OnErr result
+            (definition_at definition.ddoc definition.name self.old ≡ None) }
     {
         match slot_of(&self.definitions, &definition) {
             Slot::At(place) => {

@@ -5,7 +5,6 @@ ghost use Rattle.mg_path.specs.Equal.{path_eq};
 ghost use Rattle.mg_normal.specs.View.{atom_view, atoms_view};
 ghost use Rattle.mg_index.specs.Choice.{is_usable, is_covered, needs_part, all_docs_usable, requires_column};
 
-use crate::bound::is_on;
 use mg_normal::Atom;
 use mg_path::Path;
 use mg_selector::Sense;
@@ -65,7 +64,7 @@ fn some_requires_column(atoms: &[Atom], column: &Path) -> bool
 fn requires_column(column: &Path, atom: &Atom) -> bool
     ensures { result ≡ requires_column column.now (atom_view atom.now) }
 {
-    is_on(atom, column) && needs_part(atom)
+    atom.is_on(column) && needs_part(atom)
 }
 
 // Whether the atom fails if its part is missing.

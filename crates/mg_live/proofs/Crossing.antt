@@ -1,7 +1,7 @@
 -- Snapshots are `Send` and `Sync`, and seats are `Send`, if the placement of documents is `Send` and `Sync`.
 use denote.Builtin.{unit}
 use denote.Param.Send.{IsSend, IsSync, sendable, view_send, view_sync}
-use denote.Param.SendFields.{as_row_send, as_row_sync, declared_send, declared_sync}
+use denote.Param.SendFields.{as_row_send, declared_send, declared_sync}
 use denote.RattleType.{RattleType}
 use denote.Struct.Field.{row_field}
 use Rattle.std.proofs.Crossing.{Arc-send, Arc-sync, crosses, frees, send, sync}
@@ -19,7 +19,7 @@ use Rattle.left_right.specs.declared.Absorb as absorb
 use Rattle.left_right.proofs.writer.Writer.TheSendSync as writer
 use Rattle.left_right.specs.contracts.reader.Reader as Reader
 use Rattle.left_right.specs.contracts.writer.Writer as Writer
-use Rattle.mg_live.proofs.commit_log.LogWord.TheSendSync as log_word
+use Rattle.mg_live.proofs.commit_log.LogWriter.TheSendSync as log_writer
 use Rattle.mg_engine.specs.contracts.engine.Engine as Engine
 use Rattle.mg_engine.specs.contracts.engine.Engine.TheInside as engine
 use Rattle.mg_engine.specs.contracts.state.State as State
@@ -32,10 +32,8 @@ use Rattle.mg_live.proofs.commit_log.Prefix.TheSendSync as prefix
 use Rattle.mg_live.specs.contracts.markers.SnapshotRule as SnapshotRule
 use Rattle.mg_live.specs.contracts.markers.SnapshotRuleProtocolSnapshotUnit.TheImpl as protocol_of
 use Rattle.mg_live.specs.contracts.publication.SnapshotAbsorbUnit.TheImpl as absorb_of
-use Rattle.mg_live.specs.contracts.seat.OwnLogWord as OwnLogWord
 use Rattle.mg_live.specs.contracts.seat.Seat.TheInside as seat
 use Rattle.mg_live.specs.contracts.seat.Seat as Seat
-use Rattle.mg_live.specs.contracts.seat.SharedDesk as SharedDesk
 use Rattle.mg_live.specs.contracts.snapshot.Snapshot as Snapshot
 use Rattle.mg_live.specs.contracts.tally.Tally as Tally
 use Rattle.mg_live.specs.declared.database.Database as database
@@ -81,12 +79,6 @@ mutex_send R s = search (sendable, crosses, s) depth 20
 mutex_sync : (R : RattleType) → IsSend R → IsSync (Mutex.the_row R)
 mutex_sync R s = search (sendable, crosses, s) depth 20
 
-named_send : (D : RattleType) (d : database.Ghosts D.Denot) (l : ledger.Ghosts D.Denot) → IsSend (OwnLogWord.the_row D d l)
-named_send D d l = declared_send (OwnLogWord.the_type D d l) (log_word.the_send, (search (sendable, as_row_send) depth 10, tt))
-
-named_sync : (D : RattleType) (d : database.Ghosts D.Denot) (l : ledger.Ghosts D.Denot) → IsSync (OwnLogWord.the_row D d l)
-named_sync D d l = declared_sync (OwnLogWord.the_type D d l) (log_word.the_sync, (search (sendable, as_row_sync) depth 10, tt))
-
 unit_send : IsSend unit
 unit_send = search sendable depth 10
 
@@ -110,13 +102,13 @@ module _ (D C P : RattleType) (d : database.Ghosts D.Denot) (l : ledger.Ghosts D
       writer.the_send (Snapshot.the_row P) unit unit (SnapshotRule.the_row D P) Global.the_row unit b rule allocator.ghosts (snapshot_send P s y) unit_send send (snapshot_sync P s y) sync frees
 
   desk_send : IsSend (Desk.the_row D C P b d l p)
-  desk_send = view_send _ _ _ _ _ (declared_send (desk.the_type D C P b d l p) (writes_send, (book.the_send D l, (as_row_send (row_field C) c, tt))))
+  desk_send = view_send _ _ _ _ _ (declared_send (desk.the_type D C P b d l p) (log_writer.the_send, (writes_send, (book.the_send D l, (as_row_send (row_field C) c, tt)))))
 
-  shared_send : IsSend (SharedDesk.the_row D C P d l p b)
-  shared_send = declared_send (SharedDesk.the_type D C P d l p b) (named_send D d l, (mutex_send (Desk.the_row D C P b d l p) desk_send, tt))
+  lock_send : IsSend (Mutex.the_row (Desk.the_row D C P b d l p))
+  lock_send = mutex_send (Desk.the_row D C P b d l p) desk_send
 
-  shared_sync : IsSync (SharedDesk.the_row D C P d l p b)
-  shared_sync = declared_sync (SharedDesk.the_type D C P d l p b) (named_sync D d l, (mutex_sync (Desk.the_row D C P b d l p) desk_send, tt))
+  lock_sync : IsSync (Mutex.the_row (Desk.the_row D C P b d l p))
+  lock_sync = mutex_sync (Desk.the_row D C P b d l p) desk_send
 
   -- a seat is `Send` if what ends its database is `Send`, and the placement of its documents is `Send` and `Sync`
   pub seat_send_by : IsSend (Seat.the_row D C P d l p b)
@@ -130,7 +122,7 @@ module _ (D C P : RattleType) (d : database.Ghosts D.Denot) (l : ledger.Ghosts D
           tally_send D l,
           (
             option.the_send Reads reads_send,
-            (Arc-send (SharedDesk.the_row D C P d l p b) shared_send shared_sync, tt),
+            (Arc-send (Mutex.the_row (Desk.the_row D C P b d l p)) lock_send lock_sync, tt),
           ),
         ),
       ),

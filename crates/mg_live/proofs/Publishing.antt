@@ -1,5 +1,5 @@
 -- What is published, and how a write changes it.
-use Rattle.std.proofs.Common.{◌≡◌, ◌≢◌, ℕ, ◌+◌, Bool, true, false, List, [], ◌∷◌, ◌++◌, inl, inr, Option, Some, None, length, refl, ap, sym, ◌∙◌, subst, arith}
+use Rattle.std.proofs.Common.{◌≡◌, ◌≢◌, ℕ, ◌+◌, Bool, true, false, List, [], ◌∷◌, ◌++◌, inl, inr, Option, Some, None, MatchOption, length, refl, ap, sym, ◌∙◌, subst, arith}
 use Rattle.std.proofs.lemmas.List.{length-map, map-append}
 use Rattle.std.proofs.lemmas.Bool.Decides.{nat_tests}
 use Rattle.logbook.specs.Pages.{Book}
@@ -17,6 +17,7 @@ use Rattle.mg_live.specs.Snapshots.{StandsAfter, IsSnapshotOf, commits_of}
 use Rattle.mg_live.specs.SeatView.{IsLater, Learned, SeatView, SeatWrites}
 use Rattle.mg_live.specs.Rules.{log_entry}
 use Rattle.mg_live.specs.View.{commit_seen, commits_seen}
+use Rattle.mg_live.specs.declared.commit_log.Prefix.{Prefix}
 use Rattle.mg_live.specs.declared.markers.Entry.{Entry}
 use Rattle.mg_machine.specs.declared.point.Point.{Point}
 use Rattle.mg_live.specs.declared.snapshot.Snapshot.{Snapshot}
@@ -54,33 +55,33 @@ has_room name log c r is taken =
     subst (λ (n : ℕ). n ≢ 18446744073709551615) (length-map log commit_seen) (room_for name cs c (answered r (write_reply name cs c) true is taken))
 
 -- the commits after an accepted write
-more : (log after : List Entry) (seat : ℕ) (c : Command) → after ≡ log ++ log_entry seat c ∷ [] → commits_seen after ≡ commits_seen log ++ (seat, asked c) ∷ []
-more log after seat c is = ap commits_seen is ∙ map-append commit_seen log (log_entry seat c ∷ [])
+more : (log after : List Entry) (seat : ℕ) (c : Command) (next : ℕ) → after ≡ log ++ log_entry seat c next ∷ [] → commits_seen after ≡ commits_seen log ++ (seat, asked c) ∷ []
+more log after seat c next is = ap commits_seen is ∙ map-append commit_seen log (log_entry seat c next ∷ [])
 
-pub one_more : (name : List ℕ) (log after : List Entry) (seat : ℕ) (c : Command) (r : Reply) → said r ≡ Some (write_reply name (commits_seen log) (asked c)) → accepts r ≡ true → after ≡ log ++ log_entry seat c ∷ []
+pub one_more : (name : List ℕ) (log after : List Entry) (seat : ℕ) (c : Command) (next : ℕ) (r : Reply) → said r ≡ Some (write_reply name (commits_seen log) (asked c)) → accepts r ≡ true → after ≡ log ++ log_entry seat c next ∷ []
     → WriteLeaves name (commits_seen log) (seat, asked c) (said r) (Some (commits_seen after))
-one_more name log after seat c r is taken added =
+one_more name log after seat c next r is taken added =
     let cs = commits_seen log in
     let accepted : is_accepted (write_reply name cs (asked c)) ≡ true = answered r (write_reply name cs (asked c)) true is taken in
-    rw is (refl, accepted, more log after seat c added)
+    rw is (refl, accepted, more log after seat c next added)
 
 -- the point after an accepted write
-pub there : {P : Type 0} {place : P → List ℕ → ℕ → ℕ} (name : List ℕ) (log after : List Entry) (seat : ℕ) (c : Command) (r : Reply) (p : Point P) → said r ≡ Some (write_reply name (commits_seen log) (asked c)) → accepts r ≡ true → after ≡ log ++ log_entry seat c ∷ []
+pub there : {P : Type 0} {place : P → List ℕ → ℕ → ℕ} (name : List ℕ) (log after : List Entry) (seat : ℕ) (c : Command) (next : ℕ) (r : Reply) (p : Point P) → said r ≡ Some (write_reply name (commits_seen log) (asked c)) → accepts r ≡ true → after ≡ log ++ log_entry seat c next ∷ []
     → IsAfter place name p (after_write name (commits_seen log) seat (asked c)) → IsAfter place name p (commits_seen after)
-there {place = place} name log after seat c r p is taken added at =
+there {place = place} name log after seat c next r p is taken added at =
     let cs = commits_seen log in
     let accepted : is_accepted (write_reply name cs (asked c)) ≡ true = answered r (write_reply name cs (asked c)) true is taken in
     let now : IsAfter place name p (cs ++ (seat, asked c) ∷ []) = rw accepted at at in
-    subst (λ (ds : List Commit). IsAfter place name p ds) (sym (more log after seat c added)) now
+    subst (λ (ds : List Commit). IsAfter place name p ds) (sym (more log after seat c next added)) now
 
 -- the shards after an accepted write
-pub dealt : {P : Type 0} (name : List ℕ) (opened : ℕ) (log after : List Entry) (seat : ℕ) (c : Command) (r : Reply) (p : Point P) → said r ≡ Some (write_reply name (commits_seen log) (asked c)) → accepts r ≡ true → after ≡ log ++ log_entry seat c ∷ []
+pub dealt : {P : Type 0} (name : List ℕ) (opened : ℕ) (log after : List Entry) (seat : ℕ) (c : Command) (next : ℕ) (r : Reply) (p : Point P) → said r ≡ Some (write_reply name (commits_seen log) (asked c)) → accepts r ≡ true → after ≡ log ++ log_entry seat c next ∷ []
     → HasShardsAfter opened p (after_write name (commits_seen log) seat (asked c)) → HasShardsAfter opened p (commits_seen after)
-dealt name opened log after seat c r p is taken added at =
+dealt name opened log after seat c next r p is taken added at =
     let cs = commits_seen log in
     let accepted : is_accepted (write_reply name cs (asked c)) ≡ true = answered r (write_reply name cs (asked c)) true is taken in
     let now : HasShardsAfter opened p (cs ++ (seat, asked c) ∷ []) = rw accepted at at in
-    subst (λ (ds : List Commit). HasShardsAfter opened p ds) (sym (more log after seat c added)) now
+    subst (λ (ds : List Commit). HasShardsAfter opened p ds) (sym (more log after seat c next added)) now
 
 -- the commits after a write that leaves a snapshot
 pub added : (name : List ℕ) (cs : List Commit) (write : Commit) (o : Option Answer) (new : List Commit) → WriteLeaves name cs write o (Some new) → new ≡ cs ++ write ∷ []
@@ -94,6 +95,24 @@ published name write old new None later h seen tally = absurd h
 published name write old new (Some a) later h seen tally =
     let yes : is_accepted (write_reply name old.published write.1) ≡ true = rw h.0 at h.1 in
     record { later = later; answer = h.0; published = rw yes h.2; seen = seen; tally = rw h.1 tally }
+
+-- what a write that is not accepted does to what its seat has seen
+pub left : (name : List ℕ) (write : Commit) (old : Standing) (o : Option Answer) (was shown new : Prefix) (after : List Commit) → after ≡ old.published → commits_seen shown.seen.log ≡ old.published → IsPrefix old.seen old.published
+    → WriteLeaves name old.published write o None → old.seen ≡ commits_seen was.seen.log → MatchOption o (new ≡ was) (λ a. new ≡ shown)
+    → Publishes name write old o (record { published = after; seen = commits_seen new.seen.log; tally = old.tally })
+left name write old None was shown new after same now later h seen at =
+    ap (λ (cs : List Commit). record old { published = cs; seen = commits_seen new.seen.log }) same
+    ∙ ap (λ (cs : List Commit). record old { seen = cs }) (ap (λ (f : Prefix). commits_seen f.seen.log) at ∙ sym seen)
+left name write old (Some a) was shown new after same now later h seen at =
+    let no : is_accepted (write_reply name old.published write.1) ≡ false = rw h.0 at h.1 in
+    let stays : old.published ≡ after_write name old.published write.0 write.1 = rw no refl in
+    record {
+      later = later;
+      answer = h.0;
+      published = same ∙ stays;
+      seen = ap (λ (f : Prefix). commits_seen f.seen.log) at ∙ now ∙ sym same;
+      tally = rw h.1 refl;
+    }
 
 -- a write as its seat sees it
 pub wrote : (name : List ℕ) (old : SeatView) (cs : List Commit) (c : Asked) (o : Option Answer) (new : Standing) → Publishes name (old.number, c) (record { published = cs; seen = old.seen; tally = old.tally }) o new

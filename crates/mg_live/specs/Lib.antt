@@ -3,4 +3,5 @@ pub mod Snapshots
 pub mod Code
 pub mod SeatView
 pub mod Rules
+pub mod Adding
 pub mod Published

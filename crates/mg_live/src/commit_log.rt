@@ -1,13 +1,16 @@
 //! The commit log of a database: its commits, each added in one step. In memory there is only its length; contracts see the entries.
-ghost use Rattle.std.specs.Prelude.{◌≡◌, ◌≢◌, ◌≤◌, ◌<◌, ◌++◌, ℕ, ◌∷◌, [], length, MatchBool, IfSome};
+ghost use Rattle.std.specs.Prelude.{◌≡◌, ◌≢◌, ◌≤◌, ◌<◌, ◌++◌, ℕ, ◌∷◌, [], true, length, MatchBool, IfOk};
+ghost use Rattle.logbook.specs.Pages.{may_write};
 ghost use Rattle.mg_machine.specs.Laws.{IsPrefix};
-ghost use Rattle.mg_live.specs.Rules.{log_word_of, log_entry};
+ghost use Rattle.mg_live.specs.Adding.{AddsAfter};
+ghost use Rattle.mg_live.specs.Rules.{count_word, pen_word, log_entry};
 ghost use Rattle.mg_live.specs.View.{commits_seen};
 
-use crate::markers::{AddEntry, Entry, LogRule, NoGain};
-use logbook::{Offer, Seen, Start, Word};
+use crate::markers::{AddEntry, Entry, LogRule, NoGain, TakePen};
+use logbook::{Offer, Pen, Seen, Start, Word};
 use mg_engine::Command;
 use mg_scan::Workers;
+use mg_value::NoMemory;
 use std::marker::Model;
 use std::snapshot::Snapshot as GhostCopy;
 
@@ -36,11 +39,8 @@ impl Write {
     }
 }
 
-/// The word in memory that counts the entries of the commit log.
-#[derive(Drop)]
-pub struct LogWord {
-    word: Word<Entry, u64, LogRule>,
-}
+/// A word of the commit log.
+type LogWord = Word<Entry, u64, LogRule>;
 
 /// A prefix of the commit log that has been seen.
 #[derive(Drop)]
@@ -53,8 +53,9 @@ pub struct Prefix {
 /// A new, empty commit log.
 #[derive(Drop)]
 pub struct CommitLog {
-    pub(crate) log_word: LogWord,
-    pub(crate) prefix: Prefix,
+    count: LogWord,
+    pens: LogWord,
+    prefix: Prefix,
 }
 
 impl Model for CommitLog {
@@ -63,31 +64,113 @@ impl Model for CommitLog {
 
     ghost Value = { Book };
 
-    ghost use Rattle.mg_live.specs.Rules.{log_word_of};
+    ghost use Rattle.mg_live.specs.Rules.{count_word, pen_word};
 
     ghost view = { λ h. h.prefix.seen.book };
 
-    ghost invariant = { λ h. (h.log_word.word ≡ log_word_of h.prefix.seen.book) × (h.prefix.seen.log ≡ []) };
+    ghost invariant = { λ h. (h.count ≡ count_word h.prefix.seen.book) × (h.pens ≡ pen_word h.prefix.seen.book)
+        × (h.prefix.seen.log ≡ []) };
+}
+
+/// The right to add to the commit log, which only one value has: its pen adds one entry, which names the pen for the entry after it.
+#[derive(Drop)]
+pub(crate) struct LogWriter {
+    // counts the entries
+    count: LogWord,
+    // changes with the first pen
+    pens: LogWord,
+    pen: Pen,
+}
+
+/// An entry to be added: a write, and the pen for the entry after it.
+#[derive(Drop)]
+pub(crate) struct Addition {
+    write: Write,
+    next: Pen,
 }
 
 impl CommitLog {
     /// Makes an empty commit log, which belongs to no database yet.
     pub fn new() -> CommitLog {
-        let (seen, mut first, _second) = Seen::open(Start::alone(), 0, 0);
-        let word = Word::tracked(0, &mut first);
+        let (seen, mut first, mut second) = Seen::open(Start::alone(), 0, 0);
+        let count = Word::tracked(0, &mut first);
+        let pens = Word::tracked(0, &mut second);
         CommitLog {
-            log_word: LogWord { word },
+            count,
+            pens,
             prefix: Prefix { count: 0, seen },
         }
     }
 
-    // Takes the new log apart into its word and its empty prefix.
-    pub(crate) fn parts(self) -> (LogWord, Prefix)
-        ensures log_word { result.0.word ≡ log_word_of self }
-        ensures prefix { (result.1.seen.book ≡ self) × (result.1.seen.log ≡ []) }
+    // Takes the new log apart into the right to add to it and its empty prefix. Takes no memory.
+    //
+    // Errors: `NoMemory` if a pen was taken from this log before.
+    pub(crate) fn parts(self) -> Result<(LogWriter, Prefix), NoMemory>
+        ensures writer { IfOk result (λ t. AddsAfter t.0 self []) }
+        ensures prefix { IfOk result (λ t. (t.1.seen.book ≡ self) × (t.1.seen.log ≡ [])) }
     {
-        let CommitLog { log_word, prefix } = self;
-        (log_word, prefix)
+        let CommitLog {
+            count,
+            pens,
+            prefix,
+        } = self;
+        let (first, pen) = take_pen(&pens, &prefix);
+        if !first {
+            return Err(NoMemory);
+        }
+        Ok((LogWriter { count, pens, pen }, prefix))
+    }
+}
+
+// Takes a new pen, and says whether it is the first of its log. Takes no memory.
+fn take_pen(pens: &LogWord, prefix: &Prefix) -> (bool, Pen)
+    requires { pens.now ≡ pen_word prefix.now.seen.book }
+    ensures pen { (result.1.book ≡ prefix.now.seen.book) × (result.1.nib.right ≡ may_write) }
+    ensures first { result.0 ≡ true → result.1.nib.key ≡ 2 }
+{
+    let mut seen = prefix.seen.again();
+    let mut offer: Offer<Entry, u64, LogRule, NoGain> = seen.plain::<NoGain, (), TakePen>(&());
+    let mut pen = seen.no_pen();
+    let found = pens.compare_exchange::<TakePen, NoGain>(0, 1, &mut seen, &mut offer, &mut pen);
+    let _: LogWord = Word::tracked(0, &mut pen);
+    (found == 0, pen)
+}
+
+impl LogWriter {
+    /// Adds the commit of a write to the log, right after `prefix`, and returns the prefix with the commit. It cannot fail, since nothing
+    /// else adds to the log. Takes no memory.
+    pub(crate) fn add(&mut self, prefix: &Prefix, write: Write) -> Prefix
+        requires here { AddsAfter self.old prefix.now.seen.book prefix.now.seen.log }
+        requires room { length prefix.now.seen.log ≢ 18446744073709551615 }
+        ensures here { AddsAfter self.new prefix.now.seen.book result.seen.log }
+        ensures book { result.seen.book ≡ prefix.now.seen.book }
+        ensures added { result.seen.log ≡ prefix.now.seen.log
+            ++ log_entry write.seat write.command.value self.new.pen.nib.key ∷ [] }
+    {
+        let (_, next) = take_pen(&self.pens, prefix);
+        let addition = Addition { write, next };
+        let mut seen = prefix.seen.again();
+        let mut offer: Offer<Entry, u64, LogRule, NoGain> = seen.plain::<
+            NoGain,
+            Addition,
+            AddEntry,
+        >(&addition);
+        let count = prefix.count;
+        let _ = self
+            .count
+            .compare_exchange::<AddEntry, NoGain>(
+                count,
+                count + 1,
+                &mut seen,
+                &mut offer,
+                &mut self.pen,
+            );
+        let Addition { write: _, next } = addition;
+        self.pen = next;
+        Prefix {
+            count: count + 1,
+            seen,
+        }
     }
 }
 
@@ -139,38 +222,5 @@ impl Prefix {
             return other.again();
         }
         self
-    }
-
-    /// Adds a commit to the log right after this prefix, and returns the prefix with the commit. If the log is longer than this prefix,
-    /// returns `None`, and the log is unchanged. Takes no memory.
-    pub(crate) fn with(&self, log_word: &LogWord, write: &Write) -> Option<Prefix>
-        requires log_word { log_word.now.word ≡ log_word_of self.now.seen.book }
-        requires room { length self.now.seen.log ≢ 18446744073709551615 }
-        ensures { IfSome result (λ f.
-            (f.seen.log ≡ self.now.seen.log ++ log_entry write.now.seat write.now.command.value ∷ [])
-            × (f.seen.book ≡ self.now.seen.book)) }
-    {
-        let mut seen = self.seen.again();
-        let mut offer: Offer<Entry, u64, LogRule, NoGain> = seen.plain::<NoGain, Write, AddEntry>(
-            write,
-        );
-        let mut pen = seen.no_pen();
-        let count = self.count;
-        let found = log_word
-            .word
-            .compare_exchange::<AddEntry, NoGain>(
-                count,
-                count + 1,
-                &mut seen,
-                &mut offer,
-                &mut pen,
-            );
-        if found == count {
-            return Some(Prefix {
-                count: count + 1,
-                seen,
-            });
-        }
-        None
     }
 }

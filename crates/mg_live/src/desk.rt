@@ -1,15 +1,15 @@
-//! The desk, which the writer's lock guards: the writer, which publishes all commits; the book of the tallies, which count them; and what
-//! ends the writer.
-ghost use Rattle.std.specs.Prelude.{◌≡◌, ◌≤◌, true, [], length, MatchBool};
+//! The desk, which the writer's lock guards: the right to add to the commit log; the writer, which publishes all commits; the book of the
+//! tallies, which count them; and what ends the writer.
+ghost use Rattle.std.specs.Prelude.{◌≡◌, ◌≤◌, true, [], length, MatchBool, MatchOption};
 ghost use Rattle.mg_engine.specs.Commands.{is_write};
 ghost use Rattle.mg_engine.specs.View.{asked, said};
 ghost use Rattle.mg_machine.specs.Laws.{IsPrefix};
 ghost use Rattle.mg_live.specs.Published.{Publishes, standing};
-ghost use Rattle.mg_live.specs.Rules.{log_word_of};
+ghost use Rattle.mg_live.specs.Adding.{AddsAfter};
 ghost use Rattle.mg_live.specs.Snapshots.{HasSnapshot, IsSnapshotOf, commits_of};
 ghost use Rattle.mg_live.specs.View.{commits_seen};
 
-use crate::commit_log::{LogWord, Prefix, Write};
+use crate::commit_log::{LogWriter, Prefix, Write};
 use crate::database::{Database, EndsWriter};
 use crate::publication::{SnapshotWriter, publish};
 use crate::snapshot::Snapshot;
@@ -23,11 +23,13 @@ use std::sync::Wait;
 use std::sync::ledger::{Book, Share};
 use std::thread::Threads;
 
-/// What the writer's lock guards: the writer, the book of the tallies, and what ends the writer. Contracts see the published commits.
+/// What the writer's lock guards: the right to add to the commit log, the writer, the book of the tallies, and what ends the writer.
+/// Contracts see the published commits, which are all commits of the log.
 pub struct Desk<D: Database, C: EndsWriter, P: Placement + Drop>
 where
     Snapshot<P>: Absorb<(), State = ()>,
 {
+    log: LogWriter,
     writer: SnapshotWriter<D, P>,
     tally_book: Book<D>,
     ends: C,
@@ -45,12 +47,14 @@ where
 
     ghost coded = { commits_code };
 
+    ghost use Rattle.mg_live.specs.Adding.{AddsAfter};
     ghost use Rattle.mg_live.specs.Snapshots.{IsSnapshotOf, commits_of};
 
     ghost view = { λ d. commits_of d.writer.desk.shown.value };
 
     ghost invariant = { λ d. (d.tally_book.total ≡ length (commits_of d.writer.desk.shown.value))
-        × IsSnapshotOf P.place D.commit_log D.db D.shards d.writer.desk.shown.value };
+        × IsSnapshotOf P.place D.commit_log D.db D.shards d.writer.desk.shown.value
+        × AddsAfter d.log D.commit_log d.writer.desk.shown.value.prefix.seen.log };
 }
 
 impl<D: Database, C: EndsWriter, P: Placement + Drop> Drop for Desk<D, C, P>
@@ -59,6 +63,7 @@ where
 {
     fn drop(self) {
         let Desk {
+            log: _,
             writer,
             tally_book: _,
             ends,
@@ -72,12 +77,19 @@ where
     Snapshot<P>: Absorb<(), State = ()>,
 {
     // Makes a desk with no commit.
-    pub(crate) fn new(ends: C, writer: SnapshotWriter<D, P>, tally_book: Book<D>) -> Desk<D, C, P>
-        requires empty { (commits_of writer.desk.shown.value ≡ []) × (tally_book.total ≡ 0) }
+    pub(crate) fn new(
+        ends: C,
+        log: LogWriter,
+        writer: SnapshotWriter<D, P>,
+        tally_book: Book<D>,
+    ) -> Desk<D, C, P>
+        requires empty { (writer.desk.shown.value.prefix.seen.log ≡ []) × (tally_book.total ≡ 0) }
+        requires log { AddsAfter log D.commit_log [] }
         requires here { IsSnapshotOf P.place D.commit_log D.db D.shards writer.desk.shown.value }
         ensures { result ≡ [] }
     {
         Desk {
+            log,
             writer,
             tally_book,
             ends,
@@ -89,24 +101,22 @@ where
     // before the commit is in the commit log, and nothing after that can fail. `publish` may wait for readers; the copy that it replaces
     // comes back with the reply, so that the caller can drop it without the lock. If nothing was published, `None` comes back.
     //
-    // The reply is `NoMemory`, and nothing has changed, if an allocation fails, if there are too many references to the engine or
-    // to a part of it, if the seat has seen more commits than are published, or if the commit log is longer than what is published.
+    // The reply is `NoMemory`, and nothing has changed, if an allocation fails, if there are too many references to the engine or to a part
+    // of it, or if the seat has seen more commits than are published.
     pub(crate) fn write<R: Wait + Threads + Sync>(
         &mut self,
         rt: &R,
         alloc: Global,
-        log_word: &LogWord,
-        write: &Write,
+        write: Write,
         prepared: Prepared,
         tally: &mut Tally<D>,
         prefix: &mut Prefix,
     ) -> (Reply, Option<Snapshot<P>>)
-        requires write { is_write (asked write.now.command.value) ≡ true }
-        requires prepared { prepared ≡ asked write.now.command.value }
-        requires here { (prefix.old.seen.book ≡ D.commit_log)
-            × (log_word.now.word ≡ log_word_of D.commit_log) }
+        requires write { is_write (asked write.command.value) ≡ true }
+        requires prepared { prepared ≡ asked write.command.value }
+        requires here { prefix.old.seen.book ≡ D.commit_log }
         ensures here { prefix.new.seen.book ≡ D.commit_log }
-        ensures publishes { Publishes D.db (write.now.seat, asked write.now.command.value)
+        ensures publishes { Publishes D.db (write.seat, asked write.command.value)
             (standing self.old prefix.old tally.old) (said result.0)
             (standing self.new prefix.new tally.new) }
     {
@@ -114,18 +124,19 @@ where
         if !prefix.begins(&now.prefix) {
             return (Reply::NoMemory, None);
         }
-        let (reply, next) = now.next::<D, R>(rt, alloc, log_word, write, prepared);
-        let Some(next) = next else {
-            match reply {
-                Reply::NoMemory => {}
-                Reply::Full { .. } => *prefix = now.prefix.again(),
+        let (reply, next) = now.next::<D, R>(rt, alloc, &mut self.log, write, prepared);
+        match next {
+            None => {
+                see_answered(&reply, prefix, &now.prefix);
+                (reply, None)
             }
-            return (reply, None);
-        };
-        *prefix = next.prefix.again();
-        tally.add(&mut self.tally_book);
-        let before = publish(rt, &mut self.writer, next);
-        (reply, Some(before))
+            Some(next) => {
+                *prefix = next.prefix.again();
+                tally.add(&mut self.tally_book);
+                let before = publish(rt, &mut self.writer, next);
+                (reply, Some(before))
+            }
+        }
     }
 
     // Lets a seat catch up with all published commits, and returns true. If the seat has seen more commits than are published, returns
@@ -161,5 +172,15 @@ where
             unreachable!();
         }
         now.prefix.len()
+    }
+}
+
+// Lets a seat see what is published, unless the reply is `NoMemory`.
+fn see_answered(reply: &Reply, prefix: &mut Prefix, published: &Prefix)
+    ensures { MatchOption (said reply.now) (prefix.new ≡ prefix.old) (λ a. prefix.new ≡ published.now) }
+{
+    match reply {
+        Reply::NoMemory => {}
+        Reply::Full { .. } => *prefix = published.again(),
     }
 }

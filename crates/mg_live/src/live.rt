@@ -6,12 +6,12 @@ ghost use Rattle.mg_live.specs.SeatView.{AreAll, HasSeenMore, all_tallies, new_s
 ghost use Rattle.mg_live.specs.View.{commits_seen};
 ghost use Rattle.mg_live.specs.declared.live.CloseError.TheVariants.{Ahead, Missing};
 
-use crate::commit_log::{CommitLog, LogWord, Prefix};
+use crate::commit_log::{CommitLog, Prefix};
 use crate::database::{Database, EndsWriter};
 use crate::desk::Desk;
 use crate::markers::SnapshotRule;
 use crate::publication::SnapshotWriter;
-use crate::seat::{OwnLogWord, Seat, SharedDesk};
+use crate::seat::Seat;
 use crate::snapshot::Snapshot;
 use crate::tally::Tally;
 use left_right::Absorb;
@@ -21,7 +21,7 @@ use mg_machine::Point;
 use mg_shard::{Md5Placement, Placement};
 use mg_value::NoMemory;
 use std::alloc::Global;
-use std::marker::{Model, PhantomData};
+use std::marker::Model;
 use std::sync::ledger::{Blank, Share};
 use std::sync::{Arc, Mutex, Wait};
 
@@ -31,7 +31,7 @@ pub struct Live<D: Database, C: EndsWriter, P: Placement + Drop = Md5Placement>
 where
     Snapshot<P>: Absorb<(), State = ()>,
 {
-    shared: Arc<SharedDesk<D, C, P>>,
+    desk: Arc<Mutex<Desk<D, C, P>>>,
     empty: Prefix,
     last_share: Share<D>,
     seats: usize,
@@ -74,12 +74,12 @@ pub enum CloseError {
     Ahead,
 }
 
-// What an empty database begins with: what its seats share, what makes their readers, the empty prefix, and all parts of the ledger.
+// What an empty database begins with: the desk that its seats share, what makes their readers, the empty prefix, and all parts of the ledger.
 struct Opening<D: Database, C: EndsWriter, P: Placement + Drop>
 where
     Snapshot<P>: Absorb<(), State = ()>,
 {
-    shared: SharedDesk<D, C, P>,
+    desk: Mutex<Desk<D, C, P>>,
     factory: Factory<Snapshot<P>, (), SnapshotRule<D, P>>,
     prefix: Prefix,
     all: Share<D>,
@@ -116,7 +116,7 @@ where
     ensures all { IfOk result (λ s. (s.all.parts ≡ D.parts) × (s.all.amount ≡ 0)) }
     ensures prefix { IfOk result (λ s. (s.prefix.seen.book ≡ D.commit_log) × (s.prefix.seen.log ≡ [])) }
 {
-    let (log_word, prefix) = commit_log.parts();
+    let (log, prefix) = commit_log.parts()?;
     let (tally_book, all) = blank.open::<D>();
     let first = Snapshot {
         point: Point::first(alloc, db, placement, shards)?,
@@ -125,16 +125,9 @@ where
     let second = first.again()?;
     let writer: SnapshotWriter<D, P> = Writer::new(alloc, first, second, seats)?;
     let factory = writer.factory().another();
-    let desk = Desk::new(ends, writer, tally_book);
-    let shared = SharedDesk {
-        own_log_word: OwnLogWord {
-            log_word,
-            of: PhantomData,
-        },
-        desk: Mutex::new(desk),
-    };
+    let desk = Desk::new(ends, log, writer, tally_book);
     Ok(Opening {
-        shared,
+        desk: Mutex::new(desk),
         factory: factory?,
         prefix,
         all,
@@ -220,7 +213,7 @@ where
     /// numbered from 0. `blank` is the new ledger of its tallies, with one part for each seat; `commit_log` is its new commit log. `ends`
     /// ends the writer once this `Live` and all seats are dropped or the database is closed.
     ///
-    /// Errors: `NoMemory` if an allocation fails. Cost: the number of shards and of seats, and the name.
+    /// Errors: `NoMemory` if an allocation fails, or if the commit log is not new. Cost: the number of shards and of seats, and the name.
     pub fn open(
         ends: C,
         alloc: Global,
@@ -242,12 +235,12 @@ where
         ensures seats { IfOk result (λ t. t.1.items ≡ new_seats seats) }
     {
         let Opening {
-            shared,
+            desk,
             factory,
             prefix,
             mut all,
         } = begin(ends, alloc, blank, commit_log, db, placement, shards, seats)?;
-        let shared = Arc::new(alloc, shared)?;
+        let desk = Arc::new(alloc, desk)?;
         let mut each = Vec::new(alloc);
         for number in 0..seats {
             let seat = Seat {
@@ -256,12 +249,12 @@ where
                 prefix: prefix.again(),
                 tally: Tally::new(&mut all),
                 reader: Some(factory.reader()?),
-                shared: Arc::try_clone(&shared)?,
+                desk: Arc::try_clone(&desk)?,
             };
             each.push(seat)?;
         }
         let live = Live {
-            shared,
+            desk,
             empty: prefix,
             last_share: all,
             seats,
@@ -295,12 +288,12 @@ where
         }
         let seen = longest(&self.empty, seats.as_slice(), made);
         let Live {
-            shared,
+            desk,
             last_share,
             ..
         } = self;
         let mut all = join_all(last_share, seats);
-        let commits = shared.desk.lock(rt).count_commits(&mut all, &seen);
+        let commits = desk.lock(rt).count_commits(&mut all, &seen);
         Ok(Closed { commits })
     }
 }

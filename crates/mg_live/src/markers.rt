@@ -1,5 +1,5 @@
 //! Types that are never constructed: proofs use them to name the entries, the rules and the steps.
-use crate::commit_log::Write;
+use crate::commit_log::Addition;
 use crate::database::Database;
 use crate::snapshot::Snapshot;
 use crossbeam_utils::rule::{Outcome, Protocol};
@@ -10,13 +10,14 @@ use std::marker::PhantomData;
 
 // ---- the commit log
 
-/// An entry of the commit log: the seat that made the commit, and its command.
+/// An entry of the commit log: the seat that made the commit, its command, and the key of the pen for the entry after it.
 pub struct Entry {
     pub seat: usize,
     pub command: Command,
+    pub next: usize,
 }
 
-/// The rule of the commit log: its first word is the number of its entries.
+/// The rule of the commit log: its first word is the number of its entries, and the pen of each entry is used up.
 pub struct LogRule;
 
 impl Rule<Entry, u64> for LogRule {
@@ -46,7 +47,27 @@ impl Gain<Entry, u64> for NoGain {
     ghost after = { λ names about answer. ftrue };
 }
 
-/// A step that adds an entry, unless the log is longer than what had been seen of it.
+/// A step that takes a new pen.
+pub(crate) struct TakePen;
+
+impl Play<Entry, u64> for TakePen {
+    ghost use Rattle.mg_live.specs.Rules.{Takes};
+
+    ghost then = { Takes };
+}
+
+impl Plain<(), Entry, u64> for TakePen {
+    ghost use Rattle.std.specs.Prelude.{None};
+    ghost use Rattle.mg_engine.specs.declared.command.Command.TheVariants.{ListIndexes};
+    ghost use Rattle.mg_live.specs.Rules.{log_entry};
+
+    // the step adds no entry
+    ghost ask = { λ nothing. log_entry 0 ListIndexes 0 };
+
+    ghost state = { λ nothing. None };
+}
+
+/// A step that adds an entry right after what had been seen of the log.
 pub(crate) struct AddEntry;
 
 impl Play<Entry, u64> for AddEntry {
@@ -55,13 +76,13 @@ impl Play<Entry, u64> for AddEntry {
     ghost then = { Adds };
 }
 
-impl Plain<Write, Entry, u64> for AddEntry {
+impl Plain<Addition, Entry, u64> for AddEntry {
     ghost use Rattle.std.specs.Prelude.{None};
     ghost use Rattle.mg_live.specs.Rules.{log_entry};
 
-    ghost ask = { λ write. log_entry write.seat write.command.value };
+    ghost ask = { λ a. log_entry a.write.seat a.write.command.value a.next.nib.key };
 
-    ghost state = { λ write. None };
+    ghost state = { λ a. None };
 }
 
 // ---- what is published

@@ -3,12 +3,13 @@ ghost use Rattle.std.specs.Prelude.{◌≡◌, ◌≤◌, true, false, IfOk, OnE
 ghost use Rattle.mg_engine.specs.Commands.{is_write};
 ghost use Rattle.mg_engine.specs.View.{asked, said};
 ghost use Rattle.mg_live.specs.Snapshots.{StandsAfter, HasSnapshot};
-ghost use Rattle.mg_live.specs.Rules.{log_word_of};
+ghost use Rattle.mg_live.specs.View.{commits_seen};
 ghost use Rattle.mg_live.specs.SeatView.{Answered, IsLater, SeatReads, Learned, SeatWrites};
 
-use crate::commit_log::{LogWord, Prefix, Write};
+use crate::commit_log::{Prefix, Write};
 use crate::database::{Database, EndsWriter};
 use crate::desk::Desk;
+use crate::lock;
 use crate::publication::{SnapshotReader, copy_published};
 use crate::snapshot::Snapshot;
 use crate::tally::Tally;
@@ -22,24 +23,6 @@ use std::marker::{Model, PhantomData};
 use std::sync::{Arc, Mutex, Wait};
 use std::thread::Threads;
 
-/// What all seats share: the word that counts the entries of the commit log, and the desk, which the writer's lock guards.
-#[derive(Drop)]
-pub(crate) struct SharedDesk<D: Database, C: EndsWriter, P: Placement + Drop>
-where
-    Snapshot<P>: Absorb<(), State = ()>,
-{
-    pub(crate) own_log_word: OwnLogWord<D>,
-    pub(crate) desk: Mutex<Desk<D, C, P>>,
-}
-
-/// The word that counts the entries of the commit log of the database `D`.
-#[derive(Drop)]
-pub(crate) struct OwnLogWord<D: Database> {
-    pub(crate) log_word: LogWord,
-    pub(crate) of: PhantomData<D>,
-    ghost is: { log_word.word ≡ log_word_of D.commit_log },
-}
-
 /// A seat at a database. Contracts see its number, the commits that it has seen, and the tally of those that it has made.
 #[derive(Drop)]
 pub struct Seat<D: Database, C: EndsWriter, P: Placement + Drop = Md5Placement>
@@ -51,7 +34,7 @@ where
     pub(crate) prefix: Prefix,
     pub(crate) tally: Tally<D>,
     pub(crate) reader: Option<SnapshotReader<D, P>>,
-    pub(crate) shared: Arc<SharedDesk<D, C, P>>,
+    pub(crate) desk: Arc<Mutex<Desk<D, C, P>>>,
 }
 
 impl<D: Database, C: EndsWriter, P: Placement + Drop> Model for Seat<D, C, P>
@@ -94,6 +77,19 @@ impl<D: Database> Model for Seen<D> {
     ghost view = { λ s. commits_seen s.prefix.seen.log };
 
     ghost invariant = { λ s. s.prefix.seen.book ≡ D.commit_log };
+}
+
+impl<D: Database> Seen<D> {
+    // Makes what a seat that has seen this prefix lets others learn.
+    fn of(prefix: &Prefix) -> Seen<D>
+        requires { prefix.now.seen.book ≡ D.commit_log }
+        ensures { result ≡ commits_seen prefix.now.seen.log }
+    {
+        Seen {
+            prefix: prefix.again(),
+            of: PhantomData,
+        }
+    }
 }
 
 impl<D: Database, C: EndsWriter, P: Placement + Drop> Seat<D, C, P>
@@ -185,7 +181,7 @@ where
             alloc,
             prefix,
             tally,
-            shared,
+            desk,
             ..
         } = self;
         let write = Write::of(*number, &command, workers);
@@ -193,16 +189,8 @@ where
             return Reply::NoMemory;
         };
         let (reply, before) = {
-            let mut desk = shared.desk.lock(rt);
-            desk.write(
-                rt,
-                *alloc,
-                &shared.own_log_word.log_word,
-                &write,
-                prepared,
-                tally,
-                prefix,
-            )
+            let mut desk = lock::take(rt, desk);
+            desk.write(rt, *alloc, write, prepared, tally, prefix)
         };
         drop(before);
         reply
@@ -218,14 +206,18 @@ where
         ensures published { OnOk result (HasSnapshot P.place D.db D.shards self.new.seen) }
         ensures refused { OnErr result (self.new ≡ self.old) }
     {
-        let desk = self.shared.desk.lock(rt);
+        let desk = self.desk.lock(rt);
         if !desk.catch_up(&mut self.prefix) {
             return Err(NoMemory);
         }
-        Ok(Seen {
-            prefix: self.prefix.again(),
-            of: PhantomData,
-        })
+        Ok(Seen::of(&self.prefix))
+    }
+
+    /// Returns the commits that this seat has seen, for another seat to `learn`. Takes no lock and no memory. Cost: constant.
+    pub fn seen(&self) -> Seen<D>
+        ensures { result ≡ self.now.seen }
+    {
+        Seen::of(&self.prefix)
     }
 
     /// Learns what another seat has seen: this seat has then seen the longer of the two prefixes. Takes no memory. Cost: constant.

@@ -1,5 +1,5 @@
 //! Snapshots: a database as it stood after some of its commits.
-ghost use Rattle.std.specs.Prelude.{◌≡◌, ◌≤◌, true, length, All, IfOk, IfSome, option_map};
+ghost use Rattle.std.specs.Prelude.{◌≡◌, ◌≤◌, true, length, All, IfOk, IfSome, MatchOption, option_map};
 ghost use Rattle.std.specs.Arc.{arc_value};
 ghost use Rattle.mg_engine.specs.Commands.{is_write};
 ghost use Rattle.mg_engine.specs.Settled.{accepts};
@@ -7,9 +7,9 @@ ghost use Rattle.mg_engine.specs.View.{asked, said};
 ghost use Rattle.mg_live.specs.Published.{WriteLeaves};
 ghost use Rattle.mg_live.specs.Snapshots.{IsSnapshotOf, commits_of, state_of};
 ghost use Rattle.mg_shard.specs.Shard.{shards_seen};
-ghost use Rattle.mg_live.specs.Rules.{log_word_of};
+ghost use Rattle.mg_live.specs.Adding.{AddsAfter};
 
-use crate::commit_log::{LogWord, Prefix, Write};
+use crate::commit_log::{LogWriter, Prefix, Write};
 use crate::database::Database;
 use mg_engine::{Prepared, Reply};
 use mg_index::Catalog;
@@ -59,25 +59,27 @@ impl<P: Placement + Drop> Snapshot<P> {
         })
     }
 
-    // Executes a write after the commits of this snapshot, and returns its reply and the snapshot after it; `None` unless the write is
-    // accepted. An accepted write is in the commit log. The reply is `NoMemory`, and the commit log is unchanged, if an allocation fails,
-    // if there are too many references to the engine or to a part of it, or if the commit log is longer than the prefix of this snapshot.
-    // Cost: that of the engine's `commit_prepared`.
+    // Executes a write after the commits of this snapshot, which are all entries of the commit log, and returns its reply and the snapshot
+    // after it; `None` unless the write is accepted. An accepted write is the next entry of the commit log. The reply is `NoMemory`, and the
+    // commit log is unchanged, if an allocation fails, or if there are too many references to the engine or to a part of it. Cost: that of
+    // the engine's `commit_prepared`.
     pub(crate) fn next<D: Database, R: Threads + Sync>(
         &self,
         rt: &R,
         alloc: Global,
-        log_word: &LogWord,
-        write: &Write,
+        log: &mut LogWriter,
+        write: Write,
         prepared: Prepared,
     ) -> (Reply, Option<Snapshot<P>>)
-        requires write { is_write (asked write.now.command.value) ≡ true }
-        requires prepared { prepared ≡ asked write.now.command.value }
-        requires log_word { log_word.now.word ≡ log_word_of D.commit_log }
+        requires write { is_write (asked write.command.value) ≡ true }
+        requires prepared { prepared ≡ asked write.command.value }
+        requires log { AddsAfter log.old D.commit_log self.now.prefix.seen.log }
         requires here { IsSnapshotOf P.place D.commit_log D.db D.shards self.now }
-        ensures next { WriteLeaves D.db (commits_of self.now) (write.now.seat, asked write.now.command.value)
+        ensures next { WriteLeaves D.db (commits_of self.now) (write.seat, asked write.command.value)
             (said result.0)
             (option_map commits_of result.1) }
+        ensures log { MatchOption result.1 (log.new ≡ log.old)
+            (λ s. AddsAfter log.new D.commit_log s.prefix.seen.log) }
         ensures there { IfSome result.1 (λ s. IsSnapshotOf P.place D.commit_log D.db D.shards s) }
     {
         let Ok((reply, point)) = self
@@ -89,9 +91,7 @@ impl<P: Placement + Drop> Snapshot<P> {
         if !accepts(&reply) {
             return (reply, None);
         }
-        let Some(prefix) = self.prefix.with(log_word, write) else {
-            return (Reply::NoMemory, None);
-        };
+        let prefix = log.add(&self.prefix, write);
         (reply, Some(Snapshot { point, prefix }))
     }
 }

@@ -1,13 +1,15 @@
 -- Pulling the first item from sources that are in order.
-use Rattle.std.proofs.Common.{◌≡◌, ℕ, zero, suc, ◌+◌, ◌<◌, ◌≤◌, List, [], ◌∷◌, ◌++◌, length, get_or, set, map, take, All, Option, None, Some, option_map, IfSome, IfNone, Ordering, Bool, true, false, if◌then◌else◌, append_assoc, refl, sym, ap, ap₂, ◌∙◌, subst, arith}
+use Rattle.std.proofs.Common.{◌≡◌, ℕ, zero, suc, ◌+◌, ◌<◌, ◌≤◌, List, [], ◌∷◌, ◌++◌, length, get_or, set, map, take, All, Option, None, Some, option_map, IfSome, IfNone, Ordering, Bool, true, false, if◌then◌else◌, append_assoc, cond, count_by, refl, sym, ap, ap₂, ◌∙◌, subst, arith}
+use Rattle.std.specs.List.{AllZip}
 use Rattle.std.specs.Ordering.{is_gt}
+use Rattle.std.proofs.lemmas.List.Sums.{sum_by-cons}
 use Rattle.std.proofs.lemmas.List.{get_or-map, length-map, length-set, map-append, map-set, length-append}
 use Rattle.mg_collate.specs.declared.direction.Direction.{Direction}
 use Rattle.mg_collate.specs.Row.{RowValue, directed_order}
 use Rattle.mg_collate.specs.Sorted.{IsInOrder, sorted, sorted_with}
 use Rattle.mg_collate.proofs.Directed.{directed_total}
 use Rattle.mg_merge.specs.Merged.{joined, order_by}
-use Rattle.mg_merge.specs.Pulled.{AreFrom, IsUnderWay, IsGivenBy, remaining, all_remaining, firsts_of}
+use Rattle.mg_merge.specs.Pulled.{ArePulled, AreFrom, IsUnderWay, IsGivenBy, IsLeftOf, has_item, remaining, all_remaining, firsts_of}
 use Rattle.mg_merge.specs.Remaining.{BeginsFirst, first_order}
 use Rattle.mg_merge.specs.Tournament.{IsWinnerTree, IsWinnerTreeBut}
 use Rattle.mg_merge.proofs.Heads.{first_taken, none_left, order_kept}
@@ -279,6 +281,67 @@ pulled_count row order heads start rests before all items count waits same e w n
     ∙ ap₂ (λ i j. i + j) (length-map items row) (length_sorted order (joined now)) in
     let more = still_remaining row heads rests in
     omega (arith, total, more, w, n)
+
+-- ---- what is left of each source
+
+pub left_same : {X : Type 0} (lists : List (List X)) → AllZip IsLeftOf lists lists
+left_same [] = tt
+left_same (list ∷ lists) = (([], refl), left_same lists)
+
+-- what is left of what was left
+pub left_more : {X : Type 0} (now before start : List (List X)) → AllZip IsLeftOf now before → AllZip IsLeftOf before start → AllZip IsLeftOf now start
+left_more [] [] [] h k = tt
+left_more [] [] (s ∷ start) h k = absurd k
+left_more [] (b ∷ before) start h k = absurd h
+left_more (n ∷ now) [] start h k = absurd h
+left_more (n ∷ now) (b ∷ before) [] h k = absurd k
+left_more (n ∷ now) (b ∷ before) (s ∷ start) h k = (
+  (k.0.0 ++ h.0.0, k.0.1 ∙ ap (λ l. k.0.0 ++ l) h.0.1 ∙ sym (append_assoc k.0.0 h.0.0 n)),
+  left_more now before start h.1 k.1,
+)
+
+left_set : {X : Type 0} (lists : List (List X)) (p : ℕ) (x : X) (left : List X) → get_or lists p [] ≡ x ∷ left → AllZip IsLeftOf (set lists p left) lists
+left_set [] p x left e = tt
+left_set (list ∷ lists) zero x left e = ((x ∷ [], e), left_same lists)
+left_set (list ∷ lists) (suc p) x left e = (([], refl), left_set lists p x left e)
+
+-- after a head is taken, the rest of its source is left, and all of each other source
+pub source_left : {T S : Type 0} (row : T → RowValue) (rest : S → List RowValue) (heads : List (Option T)) (sources : List S) (p : ℕ) (x : T) (pulled : Option T) (s new : S) → length heads ≡ length (map rest sources)
+    → p < length heads → get_or heads p None ≡ Some x → p < length sources → s ≡ get_or sources p s → rest s ≡ remaining (option_map row pulled) (rest new)
+    → AllZip IsLeftOf (all_remaining (map (option_map row) (set heads p pulled)) (map rest (set sources p new))) (all_remaining (map (option_map row) heads) (map rest sources))
+source_left row rest heads sources p x pulled s new h low e l at was =
+    let all = all_remaining (map (option_map row) heads) (map rest sources) in
+    let left = remaining (option_map row pulled) (rest new) in
+    let here : get_or all p [] ≡ row x ∷ left =
+    front row heads (map rest sources) p h low ∙ ap (λ o. remaining (option_map row o) (get_or (map rest sources) p [])) e ∙ ap (λ ys. row x ∷ ys) (source_at rest sources p s left l at was) in
+    subst (λ ls. AllZip IsLeftOf ls all) (sym (ap (all_remaining (map (option_map row) (set heads p pulled))) (map-set rest sources p new) ∙ pulled_set row heads (map rest sources) p pulled (rest new) h))
+    (left_set all p (row x) left here)
+
+-- the heads are those of the sources of which anything is left
+heads_left : {T : Type 0} (row : T → RowValue) (heads : List (Option T)) (rests : List (List RowValue)) → length heads ≡ length rests
+    → length (joined (firsts_of heads)) ≡ count_by has_item (all_remaining (map (option_map row) heads) rests)
+heads_left row [] [] h = refl
+heads_left row [] (rest ∷ rests) h = absurd (omega (arith, h))
+heads_left row (head ∷ heads) [] h = absurd (omega (arith, h))
+heads_left row (None ∷ heads) (rest ∷ rests) h = heads_left row heads rests (omega (arith, h))
+heads_left row (Some x ∷ heads) (rest ∷ rests) h =
+    let more = heads_left row heads rests (omega (arith, h)) in
+    let one : count_by has_item (all_remaining (map (option_map row) (Some x ∷ heads)) (rest ∷ rests)) ≡ 1 + count_by has_item (all_remaining (map (option_map row) heads) rests) =
+    sum_by-cons (λ (list : List RowValue). cond (has_item list) 1 0) (row x ∷ rest) (all_remaining (map (option_map row) heads) rests) in
+    omega (arith, more, one)
+
+pub all_pulled : {T : Type 0} (row : T → RowValue) (direction : Direction) (heads start : List (Option T)) (rests before all : List (List RowValue)) (items : List T) (count waits : ℕ)
+    → all_remaining (map (option_map row) start) before ≡ all → length heads ≡ length rests
+    → sorted (directed_order direction) (joined (all_remaining (map (option_map row) start) before)) ≡ map row items ++ sorted (directed_order direction) (joined (all_remaining (map (option_map row) heads) rests))
+    → AllZip IsLeftOf (all_remaining (map (option_map row) heads) rests) (all_remaining (map (option_map row) start) before)
+    → waits ≡ length (joined (firsts_of heads)) → count ≡ length items + waits → ArePulled direction all (map row items) count
+all_pulled row direction heads start rests before all items count waits same size e ends w n =
+    let now = all_remaining (map (option_map row) heads) rests in (
+      now,
+      subst (AllZip IsLeftOf now) same ends,
+      ap (λ ls. sorted (directed_order direction) (joined ls)) (sym same) ∙ e,
+      n ∙ ap₂ (λ i j. i + j) (sym (length-map items row)) (w ∙ heads_left row heads rests size),
+    )
 
 -- ---- the first of what was taken and what is left
 

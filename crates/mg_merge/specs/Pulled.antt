@@ -1,11 +1,28 @@
 -- Sources that items are pulled from. The head of a source was pulled and is not taken yet; its rest was not pulled yet.
-use Rattle.std.specs.Prelude.{◌≡◌, ℕ, ◌<◌, List, [], ◌∷◌, Option, None, Some, IfSome, All, get_or, length, map, option_map}
+use Rattle.std.specs.Prelude.{◌≡◌, ℕ, ◌+◌, ◌<◌, List, [], ◌∷◌, ◌++◌, Bool, true, false, Option, None, Some, IfSome, All, count_by, get_or, length, map, option_map}
 use Rattle.std.specs.Borrow.{Bor}
+use Rattle.std.specs.List.{AllZip}
 use Rattle.mg_collate.specs.declared.direction.Direction.{Direction}
 use Rattle.mg_collate.specs.Row.{RowValue}
-use Rattle.mg_collate.specs.Sorted.{IsInOrder}
-use Rattle.mg_merge.specs.Merged.{order_by}
+use Rattle.mg_collate.specs.Sorted.{IsInOrder, sorted_rows}
+use Rattle.mg_merge.specs.Merged.{joined, order_by}
 use Rattle.mg_merge.specs.Tournament.{IsWinnerTree}
+
+-- what is left of a list if some of its first items are taken
+abbrev pub IsLeftOf : {X : Type 0} → List X → List X → Type 0
+IsLeftOf {X} left list = (taken : List X) × (list ≡ taken ++ left)
+
+-- whether a list has an item
+abbrev pub has_item : {X : Type 0} → List X → Bool
+has_item [] = false
+has_item (x ∷ xs) = true
+
+-- this many rows are pulled from lists to find which rows come first: these rows, and of each list of which anything is then left the
+-- next one. If rows of several lists tie, it does not matter which of them were taken
+abbrev pub ArePulled : Direction → List (List RowValue) → List RowValue → ℕ → Type 0
+ArePulled direction lists rows pulled =
+    (left : List (List RowValue)) × AllZip IsLeftOf left lists × (sorted_rows direction (joined lists) ≡ rows ++ sorted_rows direction (joined left))
+    × (pulled ≡ length rows + count_by has_item left)
 
 -- what remains of a source: its head and its rest; without a head nothing remains
 abbrev pub remaining : {X : Type 0} → Option X → List X → List X

@@ -1,9 +1,10 @@
 //! A merge that pulls from its sources only what it needs: first one item from each, then one for each item taken.
 ghost use Rattle.std.specs.Prelude.{◌≡◌, ◌≤◌, ◌+◌, ◌∷◌, ◌++◌, [], List, Option, All, IfOk, IfSome, IfNone, OnOk, length, map, option_map, take};
+ghost use Rattle.std.specs.List.{AllZip};
 ghost use Rattle.mg_collate.specs.Row.{directed_order};
 ghost use Rattle.mg_collate.specs.Sorted.{IsInOrder, sorted};
 ghost use Rattle.mg_merge.specs.Merged.{joined, merged};
-ghost use Rattle.mg_merge.specs.Pulled.{AreFrom, IsUnderWay, IsGivenBy, all_remaining, firsts_of};
+ghost use Rattle.mg_merge.specs.Pulled.{ArePulled, AreFrom, IsUnderWay, IsGivenBy, IsLeftOf, all_remaining, firsts_of};
 
 use crate::ranked::Ranked;
 use crate::source::RowSource;
@@ -16,9 +17,10 @@ use std::alloc::Global;
 const FIRST_ROOM: usize = 64;
 
 /// Merges the sources. Returns their first `take` items in the direction's order of their rows (fewer only if
-/// the sources have fewer; none lost or repeated), and how many items were pulled: at most `take` plus the
-/// number of sources. Items that were pulled and are not in the result are dropped. Each source must be in the
-/// direction's order; sources may be empty.
+/// the sources have fewer; none lost or repeated), and how many items were pulled: those of the result, and
+/// the next one of each source that has more, so at most `take` plus the number of sources. Items that were
+/// pulled and are not in the result are dropped. Each source must be in the direction's order; sources may be
+/// empty.
 ///
 /// Errors: `NoMemory` if an allocation fails; then items may have been pulled from the sources, and are lost.
 /// Cost: what the sources need for the items that are pulled; one comparison fewer than there are sources, and
@@ -34,6 +36,8 @@ pub fn merge_pulled<T: Ranked + Copy, S: RowSource<T>>(
     ensures rows { IfOk result
         (λ made. map T.row_of made.0.items ≡ merged direction take (map S.rest sources.old)) }
     ensures given { IfOk result (λ made. All (IsGivenBy S.gives sources.old) made.0.items) }
+    ensures number { IfOk result (λ made. ArePulled direction (map S.rest sources.old)
+        (map T.row_of made.0.items) made.1) }
     ensures pulled { IfOk result (λ made. made.1 ≤ take + length sources.old) }
     ensures left { IfOk result (λ made. length (joined (map S.rest sources.old))
         ≤ made.1 + length (joined (map S.rest sources.new))) }
@@ -83,6 +87,9 @@ fn merge_heads<T: Ranked + Copy, S: RowSource<T>>(
         (all_remaining (map (option_map T.row_of) heads.old.items) (map S.rest sources.old)))
         ≡ map T.row_of items.items ++ sorted (directed_order direction) (joined
         (all_remaining (map (option_map T.row_of) heads.new.items) (map S.rest sources.new)))) }
+    ensures ends { OnOk result (AllZip IsLeftOf
+        (all_remaining (map (option_map T.row_of) heads.new.items) (map S.rest sources.new))
+        (all_remaining (map (option_map T.row_of) heads.old.items) (map S.rest sources.old))) }
     ensures given { IfOk result (λ items. (start : List S)
         → AreFrom S.gives start heads.old.items sources.old
         → All (IsGivenBy S.gives start) items.items) }
@@ -119,6 +126,9 @@ fn pull_first<T: Ranked + Copy, S: RowSource<T>>(
     ensures from { (start : List S) → AreFrom S.gives start heads.old.items sources.old
         → AreFrom S.gives start heads.new.items sources.new }
     ensures size { length heads.new.items ≡ length heads.old.items }
+    ensures ends { AllZip IsLeftOf
+        (all_remaining (map (option_map T.row_of) heads.new.items) (map S.rest sources.new))
+        (all_remaining (map (option_map T.row_of) heads.old.items) (map S.rest sources.old)) }
     ensures end { IfNone result
         (joined (all_remaining (map (option_map T.row_of) heads.old.items) (map S.rest sources.old)) ≡ []) }
     ensures stays { IfNone result

@@ -1,3 +1,4 @@
 mod Said
 mod Necessary
 mod Parted
+mod Ends

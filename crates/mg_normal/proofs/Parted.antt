@@ -1,5 +1,5 @@
 -- A condition holds exactly if its atoms and its rest hold.
-use Rattle.std.proofs.Common.{◌≡◌, ℕ, Bool, true, false, ◌&&◌, List, [], ◌∷◌, ◌++◌, length, take, map, String, Global, string_bytes, Option, Some, None, option_and_then, option_map, refl, ap, ap₂, sym, ◌∙◌}
+use Rattle.std.proofs.Common.{◌≡◌, ℕ, Bool, true, false, ◌&&◌, List, [], ◌∷◌, ◌++◌, length, Option, Some, None, option_and_then, option_map, refl, ap, ap₂, sym, ◌∙◌}
 use Rattle.mg_value.specs.Value.{Value}
 use Rattle.mg_path.specs.Part.{part_of}
 use Rattle.mg_selector.specs.Meaning.{holds_in, operator_holds}
@@ -33,15 +33,6 @@ one_left rest left f rs e = ap (λ r. conditions_before rest (with_left r rs)) (
 pub all_left-some : (fs : List Condition) → (length fs ≡ 0 → ⊥) → all_left (conditions_view fs) ≡ Some (all_of (conditions_view fs))
 all_left-some [] some = absurd (some refl)
 all_left-some (f ∷ fs) some = refl
-
--- cut to the old length, the steps are the old ones
-pub truncated : (steps olds : List (String Global)) (more : List (List ℕ)) → map string_bytes steps ≡ map string_bytes olds ++ more → map string_bytes (take (length olds) steps) ≡ map string_bytes olds
-truncated steps [] more e = refl
-truncated [] (o ∷ olds) more e = absurd cc
-truncated (s ∷ steps) (o ∷ olds) more e =
-    let first : string_bytes s ≡ string_bytes o = cc in
-    let others : map string_bytes steps ≡ map string_bytes olds ++ more = cc in
-    ap₂ ◌∷◌ first (truncated steps olds more others)
 
 and_true : (b : Bool) → b ≡ ((b && true) && true)
 and_true true = refl

@@ -1,5 +1,6 @@
 use mg_path::Path;
 use mg_selector::{Op, Sense};
+use std::sync::Arc;
 
 /// A selector in which only operators are negated.
 #[derive(Debug, Drop)]
@@ -8,8 +9,8 @@ pub(crate) enum Condition {
     All(Vec<Condition>),
     /// At least one of these; true also for an empty list.
     Any(Vec<Condition>),
-    /// The condition, on the part at the path.
-    At(Path, Box<Condition>),
+    /// The condition, on the part at the path, which is shared with the atoms below it.
+    At(Arc<Path>, Box<Condition>),
     /// The operator, in the sense, on the current part.
     Ask(Op, Sense),
 }

@@ -41,16 +41,15 @@ impl Model for Normal {
 impl Normal {
     /// Makes the normal form of the selector.
     ///
-    /// Errors: `NoMemory` if an allocation fails. Cost: the size of the selector: each operator is copied once, and
-    /// for each atom the steps of its whole path.
+    /// Errors: `NoMemory` if an allocation fails. Cost: the size of the selector: each operator and each path is
+    /// copied once.
     /// Source: `$not`, `$and`, `$or` and `$nor` of CouchDB's `_find`.
     pub fn of(alloc: Global, selector: &Sel) -> Result<Normal, NoMemory>
         ensures { IfOk result (λ normal. IsNormalOf (selector_of selector.now) normal) }
     {
         let condition = push_inwards(alloc, selector, Sense::Plain)?;
-        let mut steps = Vec::new(alloc);
         let mut atoms = Vec::new(alloc);
-        let rest = take_atoms(alloc, condition, &mut steps, &mut atoms)?;
+        let rest = take_atoms(alloc, condition, &None, &mut atoms)?;
         Ok(Normal { atoms, rest })
     }
 

@@ -10,6 +10,7 @@ use crate::condition::Condition;
 use mg_selector::{Sel, Sense};
 use mg_value::NoMemory;
 use std::alloc::Global;
+use std::sync::Arc;
 
 /// Makes the condition that says what the selector says in the sense. Negations are pushed inwards to the operators.
 ///
@@ -27,7 +28,8 @@ pub(crate) fn push_inwards(alloc: Global, sel: &Sel, sense: Sense) -> Result<Con
         Sel::Not(inner) => push_inwards(alloc, inner, sense.flip()),
         Sel::At(path, inner) => {
             let inner = push_inwards(alloc, inner, sense)?;
-            Ok(Condition::At(path.copy(alloc)?, Box::new(alloc, inner)?))
+            let path = Arc::new(alloc, path.copy(alloc)?)?;
+            Ok(Condition::At(path, Box::new(alloc, inner)?))
         }
         Sel::Ask(op) => Ok(Condition::Ask(op.copy(alloc)?, sense)),
     }

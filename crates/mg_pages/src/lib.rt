@@ -1,5 +1,16 @@
 //! Ordered collections in shared pages. Sharing a collection copies only its top level. A change copies at most one page and the
 //! levels above it. An insertion also splits each of these that has no room.
+//!
+//! Promises. A `Pages` is a list that ascends (`ascends`). What is in a page is an `Element`. Its `again`
+//! makes a duplicate: a copy of a row, or another reference to a `Shared` value. `get` is the element that
+//! ties with the key; `iter`, `after`, `from`, `back`, `before` and `upto` iterate over the list from a place
+//! on, in either direction, and `advance` of each iterator skips a number of the elements that are left, in
+//! the logarithm of the length. `insert` and `remove` change the list in one place (`ok`, `had`) or not at
+//! all (`err`), and removing an absent key takes no memory (`absent`); `share` returns the same list; `runs`
+//! lends it page by page, and `from_pages` makes it of pages (`NewPage`); `count_below` and `count_above`
+//! count the elements on one side of a place, in the logarithm of the length. Law: elements by their ids are
+//! a finite map (`ids_make_a_map`). Hints (`hint`, `text_hint`, and `value_hint` of `mg_rows`) have no
+//! clause: they are only for speed, and a wrong hint costs time.
 #![tactic(auto)]
 
 mod back;

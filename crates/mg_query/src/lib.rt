@@ -1,4 +1,11 @@
 //! Queries: how the body of a `_find` is read, and which page answers it.
+//!
+//! Promises. `Query::read` returns the query or its first fault, and never `NoMemory` if a member has a wrong
+//! shape or the selector a fault (`refused`). `page` returns the definition's answer as values, `page_text`
+//! as text, for all histories that the shards represent (`answers`). It requires that the shards have the
+//! indexes of the catalog; they may have others (`indexes`). Each shard hands over the rows that the query
+//! finds there, but at most as many as the page skips and shows (`handed`, `work`). `explain` is the
+//! definition's. Laws: `pages_join`, `pages_that_read_back_join`, `bookmarks_change_nothing_else`.
 #![tactic(auto)]
 
 mod answer;

@@ -1,5 +1,5 @@
 //! Ids of revisions, as they are kept.
-ghost use Rattle.std.specs.Prelude.{◌≡◌, IfOk, IfSome, string_bytes};
+ghost use Rattle.std.specs.Prelude.{◌≡◌, ◌≢◌, IfNone, IfOk, IfSome, IsOk, length, string_bytes};
 ghost use Rattle.mg_revtree.specs.Id.{IsText, held_id};
 
 use mg_value::NoMemory;
@@ -47,7 +47,8 @@ impl RevId {
 
     /// Copies a text into an id. Takes no memory if the text has 32 bytes. Errors: `NoMemory` if an allocation fails.
     pub fn copy_of(alloc: Global, id: &str) -> Result<RevId, NoMemory>
-        ensures { IfOk result (λ made. made ≡ id.now) }
+        ensures copy { IfOk result (λ made. made ≡ id.now) }
+        ensures inline { length id.now ≡ 32 → IsOk result }
     {
         let held = hold_copy(alloc, id)?;
         Ok(RevId { held })
@@ -77,7 +78,8 @@ impl RevId {
 
 /// Returns the bytes as an array if there are 32 of them; else `None`. Takes no memory.
 pub(crate) fn inline_bytes(bytes: &[u8]) -> Option<[u8; 32]>
-    ensures { IfSome result (λ digest. digest ≡ bytes.now) }
+    ensures array { IfSome result (λ digest. digest ≡ bytes.now) }
+    ensures none { IfNone result (length bytes.now ≢ 32) }
 {
     if bytes.len() != INLINE {
         return None;
@@ -101,6 +103,7 @@ fn hold(id: String) -> HeldRevId
 fn hold_copy(alloc: Global, id: &str) -> Result<HeldRevId, NoMemory>
     ensures bytes { IfOk result (λ held. held_id held ≡ id.now) }
     ensures text { IfOk result (λ held. IsText held) }
+    ensures inline { length id.now ≡ 32 → IsOk result }
 {
     match inline_bytes(id.as_bytes()) {
         Some(digest) => Ok(HeldRevId::Inline(digest)),

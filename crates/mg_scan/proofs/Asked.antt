@@ -4,17 +4,22 @@ use denote.Enum.Enum.{Enum}
 use denote.Hole.Fix.{holes}
 use denote.Hole.FixLaws.{layer_row}
 use denote.Hole.FixSend.{fix_pulls}
-use denote.Model.Goals.{Has, sync}
-use denote.Param.Send.{IsSync, enum_sync, recorded_sync, sendable}
-use denote.Param.SendFields.{variants_sync, as_row_sync}
+use denote.Model.Goals.{Has, send, sync}
+use denote.Param.Send.{IsSend, IsSync, enum_sync, recorded_send, recorded_sync, sendable, struct_send, struct_sync}
+use denote.Param.SendFields.{declared_send, declared_sync, variants_sync, as_row_send, as_row_sync}
+use denote.Struct.Declared as S
+use denote.Struct.Field.{row_field}
+use denote.Struct.Struct.{Struct}
 use Rattle.std.proofs.Common.{Bool, true, false, cond}
-use Rattle.std.proofs.Crossing.{crosses}
+use Rattle.std.proofs.Crossing.{Arc-send, Arc-sync, crosses}
 use Rattle.std.proofs.MapsCrossing.{crosses as maps}
+use Rattle.std.proofs.option.Option.TheSendSync as option
 use Rattle.mg_index.specs.contracts.definition.IndexDef as IndexDef
 use Rattle.mg_index.proofs.definition.IndexDef.TheSendSync as definition
 use Rattle.mg_normal.specs.contracts.atom.Atom as Atom
 use Rattle.mg_normal.specs.contracts.condition.Condition as Condition
 use Rattle.mg_normal.specs.contracts.normal.Normal as Normal
+use Rattle.mg_normal.specs.contracts.prefix.Prefix as Prefix
 use Rattle.mg_path.proofs.path.Path.TheSendSync as path
 use Rattle.mg_range.proofs.row_range.SpanEnds.TheSendSync as ends
 use Rattle.mg_range.specs.contracts.range.KeyRange as KeyRange
@@ -78,8 +83,33 @@ condition_hole = condition_ring
 condition_sync : IsSync Condition.the_row
 condition_sync = variants_sync Condition.enum ((search (sendable, crosses, maps, as_row_sync, condition_hole) depth 20, tt), ((search (sendable, crosses, maps, as_row_sync, condition_hole) depth 20, tt), ((search (sendable, crosses, maps, as_row_sync, path.the_sync) depth 20, (search (sendable, crosses, maps, as_row_sync, condition_hole) depth 20, tt)), ((search (sendable, crosses, maps, as_row_sync, op_sync) depth 20, (search (sendable, crosses, maps, as_row_sync) depth 20, tt)), tt))))
 
+-- ---- atoms, and the prefixes that they share, each of which has the one above it
+
+prefix_ring : (g : Bool) → Has (cond g send sync) (holes Prefix.the_ring Prefix.the_member)
+prefix_ring =
+    fix_pulls Prefix.the_ring (record { G = Bool; member = λ _. Prefix.the_member; law = λ g. cond g send sync }) (λ h pull all g.
+    let s : IsSend (h Prefix.the_member) = all true in
+    let y : IsSync (h Prefix.the_member) = all false in
+    let T = Prefix.the_layer h in
+    elim g as (λ f. Has (cond f send sync) (layer_row Prefix.the_ring Prefix.the_member h)) [
+      | true ↦ recorded_send (Struct (S.shape T)) T.D T.to T.to_one (struct_send (S.shape T) (option.the_send _ (Arc-send (h Prefix.the_member) s y), (search (sendable, crosses, maps, as_row_send, path.the_send, path.the_sync) depth 20, tt)))
+      | false ↦ recorded_sync (Struct (S.shape T)) T.D T.to T.to_one (struct_sync (S.shape T) (option.the_sync _ (Arc-sync (h Prefix.the_member) s y), (search (sendable, crosses, maps, as_row_sync, path.the_send, path.the_sync) depth 20, tt)))
+    ])
+
+prefix_hole_send : IsSend Prefix.the_hole
+prefix_hole_send = prefix_ring true
+
+prefix_hole_sync : IsSync Prefix.the_hole
+prefix_hole_sync = prefix_ring false
+
+prefix_send : IsSend Prefix.the_row
+prefix_send = declared_send Prefix.the_type (as_row_send (row_field _) (option.the_send _ (Arc-send _ prefix_hole_send prefix_hole_sync)), (search (sendable, crosses, maps, as_row_send, path.the_send, path.the_sync) depth 20, tt))
+
+prefix_sync : IsSync Prefix.the_row
+prefix_sync = declared_sync Prefix.the_type (as_row_sync (row_field _) (option.the_sync _ (Arc-sync _ prefix_hole_send prefix_hole_sync)), (search (sendable, crosses, maps, as_row_sync, path.the_send, path.the_sync) depth 20, tt))
+
 atom_sync : IsSync Atom.the_row
-atom_sync = search (sendable, crosses, maps, op_field_sync) depth 40
+atom_sync = search (sendable, crosses, maps, option.the_sync, op_field_sync, prefix_send, prefix_sync) depth 40
 
 pub normal_sync : IsSync Normal.the_row
 normal_sync = search (sendable, crosses, maps, atom_sync, condition_sync) depth 40

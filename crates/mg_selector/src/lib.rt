@@ -1,4 +1,8 @@
 //! Selectors: the conditions of CouchDB's `_find` on a JSON document.
+//!
+//! Promises. `Sel::read` returns the selector that a value spells or its first fault, which lack of memory
+//! never hides (`refused`), and `Shape` for a value that is not an object (`shape`). `Sel::holds`,
+//! `Op::holds_in` and `JsonType::is_of` are true exactly where the definition says so.
 #![tactic(auto)]
 
 mod argument;

@@ -19,7 +19,7 @@ use Rattle.mg_revtree.specs.History.{Paths}
 use Rattle.mg_shard.specs.Dealt.{Placing, ShardsStandFor, histories_on}
 use Rattle.mg_shard.specs.Documents.{KeptDocument, KeptDocuments, StandsAt, kept_entry, id_bytes, kept_of, kept_documents}
 use Rattle.mg_shard.specs.Histories.{Histories}
-use Rattle.mg_shard.specs.Redealt.{AreMade, ArePlaces, AreRedealt, IsMade, IsPlace, KeepsThose, documents_in, kept_in, last_kept}
+use Rattle.mg_shard.specs.Redealt.{AreMade, ArePlaces, AreRedealt, IsMade, IsPlace, KeepsThose, documents_in, kept_in, last_kept, first_definitions}
 use Rattle.mg_shard.specs.Shard.{ShardView, shards_seen}
 use Rattle.mg_shard.specs.declared.document.Document.{Document}
 use Rattle.mg_shard.proofs.Dealing.{get-kept, not_there, same_some, stands_at}
@@ -316,7 +316,6 @@ documents_more (x ∷ shards) (suc i) s l e = ap (λ ms. (arc_value x).documents
 -- ---- definitions
 
 -- if all shards have the same definitions, the first shard has them
-pub first_definitions : (shards : List ShardView) (ds those : List IndexDefinition) → ((s : ShardView) → slice_get shards 0 ≡ Some s → those ≡ s.definitions) → 0 < length shards
-    → All (λ s. s.definitions ≡ ds) shards → those ≡ ds
-first_definitions [] ds those first l all = absurd (omega (arith, l))
-first_definitions (s ∷ shards) ds those first l all = first s refl ∙ all 0 s (omega arith)
+pub same_definitions : (shards : List ShardView) (ds : List IndexDefinition) → 0 < length shards → All (λ s. s.definitions ≡ ds) shards → first_definitions shards ≡ ds
+same_definitions [] ds l all = absurd (omega (arith, l))
+same_definitions (s ∷ shards) ds l all = all 0 s (omega arith)

@@ -1,6 +1,6 @@
 -- Trees that a bulk has touched, and the histories for which they stand together with the documents.
 use Rattle.std.proofs.Common.{◌≡◌, ℕ, zero, suc, ◌<◌, Bool, true, false, List, [], ◌∷◌, Ok, Err, Result, String, Global, Option, Some, None, option_map, unwrap_or, is_ok, map, length, cond, string_bytes, string_cmp, is_eq, refl, ap, sym, ◌∙◌, subst, arith}
-use Rattle.std.proofs.lemmas.Cmp.{nat_list_cmp_total, eq_by_cmp_equiv, tied_itself}
+use Rattle.std.proofs.lemmas.Cmp.{nat_list_cmp_total, eq_by_cmp_equiv}
 use Rattle.std.proofs.lemmas.Map.Text.{btree_map_updates_text, is_eq-slice_cmp}
 use Rattle.std.specs.BTreeMap.{BTreeMap, UpdatesBy, get_by_text, is_at}
 use Rattle.std.specs.Map.{lookup}
@@ -14,7 +14,7 @@ use Rattle.mg_revtree.specs.Tree.{StandsFor, Tree}
 use Rattle.mg_value.specs.Value.{Value}
 use Rattle.mg_doc.specs.Applied.{Refuses, changes_nothing}
 use Rattle.mg_doc.specs.Document.{Edit}
-use Rattle.mg_doc.specs.Edit.{Accepted, accepted_by, accepted_of, edited, history_after, newest_accepted, outcome_of}
+use Rattle.mg_doc.specs.Edit.{Accepted, accepted_by, accepted_of, edited, first_refusal, history_after, newest_accepted, outcome_of}
 use Rattle.mg_doc.specs.Served.{served_of}
 use Rattle.mg_doc.specs.declared.change.Change.{Change}
 use Rattle.mg_doc.specs.declared.change.Change.TheVariants.{New, Replica}
@@ -129,11 +129,6 @@ edit_kept ds ts us hs e t (Err x) is some at s st q =
     (subst (λ (o : Option Tree). DraftAt q o (get ds q) (get hs q)) (sym (at q))
     (refused_at (eq_by_cmp bytes_cmp q id) q t had.0 (get ts q) (get ds q) (get hs q) here left (st q)))
 
--- a look-up after a tree was taken out and another put in its place
-pub replaced : (b : Bool) (t : Tree) (o p : Option Tree) → p ≡ cond b None o → cond b (Some t) p ≡ cond b (Some t) o
-replaced true t o p e = refl
-replaced false t o p e = e
-
 kept_at : (b : Bool) (q id : List ℕ) (t : Tree) (d : KeptDocument) (ot : Option Tree) (kept : Option KeptDocument) (o : Option Paths) → (b ≡ true → q ≡ id) → (b ≡ true → ot ≡ Some t) → d.0 ≡ t
     → ((h : Paths) → StandsFor t h → d.1 ≡ served_of id h) → DraftAt q ot kept o → DraftAt q (cond b None ot) (cond b (Some d) kept) o
 kept_at true q id t d ot kept o at is same served st =
@@ -153,10 +148,6 @@ tree_kept ds cs ts us hs id t d is same served put at st q =
     (kept_at (eq_by_cmp bytes_cmp q id) q id t d (get ts q) (get ds q) (get hs q) (same_id q id) (λ b. ap (get ts) (same_id q id b) ∙ is) same served (st q)))
 
 -- ---- for the steps of a bulk
-
--- a tree that was taken out is no longer there
-pub touched_out : (m n : TreeMap) (id : List ℕ) → UpdatesBy string_cmp (λ k. slice_cmp nat_cmp id (string_bytes k)) m n None → get (touched_of n.entries) id ≡ None
-touched_out m n id u = get-updated m n id None u id ∙ ap (λ r. cond (is_eq r) None (get (touched_of m.entries) id)) (tied_itself nat_list_cmp_total id)
 
 -- an empty list of touched trees
 pub touched_none : (es : List (String Global × Tree)) → length es ≡ 0 → touched_of es ≡ empty
@@ -178,14 +169,12 @@ pub first_kept : (ds : KeptDocuments) (ts us : Trees) (hs : Histories) (e : Edit
 first_kept ds ts us hs e t r is done put s st =
     edit_kept ds ts us hs e t r (sym is) (λ x refused. absurd (not_refused r x done refused)) (λ q. ap (λ m. get m q) put ∙ get-insert nat_list_cmp_total ts (id_in e) t q) s st
 
--- a further edit of a document replaces its touched tree
-pub next_kept : (ds : KeptDocuments) (ts out us : Trees) (hs : Histories) (e : Edit) (tree t : Tree) → get ts (id_in e) ≡ Some tree
-    → ((q : List ℕ) → get out q ≡ cond (eq_by_cmp bytes_cmp q (id_in e)) None (get ts q)) → us ≡ insert out (id_in e) t
+-- a further edit of a document changes its touched tree
+pub next_kept : (ds : KeptDocuments) (ts us : Trees) (hs : Histories) (e : Edit) (tree t : Tree) → get ts (id_in e) ≡ Some tree
+    → ((q : List ℕ) → get us q ≡ cond (eq_by_cmp bytes_cmp q (id_in e)) (Some t) (get ts q))
     → StandsFor t (edited (history_at hs (id_in e)) e) → TouchedStandFor ds ts hs → TouchedStandFor ds us (after_edit hs e)
-next_kept ds ts out us hs e tree t is without put s st =
-    edit_kept ds ts us hs e t (outcome_in hs e) refl
-    (λ x refused. let had = touched_at ds ts hs (id_in e) tree is st in (had.0, had.1))
-    (λ q. ap (λ m. get m q) put ∙ get-insert nat_list_cmp_total out (id_in e) t q ∙ replaced (eq_by_cmp bytes_cmp q (id_in e)) t (get ts q) (get out q) (without q)) s st
+next_kept ds ts us hs e tree t is at s st =
+    edit_kept ds ts us hs e t (outcome_in hs e) refl (λ x refused. let had = touched_at ds ts hs (id_in e) tree is st in (had.0, had.1)) at s st
 
 -- a new draft stands for what its shard stands for
 pub new_draft : (d : DraftView) (s : ShardView) (hs : Histories) → d.shard ≡ s → d.touched ≡ empty → StandFor s.documents hs → DraftStandsFor d hs
@@ -220,6 +209,11 @@ looked_stands ds ts hs e (Err x) is none s st q = subst (λ (m : Histories). Dra
 pub reply_refused : (h : Paths) (e : Edit) (o : Option EditRefusal) (r : Result Revision EditRefusal) → option_map Err o ≡ Some r → Refuses h e o → (r ≡ outcome_of h e) × (edited h e ≡ h)
 reply_refused h e None r is k = absurd cc
 reply_refused h e (Some x) r is k = let same : Err x ≡ r = cc in (sym same ∙ sym k, refused_leaves h e x k)
+
+-- if memory runs out after a look, the edit is not refused before its revision is made
+pub not_foreseen : (h : Paths) (e : Edit) (o : Option EditRefusal) → o ≡ None → Refuses h e o → first_refusal h e.change ≡ None
+not_foreseen h e None is k = k
+not_foreseen h e (Some x) is k = absurd cc
 
 -- after a refusal an unchanged tree stands for the edited history, which is unchanged too
 pub refused_tree : (h : Paths) (e : Edit) (o : Option EditRefusal) (r : Result Revision EditRefusal) (s t : Tree) → option_map Err o ≡ Some r → Refuses h e o → t ≡ s → StandsFor s h

@@ -1,9 +1,9 @@
 -- What the edits of a bulk do, in order, to the histories of documents, and the outcome of each edit, as in CouchDB's `_bulk_docs`.
-use Rattle.std.specs.Prelude.{ℕ, List, [], ◌∷◌, unwrap_or, Result, Ok, Err}
+use Rattle.std.specs.Prelude.{ℕ, List, [], ◌∷◌, Option, unwrap_or, Result, Ok, Err}
 use Rattle.std.specs.FinMap.{insert}
 use Rattle.mg_revtree.specs.Revision.{Revision}
 use Rattle.mg_doc.specs.Document.{Edit}
-use Rattle.mg_doc.specs.Edit.{edited, outcome_of}
+use Rattle.mg_doc.specs.Edit.{edited, first_refusal, outcome_of}
 use Rattle.mg_doc.specs.declared.error.EditRefusal.{EditRefusal}
 use Rattle.mg_doc.specs.declared.error.EditRefusal.TheVariants as refused
 use Rattle.mg_shard.specs.Histories.{Histories, history_at}
@@ -22,6 +22,10 @@ history_put hs e (Err x) = hs
 -- the outcome of an edit: its revision, or its refusal
 abbrev pub outcome_in : Histories → Edit → Result Revision EditRefusal
 outcome_in hs e = outcome_of (history_at hs (id_in e)) e
+
+-- why an edit is refused, if it is, before its revision is made
+abbrev pub first_refusal_in : Histories → Edit → Option EditRefusal
+first_refusal_in hs e = first_refusal (history_at hs (id_in e)) e.change
 
 -- the histories after an edit
 abbrev pub after_edit : Histories → Edit → Histories

@@ -1,6 +1,6 @@
 -- The documents of some shards, dealt to others by a placement of their ids.
 use denote.Ref.{Bor}
-use Rattle.std.specs.Prelude.{◌≡◌, ℕ, ◌<◌, ◌==◌, List, [], ◌∷◌, length, map, cond, Option, Some, None, slice_get}
+use Rattle.std.specs.Prelude.{◌≡◌, ℕ, ◌<◌, ◌==◌, List, [], ◌∷◌, length, map, cond, Option, Some, None, option_map, unwrap_or, slice_get}
 use Rattle.std.specs.Cmp.Lexicographic.{slice_cmp}
 use Rattle.std.specs.FinMap.{get}
 use Rattle.std.specs.List.{AllZip}
@@ -27,6 +27,10 @@ pub record AreRedealt (place : Placing) (from to : List KeptDocuments) : Type 0 
   pub placed : (id : List ℕ) (d : KeptDocument) → kept_in from id ≡ Some d → place id (length to) < length to
   pub each : (i : ℕ) (ds : KeptDocuments) → slice_get to i ≡ Some ds → (id : List ℕ)
       → get ds id ≡ cond (place id (length to) == i) (kept_in from id) None
+
+-- the definitions of the first of these shards; none if there is no shard
+abbrev pub first_definitions : List ShardView → List IndexDefinition
+first_definitions shards = unwrap_or (option_map (λ s. s.definitions) (slice_get shards 0)) []
 
 -- ---- for private clauses
 

@@ -1,16 +1,16 @@
 //! A shard while a bulk is applied.
-ghost use Rattle.std.specs.Prelude.{◌≡◌, Err, None, Some, unwrap_or, IfOk, OnOk, map, option_map, string_bytes};
+ghost use Rattle.std.specs.Prelude.{◌≡◌, Err, None, Some, unwrap_or, IfOk, OnErr, OnOk, map, option_map};
 ghost use Rattle.std.specs.FinMap as finite;
-ghost use Rattle.std.specs.FinMap.{get, insert};
+ghost use Rattle.std.specs.FinMap.{get};
 ghost use Rattle.mg_revtree.specs.History.{Paths};
-ghost use Rattle.mg_revtree.specs.Tree.{StandsFor, Tree};
+ghost use Rattle.mg_revtree.specs.Tree.{StandsFor};
 ghost use Rattle.mg_doc.specs.Applied.{IsReady, refusal_in};
-ghost use Rattle.mg_doc.specs.Edit.{edited, outcome_of};
+ghost use Rattle.mg_doc.specs.Edit.{edited, first_refusal, outcome_of};
 ghost use Rattle.mg_shard.specs.Documents.{StandFor, kept_documents, tree_at};
 ghost use Rattle.mg_shard.specs.Draft.{DraftStandsFor, TouchedStandFor, Touches, touched_of};
 ghost use Rattle.std.specs.List.{AllByRecursion};
 ghost use Rattle.mg_shard.specs.Index.{HasRows, definitions_of};
-ghost use Rattle.mg_shard.specs.Edits.{after_edit, after_edits, id_in, outcome_in, outcome_seen, outcomes};
+ghost use Rattle.mg_shard.specs.Edits.{after_edit, after_edits, first_refusal_in, id_in, outcome_in, outcome_seen, outcomes};
 ghost use Rattle.mg_shard.specs.Histories.{Histories};
 
 use crate::document::Document;
@@ -69,8 +69,8 @@ impl<'a> Draft<'a> {
     /// Applies one edit that has an id, and moves its body into the tree of its document. An edit that is refused, or whose path is
     /// known whole, touches no document.
     ///
-    /// Errors: `NoMemory` if an allocation fails, or at a limit that `RevTree::merge` lists. The draft may then have lost a tree, and must
-    /// not be used again. A refused edit is not an error: the reply is `Conflict` or `BadHistory`.
+    /// Errors: `NoMemory` if an allocation fails, or at a limit that `RevTree::merge` lists. The draft must then not be used again. A
+    /// refused edit is not an error: the reply is `Conflict` or `BadHistory`. Lack of memory never hides a refusal that `Edit::look` finds.
     /// Cost: that of `Edit::look` and `ReadyEdit::apply`, and a copy of the document's tree if the draft has not touched the
     /// document yet. No copy of the body.
     pub fn apply(&mut self, alloc: Global, edit: Edit) -> Result<EditReply, NoMemory>
@@ -78,18 +78,20 @@ impl<'a> Draft<'a> {
             (λ r. (hs : Histories) → DraftStandsFor self.old hs → outcome_seen r ≡ outcome_in hs edit) }
         ensures stands { OnOk result ((hs : Histories) → DraftStandsFor self.old hs
             → DraftStandsFor self.new (after_edit hs edit)) }
+        ensures foreseen { OnErr result ((hs : Histories) → DraftStandsFor self.old hs
+            → first_refusal_in hs edit ≡ None) }
         ensures shard { OnOk result (self.new.shard ≡ self.old.shard) }
     {
-        match self.touched.remove_entry(id_in(&edit)) {
-            Some((key, tree)) => Ok(edit_touched(alloc, &mut self.touched, key, tree, edit)?),
-            None => Ok(edit_first(alloc, self.shard, &mut self.touched, edit)?),
+        if let Some(tree) = self.touched.get_mut(id_in(&edit)) {
+            return Ok(edit_tree(alloc, tree, edit)?);
         }
+        Ok(edit_first(alloc, self.shard, &mut self.touched, edit)?)
     }
 
     /// Applies copies of edits that have ids, in order, and returns the outcome of each.
     ///
-    /// Errors: those of `apply`. Cost: that of `apply`, and a copy of each edit, with its body. The copy of a new edit has no id made
-    /// ahead, so `apply` makes the id from the text of the body.
+    /// Errors: those of `apply`; and `NoMemory` if memory for the replies or for the copy of an edit is refused, whatever the outcome of
+    /// the edits. Cost: that of `apply`, and a copy of each edit, with its body.
     pub fn apply_all(&mut self, alloc: Global, edits: &[Edit]) -> Result<Vec<EditReply>, NoMemory>
         ensures outcomes { IfOk result
             (λ rs. (hs : Histories) → DraftStandsFor self.old hs
@@ -129,7 +131,8 @@ impl<'a> Draft<'a> {
 
 // Turns the refusal of an edit into a reply. `NoMemory` has no such reply, and stays an error.
 fn reply_of(error: EditError) -> Result<EditReply, NoMemory>
-    ensures { IfOk result (λ r. option_map Err (refusal_in error) ≡ Some (outcome_seen r)) }
+    ensures reply { IfOk result (λ r. option_map Err (refusal_in error) ≡ Some (outcome_seen r)) }
+    ensures err { OnErr result (refusal_in error ≡ None) }
 {
     match error {
         EditError::Conflict => Ok(EditReply::Conflict),
@@ -138,56 +141,36 @@ fn reply_of(error: EditError) -> Result<EditReply, NoMemory>
     }
 }
 
-// Applies an edit after a look at this tree, or at the tree of which this one is a copy. Returns the outcome of the edit, and the tree
-// after it. Unless the edit is refused, its body has moved into the tree.
-fn apply_ready(
-    alloc: Global,
-    ready: ReadyEdit,
-    mut tree: RevTree,
-) -> Result<(EditReply, RevTree), NoMemory>
-    requires { (h : Paths) → StandsFor tree h → IsReady h ready }
-    ensures { IfOk result
-        (λ r. (h : Paths) → StandsFor tree h → (outcome_seen r.0 ≡ outcome_of h ready)
-        × StandsFor r.1 (edited h ready)) }
-{
-    match ready.apply(alloc, &mut tree) {
-        Ok(rev) => Ok((EditReply::Done(rev), tree)),
-        Err(error) => Ok((reply_of(error)?, tree)),
-    }
-}
-
-// Looks at an edit and applies it. Returns the outcome of the edit, and the tree after it. If the edit is refused or its path is known
-// whole, the tree is unchanged and the edit's body is dropped.
-fn apply_edit(alloc: Global, edit: Edit, tree: RevTree) -> Result<(EditReply, RevTree), NoMemory>
-    ensures { IfOk result
-        (λ r. (h : Paths) → StandsFor tree h → (outcome_seen r.0 ≡ outcome_of h edit)
-        × StandsFor r.1 (edited h edit)) }
-{
-    match edit.look(&tree) {
-        Ok(Look::Known(rev)) => Ok((EditReply::Done(rev), tree)),
-        Ok(Look::Ready(ready)) => Ok(apply_ready(alloc, ready, tree)?),
-        Err(error) => Ok((reply_of(error)?, tree)),
-    }
-}
-
-// Applies an edit to the tree of a document that was touched before. The caller has taken the tree out of `touched`; it goes back there,
-// unless the result is `NoMemory`.
-fn edit_touched(
-    alloc: Global,
-    touched: &mut BTreeMap<String, RevTree>,
-    id: String,
-    tree: RevTree,
-    edit: Edit,
-) -> Result<EditReply, NoMemory>
+// Applies an edit after a look at this tree, or at the tree of which this one is a copy. Returns the outcome of the edit. Unless the edit
+// is refused, its body has moved into the tree.
+fn apply_ready(alloc: Global, ready: ReadyEdit, tree: &mut RevTree) -> Result<EditReply, NoMemory>
+    requires { (h : Paths) → StandsFor tree.old h → IsReady h ready }
     ensures outcome { IfOk result
-        (λ r. (h : Paths) → StandsFor tree h → outcome_seen r ≡ outcome_of h edit) }
-    ensures touched { OnOk result ((h : Paths) → StandsFor tree h
-        → (t : Tree) × StandsFor t (edited h edit)
-        × (touched_of touched.new.entries ≡ insert (touched_of touched.old.entries) (string_bytes id) t)) }
+        (λ r. (h : Paths) → StandsFor tree.old h → outcome_seen r ≡ outcome_of h ready) }
+    ensures stands { OnOk result ((h : Paths) → StandsFor tree.old h
+        → StandsFor tree.new (edited h ready)) }
 {
-    let (reply, tree) = apply_edit(alloc, edit, tree)?;
-    drop(touched.insert(id, tree)?);
-    Ok(reply)
+    match ready.apply(alloc, tree) {
+        Ok(rev) => Ok(EditReply::Done(rev)),
+        Err(error) => Ok(reply_of(error)?),
+    }
+}
+
+// Looks at an edit and applies it to the tree of a document that was touched before. Returns the outcome of the edit. If the edit is
+// refused or its path is known whole, the tree is unchanged and the edit's body is dropped.
+fn edit_tree(alloc: Global, tree: &mut RevTree, edit: Edit) -> Result<EditReply, NoMemory>
+    ensures outcome { IfOk result
+        (λ r. (h : Paths) → StandsFor tree.old h → outcome_seen r ≡ outcome_of h edit) }
+    ensures stands { OnOk result ((h : Paths) → StandsFor tree.old h
+        → StandsFor tree.new (edited h edit)) }
+    ensures foreseen { OnErr result ((h : Paths) → StandsFor tree.old h
+        → first_refusal h edit.change ≡ None) }
+{
+    match edit.look(tree) {
+        Ok(Look::Known(rev)) => Ok(EditReply::Done(rev)),
+        Ok(Look::Ready(ready)) => Ok(apply_ready(alloc, ready, tree)?),
+        Err(error) => Ok(reply_of(error)?),
+    }
 }
 
 // Applies an edit to a document that was not touched before. The document is then touched, unless the edit is refused or its path is
@@ -205,6 +188,9 @@ fn edit_first(
     ensures stands { OnOk result ((hs : Histories)
         → TouchedStandFor shard.now.documents (touched_of touched.old.entries) hs
         → TouchedStandFor shard.now.documents (touched_of touched.new.entries) (after_edit hs edit)) }
+    ensures foreseen { OnErr result ((hs : Histories)
+        → TouchedStandFor shard.now.documents (touched_of touched.old.entries) hs
+        → first_refusal_in hs edit ≡ None) }
 {
     let empty = RevTree::new(alloc);
     let before = tree_or(shard, id_in(&edit), &empty);
@@ -242,8 +228,8 @@ fn touch(
         (touched_of touched.new.entries)) }
 {
     let key = String::from_str(alloc, id_in(ready.edit()))?;
-    let tree = before.copy(alloc)?;
-    let (reply, tree) = apply_ready(alloc, ready, tree)?;
+    let mut tree = before.copy(alloc)?;
+    let reply = apply_ready(alloc, ready, &mut tree)?;
     if !reply.is_done() {
         return Ok(reply);
     }

@@ -1,5 +1,5 @@
 //! Documents that are dealt anew to another number of shards.
-ghost use Rattle.std.specs.Prelude.{◌≡◌, ◌<◌, All, IfOk, List, Ok, Some, length, map, slice_get};
+ghost use Rattle.std.specs.Prelude.{◌≡◌, ◌<◌, All, IfOk, List, Ok, length, map};
 ghost use Rattle.std.specs.Arc.{arc_value};
 ghost use Rattle.std.specs.List.{AllByRecursion};
 ghost use Rattle.std.specs.Thread.{IsSync};
@@ -9,8 +9,8 @@ ghost use Rattle.mg_shard.specs.Dealt.{Placing, ShardsStandFor};
 ghost use Rattle.mg_shard.specs.Documents.{kept_documents};
 ghost use Rattle.mg_shard.specs.Histories.{Histories};
 ghost use Rattle.mg_shard.specs.Index.{HasRows, definitions_of};
-ghost use Rattle.mg_shard.specs.Redealt.{AreMade, AreRedealt, IsMade, documents_in, documents_seen};
-ghost use Rattle.mg_shard.specs.Shard.{ShardView, shards_seen};
+ghost use Rattle.mg_shard.specs.Redealt.{AreMade, AreRedealt, IsMade, documents_in, documents_seen, first_definitions};
+ghost use Rattle.mg_shard.specs.Shard.{shards_seen};
 
 use crate::document::Document;
 use crate::extracted::MANY_DOCUMENTS;
@@ -57,6 +57,8 @@ pub fn redeal<P: Placement, R: Threads + Sync>(
     ensures stands { IfOk result
         (λ v. (from : Placing) (hs : Histories) → ShardsStandFor from (shards_seen shards.now) hs
         → ShardsStandFor (P.place placement.now) v.items hs) }
+    ensures first { IfOk result
+        (λ v. All (λ s. s.definitions ≡ first_definitions (shards_seen shards.now)) v.items) }
     ensures indexes { IfOk result (λ v. (ds : List IndexDefinition) → 0 < length shards.now
         → All (λ s. s.definitions ≡ ds) (shards_seen shards.now) → All (λ s. s.definitions ≡ ds) v.items) }
 {
@@ -79,8 +81,7 @@ pub fn redeal<P: Placement, R: Threads + Sync>(
 fn first_indexes(alloc: Global, shards: &[Arc<Shard>]) -> Result<Vec<IndexEntry>, NoMemory>
     ensures catalog { IfOk result (λ v. IsCatalog (definitions_of v.items)) }
     ensures first { IfOk result
-        (λ v. (s : ShardView) → slice_get (shards_seen shards.now) 0 ≡ Some s
-        → definitions_of v.items ≡ s.definitions) }
+        (λ v. definitions_of v.items ≡ first_definitions (shards_seen shards.now)) }
 {
     match shards.first() {
         Some(shard) => Ok(share_indexes(alloc, shard.indexes())?),

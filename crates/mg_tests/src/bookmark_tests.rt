@@ -1,7 +1,7 @@
 //! A bookmark is written as a text and read back. The program itself writes the text from parts that it borrows. The expected text is
 //! URL-safe base64 of a JSON array, computed by another program. Other tests of bookmarks are in tests/conversations/queries.txt.
 use crate::given::string;
-use mg_bookmark::Bookmark;
+use mg_bookmark::{Bookmark, BookmarkError};
 use mg_collate::Direction;
 use mg_value::Json;
 use std::alloc::Global;
@@ -49,4 +49,39 @@ fn a_bookmark_is_read_back(rt: HostRuntime) {
     assert!(rt;
         read.direction == Direction::Desc && read.key.as_slice() == [Json::Whole(5)].as_slice()
     );
+}
+
+// `[null,"_all_docs","asc",["d1"],"d1"]`
+const OF_D1: &str = "W251bGwsIl9hbGxfZG9jcyIsImFzYyIsWyJkMSJdLCJkMSJd";
+
+// The text above with padding; `[1]`; the JSON above with a space after its first comma; and no text.
+const INVALID: &[&str] = &[
+    "W251bGwsIl9hbGxfZG9jcyIsImFzYyIsWyJkMSJdLCJkMSJd=",
+    "WzFd",
+    "W251bGwsICJfYWxsX2RvY3MiLCJhc2MiLFsiZDEiXSwiZDEiXQ",
+    "",
+];
+
+// Whether these are the five parts of the bookmark of `d1`.
+fn is_of_d1<R: Abort>(rt: &R, alloc: Global, bookmark: &Bookmark) -> bool {
+    let id = Json::Text(string(rt, alloc, "d1"));
+    bookmark.ddoc.is_none()
+        && bookmark.name.as_str() == "_all_docs"
+        && bookmark.direction == Direction::Asc
+        && bookmark.key.as_slice() == [id].as_slice()
+        && bookmark.id.as_str() == "d1"
+}
+
+#[test]
+fn bookmark_spelling(rt: HostRuntime) {
+    let alloc = rt.alloc();
+    assert!(rt; matches!(Bookmark::decode(alloc, "nil"), Ok(None)));
+    let Ok(Some(bookmark)) = Bookmark::decode(alloc, OF_D1) else {
+        rt.panic("no bookmark")
+    };
+    assert!(rt; is_of_d1(&rt, alloc, &bookmark));
+    for text in INVALID {
+        let decoded = Bookmark::decode(alloc, text);
+        assert!(rt; matches!(decoded, Err(BookmarkError::Invalid)));
+    }
 }

@@ -23,6 +23,8 @@ mod packed_with_text_tests;
 #[cfg(test)]
 mod pages_tests;
 #[cfg(test)]
+mod path_tests;
+#[cfg(test)]
 mod placement_tests;
 #[cfg(test)]
 mod revtree_tests;

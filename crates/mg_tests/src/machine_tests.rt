@@ -2,7 +2,8 @@
 //! one engine that runs the commands one after another.
 use crate::given::{check, json, packed, string};
 use mg_engine::{Command, Engine, Reply};
-use mg_machine::interleave::{Event, are_at, replay};
+use mg_machine::interleave;
+use mg_machine::interleave::{Event, are_at};
 use mg_shard::Md5Placement;
 use std::alloc::Global;
 use std::process::Abort;
@@ -97,53 +98,13 @@ fn replies_to<R: Threads + Sync + Abort>(
 ) -> Vec<Option<Reply>> {
     let events = events_of(rt, alloc, draws);
     assert!(rt; are_at(3, &events));
-    replay(rt, alloc, "db", 3, &events).expect(rt, "memory")
+    interleave::replay(rt, alloc, "db", 3, &events).expect(rt, "memory")
 }
 
 const MISSING: &str = "{\"error\":\"not_found\",\"reason\":\"missing\"}\n";
 
 const INDEXES: &str =
     "{\"indexes\":[{\"ddoc\":null,\"def\":{\"fields\":[{\"_id\":\"asc\"}]},\"name\":\"_all_docs\",\"type\":\"special\"}],\"total_rows\":1}\n";
-
-// The second seat enters, the first writes, and the second reads before and after it learns of the write. Then the second asks to drop an
-// index that does not exist, and the first lists the indexes.
-const TELLING: [Draw; 7] = [
-    Draw {
-        kind: 4,
-        seat: 1,
-        by: 0,
-    },
-    Draw {
-        kind: 0,
-        seat: 0,
-        by: 1,
-    },
-    Draw {
-        kind: 2,
-        seat: 1,
-        by: 10,
-    },
-    Draw {
-        kind: 5,
-        seat: 1,
-        by: 0,
-    },
-    Draw {
-        kind: 2,
-        seat: 1,
-        by: 10,
-    },
-    Draw {
-        kind: 0,
-        seat: 1,
-        by: 11,
-    },
-    Draw {
-        kind: 2,
-        seat: 0,
-        by: 12,
-    },
-];
 
 // Returns the status and the body of a reply; 0 and an empty body if there is no such event (`None`), or it has no reply (`Some(None)`).
 fn status_and_body(reply: Option<&Option<Reply>>) -> (u16, &[u8]) {
@@ -153,27 +114,72 @@ fn status_and_body(reply: Option<&Option<Reply>>) -> (u16, &[u8]) {
     }
 }
 
-// The replies to these events: the number of the event, the status and the body (0 and empty: the event has no reply).
-const REPLIES: &[(usize, u16, &str)] = &[
-    (0, 0, ""),
-    (1, 201, "[]\n"),
-    (2, 404, MISSING),
-    (3, 0, ""),
-    (4, 200, "{\"_id\":\"a\",\"_rev\":\"2-f\",\"n\":3}\n"),
-    (5, 404, MISSING),
-    (6, 200, INDEXES),
-];
-
 fn is_reply(reply: Option<&Option<Reply>>, status: u16, text: &str) -> bool {
     status_and_body(reply) == (status, text.as_bytes())
 }
 
+const ONE_DOCUMENT: &str = r#"{"docs":[{"_id":"l1","_rev":"1-a"}],"new_edits":false}"#;
+
+fn get_l1<R: Abort>(rt: &R, alloc: Global) -> Event {
+    let id = string(rt, alloc, "l1");
+    let command = Command::Get {
+        id,
+        conflicts: false,
+    };
+    Event::Answer { seat: 1, command }
+}
+
+// Seat 1 enters, seat 0 writes, and seat 1 reads before and after it learns of the write. Then seat 1 drops an index that does not exist,
+// and seat 0 lists the indexes.
+fn telling<R: Abort>(rt: &R, alloc: Global) -> Vec<Event> {
+    let write = Command::Bulk(packed(rt, alloc, ONE_DOCUMENT));
+    let drop = Command::DropIndex {
+        ddoc: string(rt, alloc, "x"),
+        name: string(rt, alloc, "ia"),
+    };
+    let told = vec![in alloc;
+        Event::Enter { seat: 1 },
+        Event::Publish {
+            seat: 0,
+            command: write
+        },
+        get_l1(rt, alloc),
+        Event::Told { seat: 1, by: 0 },
+        get_l1(rt, alloc),
+        Event::Publish {
+            seat: 1,
+            command: drop
+        },
+        Event::Answer {
+            seat: 0,
+            command: Command::ListIndexes
+        },
+    ];
+    match told {
+        Ok(events) => events,
+        Err(_) => rt.panic("memory"),
+    }
+}
+
+// The replies to these events: the status and the body (0 and empty: the event has no reply).
+const TOLD: [(u16, &str); 7] = [
+    (0, ""),
+    (201, "[]\n"),
+    (404, MISSING),
+    (0, ""),
+    (200, "{\"_id\":\"l1\",\"_rev\":\"1-a\"}\n"),
+    (404, MISSING),
+    (200, INDEXES),
+];
+
 #[test]
-fn a_seat_sees_what_it_entered_wrote_or_learned(rt: HostRuntime) {
-    let replies = replies_to(&rt, rt.alloc(), &TELLING);
-    for (event, status, text) in REPLIES {
-        let reply = replies.get(*event);
-        check(&rt, is_reply(reply, *status, text), text);
+fn replay(rt: HostRuntime) {
+    let events = telling(&rt, rt.alloc());
+    assert!(rt; are_at(2, &events));
+    let replies = interleave::replay(&rt, rt.alloc(), "db", 2, &events).expect(&rt, "memory");
+    assert!(rt; replies.len() == TOLD.len());
+    for (reply, (status, text)) in replies.iter().zip(TOLD) {
+        check(&rt, is_reply(Some(reply), status, text), text);
     }
 }
 

@@ -1,5 +1,5 @@
 //! Seats that read and write concurrently, and how many commits a database has when it is closed.
-ghost use Rattle.std.specs.Prelude.{◌≡◌, string_bytes};
+ghost use Rattle.std.specs.Prelude.{◌≡◌, ◌≤◌, length, string_bytes};
 
 use crate::given::{check, string};
 use mg_engine::Reply;
@@ -10,38 +10,46 @@ use std::alloc::Global;
 use std::marker::Brand;
 use std::process::Abort;
 use std::sync::Wait;
+use std::sync::atomic::{AtomicUsize, Ordering};
 use std::sync::ledger::Blank;
 use std::thread;
 use std::thread::Threads;
 
-// Writes 25 bulks of one document at a seat. Writes none if the body cannot be read.
-fn write_25<D: Database, C: EndsWriter, R: Wait + Threads + Sync>(
+// Writes as many bulks of one document at a seat as the next of the numbers says; the threads take them in turn. Writes none if the body
+// cannot be read.
+fn write_bulks<D: Database, C: EndsWriter, R: Wait + Threads + Sync>(
     rt: &R,
     alloc: Global,
     seat: Seat<D, C>,
+    numbers: &[u32],
+    taken: &AtomicUsize,
 ) -> Seat<D, C> {
     let mut seat = seat;
     let Ok(body) = read(alloc, b"{\"docs\":[{\"a\":7}]}") else {
         return seat;
     };
-    for _ in 0..25u32 {
+    let turn = taken.fetch_add(1, Ordering::SeqCst);
+    for _ in 0..numbers.get(turn).copied().unwrap_or(0) {
         let _ = seat.bulk(rt, &body, 2);
     }
     seat
 }
 
-// Writes 25 bulks at each of four seats, each on a thread, then closes the database and checks how many commits it has.
-fn run_four<D: Database + Send + Sync, R: Threads + Wait + Abort + Sync + Send + Drop + Copy>(
+// Writes these numbers of bulks at as many seats, each on a thread, then closes the database and checks how many commits it has.
+fn count_commits<D: Database + Send + Sync, R: Threads + Wait + Abort + Sync + Send + Drop + Copy>(
     rt: R,
     alloc: Global,
     blank: Blank,
     commit_log: CommitLog,
     db: String,
+    numbers: &[u32],
+    commits: u64,
 )
     requires name { string_bytes db ≡ D.db }
     requires commit_log { commit_log ≡ D.commit_log }
     requires ledger { (blank.name ≡ D.name) × (blank.parts ≡ D.parts) }
-    requires parts { blank.parts ≡ 4 }
+    requires parts { blank.parts ≡ length numbers.now }
+    requires seats { (1 ≤ length numbers.now) × (length numbers.now ≤ 16) }
     requires opened { 3 ≡ D.shards }
 {
     let Ok((live, seats)) = Live::<D, WaitForReaders<R>>::open(
@@ -52,24 +60,38 @@ fn run_four<D: Database + Send + Sync, R: Threads + Wait + Abort + Sync + Send +
         db.as_str(),
         Md5Placement,
         3,
-        4,
+        numbers.len(),
     ) else {
         rt.panic("memory")
     };
-    let Ok(seats) = thread::map_vec(&rt, seats, &|seat| write_25(&rt, alloc, seat)) else {
+    let taken = AtomicUsize::new(0);
+    let Ok(seats) = thread::map_vec(
+        &rt,
+        seats,
+        &|seat| { write_bulks(&rt, alloc, seat, numbers, &taken) },
+    ) else {
         rt.panic("memory")
     };
     let Ok(closed) = live.close(&rt, seats) else {
         rt.panic("it is not closed")
     };
-    assert!(rt; closed.commits() == 100);
+    assert!(rt; closed.commits() == commits);
 }
 
 #[test]
 fn four_seats_make_a_hundred_commits(rt: HostRuntime) {
     let alloc = rt.alloc();
     let db = string(&rt, alloc, "db");
-    run_four::<Brand, _>(rt, alloc, Blank::new(4), CommitLog::new(), db)
+    let log = CommitLog::new();
+    count_commits::<Brand, _>(rt, alloc, Blank::new(4), log, db, &[25, 25, 25, 25], 100)
+}
+
+// Two threads add 3 and 4 units to their tallies; the book that joins them says 7.
+#[test]
+fn tally(rt: HostRuntime) {
+    let alloc = rt.alloc();
+    let db = string(&rt, alloc, "db");
+    count_commits::<Brand, _>(rt, alloc, Blank::new(2), CommitLog::new(), db, &[3, 4], 7)
 }
 
 #[derive(Clone, Copy, Drop)]
@@ -338,14 +360,14 @@ fn run_two<D: Database + Send + Sync, R: Threads + Wait + Abort + Sync + Send + 
 }
 
 #[test]
-fn two_seats_see_each_others_writes_and_close(rt: HostRuntime) {
+fn two_seats(rt: HostRuntime) {
     let alloc = rt.alloc();
     let db = string(&rt, alloc, "db");
     run_two::<Brand, _>(rt, alloc, Blank::new(2), CommitLog::new(), db, &[], 4)
 }
 
 #[test]
-fn a_reshard_is_one_commit_and_changes_no_page(rt: HostRuntime) {
+fn two_seats_reshard(rt: HostRuntime) {
     let alloc = rt.alloc();
     let db = string(&rt, alloc, "db");
     run_two::<Brand, _>(rt, alloc, Blank::new(2), CommitLog::new(), db, RESHARDED, 6)

@@ -72,8 +72,13 @@ fn is_paged<R: Threads + Sync + Abort>(
 }
 
 #[test]
-fn an_answer_and_a_page_begin_both_shards_before_one_is_done(rt: HostRuntime) {
+fn two_shards_begun_on_answer(rt: HostRuntime) {
     let engine = two_shards(&rt, rt.alloc());
     assert!(rt; is_answered(&rt, rt.alloc(), &engine));
+}
+
+#[test]
+fn two_shards_begun_on_page(rt: HostRuntime) {
+    let engine = two_shards(&rt, rt.alloc());
     assert!(rt; is_paged(&rt, rt.alloc(), &engine));
 }

@@ -31,7 +31,7 @@ struct Held {
     answered: AtomicU64,
     // the status of the write
     status: AtomicU64,
-    // 1: the reply to the query was as expected
+    // 1: the reply to the query was as expected, and the same as without the write
     same: AtomicU64,
     // how many waits gave up
     faults: AtomicU64,
@@ -103,8 +103,8 @@ impl During {
     }
 }
 
-// Queries the ids of all documents once the writer is ready. The gate holds the query at its snapshot. Makes no query if the body cannot be
-// read.
+// Queries the ids of all documents twice once the writer is ready: without the write, and then held by the gate at its snapshot until the
+// write was answered. Makes no query if the body cannot be read.
 fn ask<D: Database, C: EndsWriter, R: Wait + Threads + Sync>(
     rt: &R,
     alloc: Global,
@@ -117,8 +117,9 @@ fn ask<D: Database, C: EndsWriter, R: Wait + Threads + Sync>(
         return seat;
     };
     gate.wait(&gate.ready);
+    let without = seat.find(rt, &body, 1);
     let reply = seat.find_with(rt, &body, 1, gate);
-    let same = reply.body() == during.page().as_bytes();
+    let same = reply.body() == during.page().as_bytes() && without.body() == reply.body();
     gate.same.store(u64::from(same), Ordering::SeqCst);
     seat
 }
@@ -208,7 +209,7 @@ fn write_during_query<
 
 // A bulk is answered while a query is held at its snapshot. The query then finds no document.
 #[test]
-fn a_bulk_is_answered_during_a_query(rt: HostRuntime) {
+fn bulk_during_query(rt: HostRuntime) {
     let alloc = rt.alloc();
     let db = string(&rt, alloc, "db");
     write_during_query::<Brand, _>(rt, alloc, Blank::new(2), CommitLog::new(), db, During::Bulk)
@@ -216,7 +217,7 @@ fn a_bulk_is_answered_during_a_query(rt: HostRuntime) {
 
 // A reshard is answered while a query is held at its snapshot. The query's page does not depend on the number of shards.
 #[test]
-fn a_reshard_is_answered_during_a_query(rt: HostRuntime) {
+fn reshard_during_query(rt: HostRuntime) {
     let alloc = rt.alloc();
     let db = string(&rt, alloc, "db");
     write_during_query::<Brand, _>(

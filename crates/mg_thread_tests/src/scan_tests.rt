@@ -158,8 +158,13 @@ fn is_built<R: Threads + Sync + Abort>(rt: &R, alloc: Global, shards: &[Arc<Shar
 }
 
 #[test]
-fn a_scan_and_a_build_begin_both_shards_before_one_is_done(rt: HostRuntime) {
+fn two_shards_begun_on_scan(rt: HostRuntime) {
     let engine = two_shards(&rt, rt.alloc());
     assert!(rt; is_scanned(&rt, rt.alloc(), engine.shards()));
+}
+
+#[test]
+fn two_shards_begun_on_build(rt: HostRuntime) {
+    let engine = two_shards(&rt, rt.alloc());
     assert!(rt; is_built(&rt, rt.alloc(), engine.shards()));
 }

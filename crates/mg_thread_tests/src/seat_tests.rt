@@ -83,7 +83,7 @@ fn run_query<D: Database + Send + Sync, R: Threads + Wait + Abort + Sync + Send 
 }
 
 #[test]
-fn a_seat_begins_both_shards_before_one_is_done(rt: HostRuntime) {
+fn two_shards_begun_on_find_with(rt: HostRuntime) {
     let alloc = rt.alloc();
     let db = string(&rt, alloc, "db");
     run_query::<Brand, _>(rt, alloc, Blank::new(1), CommitLog::new(), db)

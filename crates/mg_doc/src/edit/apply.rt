@@ -1,17 +1,17 @@
-ghost use Rattle.std.specs.Prelude.{◌≡◌, ◌+◌, ◌==◌, IfErr, IfOk, IfSome, OnErr, OnOk, None, Some, false, option_copied, string_bytes};
+ghost use Rattle.std.specs.Prelude.{◌≡◌, ◌+◌, ◌==◌, Err, IfErr, IfOk, IsOk, Ok, OnErr, OnOk, None, Some, false, option_copied, string_bytes};
 ghost use Rattle.std.specs.Result.{result_map_both};
 ghost use Rattle.mg_revtree.specs.Changes.{position_below};
 ghost use Rattle.mg_revtree.specs.History.{Paths};
 ghost use Rattle.mg_revtree.specs.Tree.{StandsFor};
-ghost use Rattle.mg_doc.specs.Applied.{Applied, Foreseen, GivesBack, IsReady};
+ghost use Rattle.mg_doc.specs.Applied.{Applied, Foreseen, GivesBack, IsReady, NamesItsBase, error_of};
 ghost use Rattle.mg_doc.specs.Base.{IsCopyOf, LooksFor, base_found, extended_by, look_of, extended_over};
-ghost use Rattle.mg_doc.specs.Acceptance.{AcceptsAs};
+ghost use Rattle.mg_doc.specs.Acceptance.{AcceptsAs, HidesNone};
 ghost use Rattle.mg_doc.specs.Digest.{digest_of};
-ghost use Rattle.mg_doc.specs.Edit.{first_refusal, replicated};
+ghost use Rattle.mg_doc.specs.Edit.{base_of, first_refusal, outcome_of, replicated};
 ghost use Rattle.mg_doc.specs.declared.change.Change.TheVariants.{New};
 
 use crate::change::Change;
-use crate::digest::id_over;
+use crate::digest::rev_id;
 use crate::edit::Edit;
 use crate::error::{EditError, EditRefusal};
 use mg_packed::Packed;
@@ -111,12 +111,14 @@ impl ReadyEdit {
     /// Applies the edit to the tree that was looked at, or to a copy of it, and returns what `Edit::apply` returns. Does not look again.
     ///
     /// Errors: `Conflict` if the made revision is already known; `NoMemory` if an allocation fails, or at a limit that `RevTree::merge`
-    /// lists. If the revision's id has to be made here, lack of memory for the id, or for a copy of the base, hides the `Conflict`. An
-    /// error leaves the tree as it was. Cost: that of `RevTree::extend` or `RevTree::merge`, and the length of the body's text if the id
-    /// has to be made here, because it was not made ahead, or was made for a first revision while a deleted winner is extended.
+    /// lists. Lack of memory hides the `Conflict` only if the edit names no revision and a deleted winner is extended: then the revision's
+    /// id has to be made here. An error leaves the tree as it was. Cost: that of `RevTree::extend` or `RevTree::merge`, and the length of
+    /// the body's text if the id has to be made here.
     pub fn apply(self, alloc: Global, tree: &mut RevTree) -> Result<Rev, EditError>
         requires { (h : Paths) → StandsFor tree.old h → IsReady h self }
         ensures applied { (h : Paths) → StandsFor tree.old h → Applied h self result tree.new }
+        ensures refused { (h : Paths) → StandsFor tree.old h → NamesItsBase h self.change
+            → (x : EditRefusal) → outcome_of h self ≡ Err x → result ≡ Err (error_of x) }
         ensures unchanged { OnErr result (tree.new ≡ tree.old) }
     {
         let edit = self.edit;
@@ -128,7 +130,10 @@ impl ReadyEdit {
             ahead,
         } = edit;
         match change {
-            Change::New(named) => extend(alloc, tree, named.as_ref(), deleted, body, ahead),
+            Change::New(named) => {
+                let Some(id) = ahead else { unreachable!() };
+                extend(alloc, tree, named.as_ref(), deleted, body, id)
+            }
             Change::Replica(path) => merge(tree, &path, deleted, body),
         }
     }
@@ -204,9 +209,10 @@ fn base_unnamed(tree: &RevTree) -> Result<Option<&Rev>, EditRefusal>
 }
 
 // Copies the base that is extended if no revision is named. Errors: `Conflict` if the winner is not deleted; `NoMemory` if an allocation
-// fails.
+// fails, which only a base needs.
 fn copy_base(alloc: Global, tree: &RevTree) -> Result<Option<Rev>, EditError>
-    ensures { (h : Paths) → StandsFor tree.now h → IsCopyOf (base_found h None) result }
+    ensures base { (h : Paths) → StandsFor tree.now h → IsCopyOf (base_found h None) result }
+    ensures none { (h : Paths) → StandsFor tree.now h → base_found h None ≡ Ok None → IsOk result }
 {
     match base_unnamed(tree)? {
         None => Ok(None),
@@ -223,50 +229,63 @@ fn extend(
     named: Option<&Rev>,
     deleted: bool,
     body: Packed,
-    ahead: Option<String>,
+    ahead: String,
 ) -> Result<Rev, EditError>
-    requires { IfSome ahead (λ id. string_bytes id ≡ digest_of deleted (option_copied named) body) }
+    requires { string_bytes ahead ≡ digest_of deleted (option_copied named) body }
     ensures accepts { (h : Paths) → StandsFor tree.old h → AcceptsAs h deleted body
         (extended_by h deleted body (option_copied named.entry)) result tree.new }
+    ensures refused { (h : Paths) → StandsFor tree.old h
+        → base_of h (option_copied named.entry) ≡ option_copied named.entry
+        → HidesNone (extended_by h deleted body (option_copied named.entry)) result }
     ensures unchanged { OnErr result (tree.new ≡ tree.old) }
 {
     match named {
         Some(rev) => extend_over(alloc, tree, Some(rev), deleted, body, ahead),
-        None => {
-            let base = copy_base(alloc, tree)?;
-            let ahead = over_nothing(ahead, base.as_ref());
-            extend_over(alloc, tree, base.as_ref(), deleted, body, ahead)
+        None => extend_unnamed(alloc, tree, deleted, body, ahead),
+    }
+}
+
+// Makes a revision over a deleted winner, or the document's first revision, whose id is `ahead`. Errors: as for `extend`.
+fn extend_unnamed(
+    alloc: Global,
+    tree: &mut RevTree,
+    deleted: bool,
+    body: Packed,
+    ahead: String,
+) -> Result<Rev, EditError>
+    requires { string_bytes ahead ≡ digest_of deleted None body }
+    ensures accepts { (h : Paths) → StandsFor tree.old h
+        → AcceptsAs h deleted body (extended_by h deleted body None) result tree.new }
+    ensures refused { (h : Paths) → StandsFor tree.old h → base_of h None ≡ None
+        → HidesNone (extended_by h deleted body None) result }
+    ensures unchanged { OnErr result (tree.new ≡ tree.old) }
+{
+    match copy_base(alloc, tree)? {
+        None => extend_over(alloc, tree, None, deleted, body, ahead),
+        Some(base) => {
+            let id = rev_id(alloc, deleted, Some(&base), &body.part())?;
+            extend_over(alloc, tree, Some(&base), deleted, body, id)
         }
     }
 }
 
-// Returns the id that was made ahead for a first revision, if there is one; `None` if a base is extended, since a revision over the base
-// has another id.
-fn over_nothing(ahead: Option<String>, base: Option<&Rev>) -> Option<String>
-    ensures { IfSome result (λ id. (ahead ≡ Some id) × (option_copied base.entry ≡ None)) }
-{
-    match base {
-        None => ahead,
-        Some(_) => None,
-    }
-}
-
-// Makes a revision over a base, or the first revision of a document. Errors: those of `rev_id` and `RevTree::extend`; the tree is then as
-// it was.
+// Makes a revision over a base, or the first revision of a document. `id` is the revision's id, of 32 bytes. Errors: those of
+// `RevTree::extend`; the tree is then as it was.
 fn extend_over(
     alloc: Global,
     tree: &mut RevTree,
     base: Option<&Rev>,
     deleted: bool,
     body: Packed,
-    ahead: Option<String>,
+    id: String,
 ) -> Result<Rev, EditError>
-    requires { IfSome ahead (λ id. string_bytes id ≡ digest_of deleted (option_copied base) body) }
+    requires { string_bytes id ≡ digest_of deleted (option_copied base) body }
     ensures accepts { (h : Paths) → StandsFor tree.old h → AcceptsAs h deleted body
         (extended_over h deleted body (option_copied base.entry)) result tree.new }
+    ensures refused { (h : Paths) → StandsFor tree.old h
+        → HidesNone (extended_over h deleted body (option_copied base.entry)) result }
     ensures unchanged { OnErr result (tree.new ≡ tree.old) }
 {
-    let id = id_over(alloc, ahead, deleted, base, &body)?;
     let rev = Rev {
         pos: position_over(base),
         id: RevId::copy_of(alloc, &id)?,

@@ -1,8 +1,9 @@
 use Rattle.std.proofs.Common.{◌≡◌, ◌-◌, ◌≤◌, ◌++◌, All, List, length, map, option_map, vec_len}
+use Rattle.std.specs.List.{AllZip}
 use Rattle.mg_collate.specs.Row.{directed_order}
 use Rattle.mg_collate.specs.Sorted.{sorted}
 use Rattle.mg_merge.specs.Merged.{joined}
-use Rattle.mg_merge.specs.Pulled.{AreFrom, IsUnderWay, IsGivenBy, all_remaining}
+use Rattle.mg_merge.specs.Pulled.{AreFrom, IsUnderWay, IsGivenBy, IsLeftOf, all_remaining}
 use Rattle.mg_merge.proofs.pulled.merge_heads.Given as goal
 
 abbrev pub invariant-loop-direction : goal.invariant-loop-direction
@@ -13,6 +14,8 @@ invariant-loop-direction g l = record {
   sources : length l.sources ≡ length l.fn.sources;
   left : sorted (directed_order l.direction) (joined (all_remaining (map (option_map g.T.Ranked.row_of) l.fn.heads.items) (map g.S.RowSource.rest l.fn.sources)))
       ≡ map g.T.Ranked.row_of l.items.items ++ sorted (directed_order l.direction) (joined (all_remaining (map (option_map g.T.Ranked.row_of) l.heads.items) (map g.S.RowSource.rest l.sources)));
+  ends : AllZip IsLeftOf (all_remaining (map (option_map g.T.Ranked.row_of) l.heads.items) (map g.S.RowSource.rest l.sources))
+      (all_remaining (map (option_map g.T.Ranked.row_of) l.fn.heads.items) (map g.S.RowSource.rest l.fn.sources));
   given : (start : List g.row.S.Denot) → AreFrom g.S.RowSource.gives start l.fn.heads.items l.fn.sources → AreFrom g.S.RowSource.gives start l.heads.items l.sources × All (IsGivenBy g.S.RowSource.gives start) l.items.items;
 }
 

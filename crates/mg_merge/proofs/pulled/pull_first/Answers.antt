@@ -1,9 +1,9 @@
-use Rattle.std.proofs.Common.{◌≡◌, ◌<◌, get_or, length, map, arith, rules, ◌∙◌}
+use Rattle.std.proofs.Common.{◌≡◌, ◌<◌, get_or, length, map, option_map, arith, rules, ◌∙◌}
 use Rattle.std.proofs.lemmas.List.{length-map, length-set}
 use Rattle.mg_merge.specs.Merged.{order_by}
-use Rattle.mg_merge.specs.Pulled.{firsts_of}
+use Rattle.mg_merge.specs.Pulled.{all_remaining, firsts_of}
 use Rattle.mg_merge.proofs.Heads.{if_none}
-use Rattle.mg_merge.proofs.Pulls.{all_ended, first_source, from_pulled, front_at, none_pulled, one_given, pulled_changed, source_ahead, source_first, value_at, was_remaining}
+use Rattle.mg_merge.proofs.Pulls.{all_ended, first_source, from_pulled, front_at, left_same, none_pulled, one_given, pulled_changed, source_ahead, source_first, source_left, value_at, was_remaining}
 use Rattle.mg_merge.proofs.Trees.{none_begin}
 use Rattle.mg_merge.proofs.pulled.pull_first.Goals as goal
 
@@ -133,3 +133,28 @@ returns-clause-from g c = λ start from.
     let s = get_or sources source c.index-sources-source.result in
     let at : s ≡ get_or sources source s = value_at sources source c.index-sources-source.result s inside in
     from_pulled g.S.RowSource.gives start heads sources source c.next.result s c.next.new.self from inside at c.next.ensures.given c.next.ensures.same
+
+pub returns-clause-ends : goal.returns-clause-ends
+returns-clause-ends g c =
+    let row = g.T.Ranked.row_of in
+    let rest = g.S.RowSource.rest in
+    let heads = c.args.heads.now.items in
+    let sources = c.args.sources.now in
+    let source = c.in_ok-source.source in
+    let some = c.in_ok-source.ensures.some in
+    let first = first_source row c.args.direction heads c.args.tournament.now.places.items source c.requires.tree some.0 some.1 in
+    let within = first.0 in
+    let front = front_at heads source c.index.result.now c.index.result.now within c.index.ensures in
+    let counted = length-map sources rest in
+    let size = c.requires.size in
+    let inside : source < length sources = omega (arith, counted, size, within) in
+    let s = get_or sources source c.index-sources-source.result in
+    let at : s ≡ get_or sources source s = value_at sources source c.index-sources-source.result s inside in
+    let was = was_remaining row c.next.result (rest s) (rest c.next.new.self) c.next.ensures.item c.next.ensures.end in
+    source_left row rest heads sources source c.in_ok-item.item c.next.result s c.next.new.self c.requires.size within (front ∙ c.in_ok-item.was) inside at was
+
+pub returns-in_err-source-clause-ends : goal.returns-in_err-source-clause-ends
+returns-in_err-source-clause-ends g c = left_same (all_remaining (map (option_map g.T.Ranked.row_of) c.args.heads.now.items) (map g.S.RowSource.rest c.args.sources.now))
+
+pub returns-in_err-item-clause-ends : goal.returns-in_err-item-clause-ends
+returns-in_err-item-clause-ends g c = left_same (all_remaining (map (option_map g.T.Ranked.row_of) c.args.heads.now.items) (map g.S.RowSource.rest c.args.sources.now))

@@ -1,9 +1,9 @@
-use Rattle.std.proofs.Common.{◌≡◌, [], ◌∷◌, ◌++◌, Some, length, map, option_map, string_bytes, sym, ap, ◌∙◌, append_assoc, arith, rules}
+use Rattle.std.proofs.Common.{◌≡◌, [], ◌∷◌, ◌++◌, Some, length, option_map, sym, ap, ◌∙◌, append_assoc, arith, rules}
 use Rattle.std.proofs.lemmas.List.{nil_from_length}
 use Rattle.std.specs.Vec.Iter.{into_iter_items}
 use Rattle.mg_normal.specs.Says.{condition_atoms, conditions_atoms, rest_of, rests_of, all_left}
-use Rattle.mg_normal.specs.View.{condition_of, conditions_view, atoms_view}
-use Rattle.mg_normal.proofs.Parted.{conditions_before, conditions_before-all, one_left, all_left-some, truncated}
+use Rattle.mg_normal.specs.View.{above_steps, condition_of, conditions_view, atoms_view}
+use Rattle.mg_normal.proofs.Parted.{conditions_before, conditions_before-all, one_left, all_left-some}
 use Rattle.mg_normal.proofs.Said.{condition_of-All}
 use Rattle.mg_normal.proofs.rest.+take_atoms.Goals as goal
 
@@ -12,7 +12,7 @@ take_all-loop-condition-preserved-in-Continue-branch-3 t c =
     let l = c.loop-condition in
     let f = c.in-Some.condition in
     let to_come = into_iter_items c.next.new.self in
-    let at = map string_bytes c.args.steps.now.items in
+    let at = above_steps c.args.above.now in
     let step : into_iter_items l.condition-iterator ≡ f ∷ to_come = c.in-Some.ensures.steps.0 in
     let is_left : Some (condition_of c.in-Some-2.left) ≡ rest_of (condition_of f) = ap (option_map condition_of) (sym c.in-Some-2.is) ∙ c.in_ok-left.ensures.rest in record {
       can_next = tt;
@@ -20,9 +20,7 @@ take_all-loop-condition-preserved-in-Continue-branch-3 t c =
       atoms =
           l.invariant.atoms ∙ ap (λ ys. atoms_view l.atoms.items ++ conditions_atoms (conditions_view ys) at) step
           ∙ sym (append_assoc (atoms_view l.atoms.items) (condition_atoms (condition_of f) at) (conditions_atoms (conditions_view to_come) at))
-          ∙ ap (λ ys. ys ++ conditions_atoms (conditions_view to_come) at)
-          (sym (c.in_ok-left.ensures.atoms ∙ ap (λ ys. atoms_view l.atoms.items ++ condition_atoms (condition_of f) ys) l.invariant.steps));
-      steps = c.in_ok-left.ensures.steps ∙ l.invariant.steps;
+          ∙ ap (λ ys. ys ++ conditions_atoms (conditions_view to_come) at) (sym c.in_ok-left.ensures.atoms);
       rest =
           l.invariant.rest ∙ ap (λ ys. conditions_before l.rest.items (rests_of (conditions_view ys))) step
           ∙ one_left l.rest.items c.in-Some-2.left (condition_of f) (rests_of (conditions_view to_come)) is_left
@@ -42,15 +40,3 @@ take_atoms-returns-else-is_empty-clause-rest t c =
     let some : length rest.items ≡ 0 → ⊥ = search rules in
     ap Some (condition_of-All rest)
     ∙ sym (ap rest_of (ap condition_of c.in-All.is ∙ condition_of-All c.in-All.conditions) ∙ ap all_left (sym c.in_ok-rest-in-All.ensures.rest) ∙ all_left-some rest.items some)
-
-pub take_below-returns-in_default-clause-steps : goal.take_below-returns-in_default-clause-steps
-take_below-returns-in_default-clause-steps t c =
-    let kept = c.in_ok-rest.ensures.steps ∙ c.in_ok-extend.ensures in
-    let above : c.len-above.result ≡ length c.args.steps.now.items = grind (arith, c.len-above.ensures, c.args.steps.now.ok) in
-    rw (c.truncate.ensures.items, above) (truncated c.take_atoms.new.steps.items c.args.steps.now.items _ kept)
-
-pub take_below-returns-clause-steps : goal.take_below-returns-clause-steps
-take_below-returns-clause-steps t c =
-    let kept = c.in_ok-rest.ensures.steps ∙ c.in_ok-extend.ensures in
-    let above : c.len-above.result ≡ length c.args.steps.now.items = grind (arith, c.len-above.ensures, c.args.steps.now.ok) in
-    rw (c.truncate.ensures.items, above) (truncated c.take_atoms.new.steps.items c.args.steps.now.items _ kept)

@@ -4,5 +4,5 @@ use Rattle.mg_revtree.proofs.rev_id.hold.Goals as goal
 
 pub returns-in-Some-clause-text : goal.returns-in-Some-clause-text
 returns-in-Some-clause-text c =
-    let same : c.in-Some.digest ≡ string_bytes c.args.id = c.in-Some.ensures ∙ c.as_bytes.ensures.value in
+    let same : c.in-Some.digest ≡ string_bytes c.args.id = c.in-Some.ensures.array ∙ c.as_bytes.ensures.value in
     subst IsUtf8 (sym same) (IsUtf8-string_bytes c.args.id)

@@ -7,7 +7,7 @@ use Rattle.mg_shard.specs.Index.{definitions_of}
 use Rattle.mg_shard.specs.Redealt.{ArePlaces, documents_in, documents_seen, last_kept}
 use Rattle.mg_shard.specs.Shard.{ShardView, shards_seen}
 use Rattle.mg_shard.specs.declared.document.Document.{Document}
-use Rattle.mg_shard.proofs.Redealing.{all_dealt, as_many, first_definitions, made_definitions, redealt_stand}
+use Rattle.mg_shard.proofs.Redealing.{all_dealt, as_many, made_definitions, redealt_stand, same_definitions}
 use Rattle.mg_shard.proofs.Together.{seen_length}
 use Rattle.mg_shard.proofs.redealt.redeal.Goals as goal
 
@@ -38,10 +38,14 @@ returns-clause-stands g c = λ before hs st.
     (subst (λ (ps : List ℕ). ArePlaces place c.args.count (documents_seen ds) ps) (sym c.deref-places.ensures.value) c.in_ok-found.ensures)
     c.in_ok-made.ensures.number c.in_ok-made.ensures.made) st
 
+pub returns-clause-first : goal.returns-clause-first
+returns-clause-first g c = λ k d l.
+    made_definitions (documents_seen c.deref-documents.result.now) c.deref-places.result.now (definitions_of c.deref-indexes.result.now) c.in_ok-made.made.items c.in_ok-made.ensures.made k d l
+    ∙ ap definitions_of c.deref-indexes.ensures.value ∙ c.in_ok-first.ensures.first
+
 pub returns-clause-indexes : goal.returns-clause-indexes
 returns-clause-indexes g c = λ ds some all k d l.
     let shards : List ShardView = shards_seen c.args.shards.now in
-    let those : List IndexDefinition = definitions_of c.deref-indexes.result.now in
     let one : 0 < length shards = subst (λ n. 0 < n) (sym (length-map c.args.shards.now arc_value)) some in
-    made_definitions (documents_seen c.deref-documents.result.now) c.deref-places.result.now those c.in_ok-made.made.items c.in_ok-made.ensures.made k d l
-    ∙ first_definitions shards ds those (λ s at. ap definitions_of c.deref-indexes.ensures.value ∙ c.in_ok-first.ensures.first s at) one all
+    made_definitions (documents_seen c.deref-documents.result.now) c.deref-places.result.now (definitions_of c.deref-indexes.result.now) c.in_ok-made.made.items c.in_ok-made.ensures.made k d l
+    ∙ ap definitions_of c.deref-indexes.ensures.value ∙ c.in_ok-first.ensures.first ∙ same_definitions shards ds one all

@@ -7,34 +7,34 @@ use Rattle.mg_live.proofs.snapshot.Snapshot.next.Goals as goal
 
 pub returns-then-not-accepts-clause-next : goal.returns-then-not-accepts-clause-next
 returns-then-not-accepts-clause-next g c =
-    let w = c.args.write.now in
+    let w = c.args.write in
     let s = c.args.self.now in
     let no : accepts c.in-Ok.reply ≡ false = cc in
     refused_write g.D.Database.db (commits_of s) w.seat (asked w.command.value) c.in-Ok.reply (rw c.requires.prepared at (c.in-Ok.ensures.after g.D.Database.db (commits_of s) w.seat c.requires.here.after)).0 no
 
-pub with-requires-clause-room : goal.with-requires-clause-room
-with-requires-clause-room g c =
-    let w = c.args.write.now in
+pub add-prefix-requires-clause-room : goal.add-prefix-requires-clause-room
+add-prefix-requires-clause-room g c =
+    let w = c.args.write in
     let s = c.args.self.now in
     let yes : accepts c.in-Ok.reply ≡ true = cc in
     has_room g.D.Database.db s.prefix.seen.log (asked w.command.value) c.in-Ok.reply (rw c.requires.prepared at (c.in-Ok.ensures.after g.D.Database.db (commits_of s) w.seat c.requires.here.after)).0 yes
 
 pub returns-clause-next : goal.returns-clause-next
 returns-clause-next g c =
-    let w = c.args.write.now in
+    let w = c.args.write in
     let s = c.args.self.now in
     let yes : accepts c.in-Ok.reply ≡ true = cc in
-    one_more g.D.Database.db s.prefix.seen.log c.in-Some.prefix.seen.log w.seat w.command.value c.in-Ok.reply (rw c.requires.prepared at (c.in-Ok.ensures.after g.D.Database.db (commits_of s) w.seat c.requires.here.after)).0 yes c.in-Some.ensures.0
+    one_more g.D.Database.db s.prefix.seen.log c.add-prefix.result.seen.log w.seat w.command.value c.add-prefix.new.self.pen.nib.key c.in-Ok.reply (rw c.requires.prepared at (c.in-Ok.ensures.after g.D.Database.db (commits_of s) w.seat c.requires.here.after)).0 yes c.add-prefix.ensures.added
 
 pub returns-clause-there : goal.returns-clause-there
 returns-clause-there g c =
-    let w = c.args.write.now in
+    let w = c.args.write in
     let s = c.args.self.now in
     let yes : accepts c.in-Ok.reply ≡ true = cc in
     let did = rw c.requires.prepared at (c.in-Ok.ensures.after g.D.Database.db (commits_of s) w.seat c.requires.here.after) in
     record {
-      book = c.in-Some.ensures.1 ∙ c.requires.here.book;
-      after = there g.D.Database.db s.prefix.seen.log c.in-Some.prefix.seen.log w.seat w.command.value c.in-Ok.reply c.in-Ok.point did.0 yes c.in-Some.ensures.0 did.1;
-      dealt = dealt g.D.Database.db g.D.Database.shards s.prefix.seen.log c.in-Some.prefix.seen.log w.seat w.command.value c.in-Ok.reply c.in-Ok.point did.0 yes c.in-Some.ensures.0
+      book = c.add-prefix.ensures.book ∙ c.requires.here.book;
+      after = there g.D.Database.db s.prefix.seen.log c.add-prefix.result.seen.log w.seat w.command.value c.add-prefix.new.self.pen.nib.key c.in-Ok.reply c.in-Ok.point did.0 yes c.add-prefix.ensures.added did.1;
+      dealt = dealt g.D.Database.db g.D.Database.shards s.prefix.seen.log c.add-prefix.result.seen.log w.seat w.command.value c.add-prefix.new.self.pen.nib.key c.in-Ok.reply c.in-Ok.point did.0 yes c.add-prefix.ensures.added
           (rw c.requires.prepared at (c.in-Ok.ensures.dealt g.D.Database.db g.D.Database.shards (commits_of s) w.seat c.requires.here.after c.requires.here.dealt));
     }

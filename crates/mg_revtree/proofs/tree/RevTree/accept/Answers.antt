@@ -18,5 +18,5 @@ returns-clause-accepted c = λ h stands.
     let run : run_from c.args.start (map string_bytes c.args.ids.now) ≡ q ∷ [] = one_run string_bytes c.args.start c.args.ids.now c.index-ids-0.result one c.index-ids-0.is in
     let none : is_empty c.self.inside.growth ≡ true = cc in
     let empty : c.args.self.now ≡ empty_tree = sym c.self.view_is ∙ empty_is c.self.inside.growth none in
-    let made : c.begin.new.self ≡ first_tree (record { rev = q; deleted = c.args.deleted; body = c.args.body }) = c.in_ok-begin.ensures.begun ∙ ap (λ (t : List ℕ). first_tree (record { rev = (c.args.start, t); deleted = c.args.deleted; body = c.args.body })) (c.in_ok-copy_of.ensures ∙ c.deref.ensures) in
+    let made : c.begin.new.self ≡ first_tree (record { rev = q; deleted = c.args.deleted; body = c.args.body }) = c.in_ok-begin.ensures.begun ∙ ap (λ (t : List ℕ). first_tree (record { rev = (c.args.start, t); deleted = c.args.deleted; body = c.args.body })) (c.in_ok-copy_of.ensures.copy ∙ c.deref.ensures) in
     subst (λ (rs : List Revision). StandsFor c.begin.new.self (with_path h (path_of rs c.args.deleted c.args.body))) (sym run) (subst (λ (t : Tree). StandsFor t (with_path h (path_of (q ∷ []) c.args.deleted c.args.body))) (sym made) (stands_first h q c.args.deleted c.args.body (subst (λ (t : Tree). StandsFor t h) empty stands)))
