@@ -5,9 +5,9 @@ use Rattle.mangod.specs.declared.config.Settings as code
 use Rattle.mangod.specs.declared.ends.Exit as code_exit
 
 -- the settings that a `Settings` stands for
-abbrev pub settings_seen : code.Settings → Settings
-settings_seen s = record { db = s.db.now; shards = s.shards; workers = s.workers; sessions = s.sessions; addr = s.addr.now }
+abbrev pub settings_view : code.Settings → Settings
+settings_view s = record { db = s.db.now; shards = s.shards; workers = s.workers; sessions = s.sessions; addr = s.addr.now }
 
 -- what the code's `Exit` stands for
-abbrev pub exit_seen : code_exit.Exit → Exit
-exit_seen e = record { status = e.status; line = e.line.now }
+abbrev pub exit_view : code_exit.Exit → Exit
+exit_view e = record { status = e.status; line = e.line.now }

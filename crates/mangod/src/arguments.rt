@@ -1,7 +1,7 @@
 ghost use Rattle.std.specs.Prelude.{◌≡◌, ◌≤◌, IfSome, map, option_map, string_bytes};
 ghost use Rattle.std.specs.List.{list_all};
 ghost use Rattle.mangod.specs.Arguments.{is_database_name, is_name_byte, number_of, sessions_in, settings_of, settings_with};
-ghost use Rattle.mangod.specs.View.{settings_seen};
+ghost use Rattle.mangod.specs.View.{settings_view};
 
 use crate::config::Settings;
 
@@ -16,7 +16,7 @@ const SESSIONS: usize = 16;
 ///
 /// DB is a database name, SHARDS is 1 to 64, WORKERS is 1 to 32, and SESSIONS is 1 to 16. ADDR is any text.
 pub(crate) fn settings(args: &[String]) -> Option<Settings<'_>>
-    ensures { option_map settings_seen result ≡ settings_of (map (λ arg. string_bytes arg) args.now) }
+    ensures { option_map settings_view result ≡ settings_of (map (λ arg. string_bytes arg) args.now) }
 {
     match args {
         [db, shards, workers, sessions, addr] => check_settings(
@@ -32,7 +32,7 @@ pub(crate) fn settings(args: &[String]) -> Option<Settings<'_>>
 
 /// Returns the number of sessions asked for; 1 if the arguments are wrong.
 pub(crate) fn sessions(asked: Option<Settings<'_>>) -> usize
-    ensures { result ≡ sessions_in (option_map settings_seen asked.entry) }
+    ensures { result ≡ sessions_in (option_map settings_view asked.entry) }
 {
     match asked {
         Some(settings) => settings.sessions,
@@ -51,7 +51,7 @@ fn check_settings<'a>(
     requires shards { IfSome shards (λ n. (1 ≤ n) × (n ≤ 64)) }
     requires workers { IfSome workers (λ n. (1 ≤ n) × (n ≤ 32)) }
     requires sessions { IfSome sessions (λ n. (1 ≤ n) × (n ≤ 16)) }
-    ensures { option_map settings_seen result ≡ settings_with db.now addr.now shards workers sessions }
+    ensures { option_map settings_view result ≡ settings_with db.now addr.now shards workers sessions }
 {
     match (shards, workers, sessions) {
         (Some(shards), Some(workers), Some(sessions)) => {

@@ -49,11 +49,11 @@ pub(crate) fn ending(end: &SessionEnd) -> (u8, &'static str)
 }
 
 impl Exit {
-    ghost use Rattle.mangod.specs.View.{exit_seen};
+    ghost use Rattle.mangod.specs.View.{exit_view};
 
     /// Returns how the program ends after a session with this end.
     pub(crate) fn after(end: &SessionEnd) -> Exit
-        ensures { exit_seen result ≡ exit_of end.now }
+        ensures { exit_view result ≡ exit_of end.now }
     {
         let (status, line) = ending(end);
         Exit { status, line }

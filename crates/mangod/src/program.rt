@@ -7,7 +7,7 @@ ghost use Rattle.mg_engine.specs.Stands.{Stands, shard_count};
 ghost use Rattle.mg_engine.specs.World.{empty_world};
 ghost use Rattle.mg_shard.specs.Placement.{md5_place};
 ghost use Rattle.mangod.specs.Program.{IsEndOfListening, RunsOneSession, RunsWith};
-ghost use Rattle.mangod.specs.View.{exit_seen, settings_seen};
+ghost use Rattle.mangod.specs.View.{exit_view, settings_view};
 
 use crate::config::Settings;
 use crate::ends::{CANNOT_LISTEN, Exit, NO_MEMORY, STOPPED, WRONG_ARGUMENTS};
@@ -50,16 +50,16 @@ pub(crate) fn run<
     reader: &mut Device<R>,
     writer: &mut Device<W>,
 ) -> Exit
-    requires name { D.db ≡ name_in (option_map settings_seen asked) }
-    requires shards { D.shards ≡ shards_in (option_map settings_seen asked) }
+    requires name { D.db ≡ name_in (option_map settings_view asked) }
+    requires shards { D.shards ≡ shards_in (option_map settings_view asked) }
     requires commit_log { commit_log ≡ D.commit_log }
     requires ledger { (blank.name ≡ D.name) × (blank.parts ≡ D.parts) }
-    requires parts { blank.parts ≡ sessions_in (option_map settings_seen asked) }
+    requires parts { blank.parts ≡ sessions_in (option_map settings_view asked) }
     requires reading { has_failed reader.old ≡ false }
     requires writing { has_failed writer.old ≡ false }
-    ensures { RunsWith (option_map settings_seen asked.entry)
+    ensures { RunsWith (option_map settings_view asked.entry)
         (Consumes (R.remaining (inner_of reader.old)) (R.remaining (inner_of reader.new)))
-        (Appends (W.contents (inner_of writer.old)) (W.contents (inner_of writer.new))) (exit_seen result) }
+        (Appends (W.contents (inner_of writer.old)) (W.contents (inner_of writer.new))) (exit_view result) }
 {
     let Some(settings) = asked else {
         return WRONG_ARGUMENTS;
@@ -82,7 +82,7 @@ fn hold_session<H: Wait + Threads + Sync + AllocGlobal, R: Read, W: Write>(
     requires writing { has_failed writer.old ≡ false }
     ensures { RunsOneSession settings.entry.db.now
         (Consumes (R.remaining (inner_of reader.old)) (R.remaining (inner_of reader.new)))
-        (Appends (W.contents (inner_of writer.old)) (W.contents (inner_of writer.new))) (exit_seen result) }
+        (Appends (W.contents (inner_of writer.old)) (W.contents (inner_of writer.new))) (exit_view result) }
 {
     match solo(rt, &settings) {
         Ok(mut service) => {
@@ -112,7 +112,7 @@ fn listen<
     requires commit_log { commit_log ≡ D.commit_log }
     requires ledger { (blank.name ≡ D.name) × (blank.parts ≡ D.parts) }
     requires parts { blank.parts ≡ settings.sessions }
-    ensures { IsEndOfListening (exit_seen result) }
+    ensures { IsEndOfListening (exit_view result) }
 {
     let alloc = rt.alloc();
     let opened = Live::<D, WaitForReaders<H>>::open(

@@ -1,5 +1,5 @@
 pub mod Bookmark
 pub mod Letters
 pub mod Reading
-pub mod Seen
+pub mod View
 pub mod Decoding

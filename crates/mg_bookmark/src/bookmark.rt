@@ -25,7 +25,7 @@ pub struct Bookmark {
 impl Bookmark {
     ghost use Rattle.mg_bookmark.specs.Bookmark.{RowPlace, Spells, spelled};
     ghost use Rattle.mg_bookmark.specs.Reading.{bookmark_read};
-    ghost use Rattle.mg_bookmark.specs.Seen.{place_at, bookmark_place};
+    ghost use Rattle.mg_bookmark.specs.View.{place_at, bookmark_place};
 
     /// Writes the text that a client gets: the five parts as a compact JSON array, in URL-safe base64 without
     /// padding (RFC 4648). The design document of `_all_docs` is null, and the direction is `asc` or

@@ -1,7 +1,7 @@
 ghost use Rattle.std.specs.Prelude.{◌≡◌, IfOk, string_bytes};
 ghost use Rattle.mg_value.specs.Text.{compact};
 ghost use Rattle.mg_bookmark.specs.Bookmark.{place_value, spelled};
-ghost use Rattle.mg_bookmark.specs.Seen.{place_at};
+ghost use Rattle.mg_bookmark.specs.View.{place_at};
 
 use crate::text::{with_ddoc, with_direction, with_key, with_text};
 use base64::engine::general_purpose::URL_SAFE_NO_PAD;

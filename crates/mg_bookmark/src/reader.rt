@@ -4,7 +4,7 @@ ghost use Rattle.mg_value.specs.Value.{list, text, Items};
 ghost use Rattle.mg_value.specs.View.{view, items_view};
 ghost use Rattle.mg_bookmark.specs.Bookmark.{RowPlace, place_value, ddoc_value};
 ghost use Rattle.mg_bookmark.specs.Decoding.{five};
-ghost use Rattle.mg_bookmark.specs.Seen.{bookmark_place};
+ghost use Rattle.mg_bookmark.specs.View.{bookmark_place};
 ghost use Rattle.mg_collate.specs.Direction.{direction_name};
 ghost use Rattle.mg_collate.specs.declared.direction.Direction.{Direction as DirectionValue};
 

@@ -6,7 +6,7 @@ ghost use Rattle.mg_value.specs.Text.{Reads, compact};
 ghost use Rattle.mg_value.specs.Value.{Value};
 ghost use Rattle.mg_value.specs.View.{view};
 ghost use Rattle.mg_bookmark.specs.Bookmark.{RowPlace, Spells, place_value};
-ghost use Rattle.mg_bookmark.specs.Seen.{bookmark_place};
+ghost use Rattle.mg_bookmark.specs.View.{bookmark_place};
 ghost use Rattle.mg_bookmark.specs.Decoding.{IsDecoded};
 
 use crate::bookmark::Bookmark;

@@ -6,7 +6,7 @@ ghost use Rattle.mg_value.specs.Text.{compact};
 ghost use Rattle.mg_value.specs.Value.{list, item, text, no_items};
 ghost use Rattle.mg_value.specs.View.{items_view};
 ghost use Rattle.mg_bookmark.specs.Bookmark.{ddoc_value};
-ghost use Rattle.mg_bookmark.specs.Seen.{key_at};
+ghost use Rattle.mg_bookmark.specs.View.{key_at};
 ghost use Rattle.mg_collate.specs.Direction.{direction_name};
 
 use crate::parts::RowKey;

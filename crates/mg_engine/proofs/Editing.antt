@@ -6,7 +6,7 @@ use Rattle.mg_shard.specs.Dealt.{Placing, DraftsStandFor, ShardStandsFor, Shards
 use Rattle.mg_shard.specs.Draft.{DraftStandsFor, DraftView}
 use Rattle.mg_shard.specs.Histories.{Histories}
 use Rattle.mg_shard.specs.Laws.{DraftsBecomeShards, ShardsBecomeDrafts}
-use Rattle.mg_shard.specs.Shard.{ShardView, shards_seen}
+use Rattle.mg_shard.specs.Shard.{ShardView, shards_view}
 use Rattle.mg_shard.proofs.Touched.{untouched}
 use Rattle.mg_engine.specs.Stands.{definitions_of}
 use Rattle.std.specs.Arc.{arc_value}
@@ -34,7 +34,7 @@ nothing [] h = refl
 nothing (x ∷ xs) h = absurd (omega arith)
 
 -- the shard at a position
-pub shard_at : (xs : List (Arc ShardView Global)) (i : ℕ) (x : Arc ShardView Global) → i < length xs → x ≡ get_or xs i x → slice_get (shards_seen xs) i ≡ Some (arc_value x)
+pub shard_at : (xs : List (Arc ShardView Global)) (i : ℕ) (x : Arc ShardView Global) → i < length xs → x ≡ get_or xs i x → slice_get (shards_view xs) i ≡ Some (arc_value x)
 shard_at xs i x l e = slice_get-map (λ (a : Arc ShardView Global). arc_value a) xs i ∙ ap (option_map (λ (a : Arc ShardView Global). arc_value a)) (got_at xs i x l e)
 
 -- the first n items of two joined lists are the first list, if it has n items

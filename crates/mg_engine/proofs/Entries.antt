@@ -7,17 +7,17 @@ use Rattle.mg_doc.specs.Document.{Edit}
 use Rattle.mg_doc.specs.declared.error.EditRefusal.TheVariants.{BadHistory, Conflict}
 use Rattle.mg_shard.specs.Edits.{id_in}
 use Rattle.mg_engine.specs.Bulk.{entries_of, entry_before, entry_of, refused_entry}
-use Rattle.mg_engine.specs.Outcomes.{entries_seen, reply_in, id_seen}
+use Rattle.mg_engine.specs.Outcomes.{entries_view, reply_in, id_view}
 use Rattle.mg_engine.specs.declared.bulk.apply.EditOutcome.{EditOutcome}
 
 -- the entries by the outcomes are those by the edits, if both have the same ids
-pub by_ids : (b : Bool) (es : List Edit) (os : List EditOutcome) → map id_in es ≡ map id_seen os → entries_of b es (map reply_in os) ≡ entries_seen b os
+pub by_ids : (b : Bool) (es : List Edit) (os : List EditOutcome) → map id_in es ≡ map id_view os → entries_of b es (map reply_in os) ≡ entries_view b os
 by_ids b [] [] h = refl
 by_ids b [] (o ∷ os) h = absurd cc
 by_ids b (e ∷ es) [] h = absurd cc
 by_ids b (e ∷ es) (o ∷ os) h =
-    let id : id_in e ≡ id_seen o = cc in
-    let rest : map id_in es ≡ map id_seen os = cc in
+    let id : id_in e ≡ id_view o = cc in
+    let rest : map id_in es ≡ map id_view os = cc in
     ap₂ (λ i vs. entry_before (entry_of b i (reply_in o)) vs) id (by_ids b es os rest)
 
 -- a refused edit has an entry, whether edits are new or not

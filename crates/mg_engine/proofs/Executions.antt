@@ -3,7 +3,7 @@ use Rattle.std.proofs.Common.{◌≡◌, ℕ, ◌+◌, ◌<◌, ◌≤◌, List,
 use Rattle.std.proofs.Math.Seq.{drop-cons}
 use Rattle.std.proofs.Math.ListN.{drop_of_length-le}
 use Rattle.std.proofs.lemmas.List.{map-append}
-use Rattle.mg_engine.specs.View.{asked, said}
+use Rattle.mg_engine.specs.View.{command_view, reply_view}
 use Rattle.mg_engine.specs.declared.command.Command.{Command}
 use Rattle.mg_engine.specs.declared.reply.Reply.{Reply}
 use Rattle.mg_engine.specs.World.{World}
@@ -36,19 +36,19 @@ one_more w c (Some a) now cs rs ends h run =
 
 -- the loop's step: an execution from after the command completes one from before it
 pub goes_on_after : (w u : World) (cs : List Command) (i : ℕ) (c : Command) (replies : List Reply) (r : Reply) (now ends : World → Type 0) (rs : List (Option Answer))
-    → i < length cs → c ≡ get_or cs i c → Answers u (asked c) (said r) now
-    → ((rs : List (Option Answer)) → IsExecution u (map asked (drop i cs)) rs ends → IsExecution w (map asked cs) (map said replies ++ rs) ends)
-    → IsExecution (world_then u (asked c) (said r)) (map asked (drop (i + 1) cs)) rs ends
-    → IsExecution w (map asked cs) (map said (replies ++ r ∷ []) ++ rs) ends
+    → i < length cs → c ≡ get_or cs i c → Answers u (command_view c) (reply_view r) now
+    → ((rs : List (Option Answer)) → IsExecution u (map command_view (drop i cs)) rs ends → IsExecution w (map command_view cs) (map reply_view replies ++ rs) ends)
+    → IsExecution (world_then u (command_view c) (reply_view r)) (map command_view (drop (i + 1) cs)) rs ends
+    → IsExecution w (map command_view cs) (map reply_view (replies ++ r ∷ []) ++ rs) ends
 goes_on_after w u cs i c replies r now ends rs h e did on run =
-    let longer : IsExecution u (asked c ∷ map asked (drop (i + 1) cs)) (said r ∷ rs) ends = one_more u (asked c) (said r) now _ rs ends did run in
-    let all : IsExecution u (map asked (drop i cs)) (said r ∷ rs) ends = rw (drop_item cs i c h e) longer in
-    rw (map-append, append_assoc) (on (said r ∷ rs) all)
+    let longer : IsExecution u (command_view c ∷ map command_view (drop (i + 1) cs)) (reply_view r ∷ rs) ends = one_more u (command_view c) (reply_view r) now _ rs ends did run in
+    let all : IsExecution u (map command_view (drop i cs)) (reply_view r ∷ rs) ends = rw (drop_item cs i c h e) longer in
+    rw (map-append, append_assoc) (on (reply_view r ∷ rs) all)
 
 -- the loop's end: no command is left
 pub ends_here : (w u : World) (cs : List Command) (i : ℕ) (replies : List Reply) (ends : World → Type 0) → length cs ≤ i → ends u
-    → ((rs : List (Option Answer)) → IsExecution u (map asked (drop i cs)) rs ends → IsExecution w (map asked cs) (map said replies ++ rs) ends)
-    → IsExecution w (map asked cs) (map said replies) ends
+    → ((rs : List (Option Answer)) → IsExecution u (map command_view (drop i cs)) rs ends → IsExecution w (map command_view cs) (map reply_view replies ++ rs) ends)
+    → IsExecution w (map command_view cs) (map reply_view replies) ends
 ends_here w u cs i replies ends h st on =
-    let none : IsExecution u (map asked (drop i cs)) [] ends = rw (drop_of_length-le cs h) (over u ends st) in
+    let none : IsExecution u (map command_view (drop i cs)) [] ends = rw (drop_of_length-le cs h) (over u ends st) in
     rw append-nil at (on [] none)

@@ -13,7 +13,7 @@ use Rattle.std.specs.declared.alloc.Global.{Global}
 use Rattle.std.specs.declared.vec.Vec.{Vec}
 use Rattle.mg_value.specs.Results.{◌>>=◌}
 use Rattle.mg_engine.specs.Bulk.{are_objects, edits_or_refusal, refusal_of_document}
-use Rattle.mg_engine.specs.BulkView.{edits_seen}
+use Rattle.mg_engine.specs.BulkView.{edits_view}
 use Rattle.mg_engine.specs.Faults.{ReadsAs, fault_of}
 use Rattle.mg_engine.specs.declared.fault.Fault.{Fault}
 
@@ -42,15 +42,15 @@ refused found d first rest is = rw is
 -- the fault of the next document, as an error, is the refusal of the bulk, unless memory was refused
 pub refused_as : (new_edits : Bool) (all : Result (List Edit) DocError) (found : List Edit) (fault : DocError) (first : Result Edit DocError) (rest : Result (List Edit) DocError)
     → all ≡ edits_before found (edit_then first rest) → document.ReadsAs first (Err fault) → (made : Result (Vec Edit Global) Fault)
-    → IsErr made × IsErrAnd made (λ e. e ≡ fault_of (refusal_of_document fault)) → ReadsAs (edits_seen new_edits) made (edits_or_refusal new_edits all)
+    → IsErr made × IsErrAnd made (λ e. e ≡ fault_of (refusal_of_document fault)) → ReadsAs (edits_view new_edits) made (edits_or_refusal new_edits all)
 refused_as n all found fault first rest is read (Ok es) e = let never = e.0 in absurd cc
-refused_as n all found document_fault.NoMemory first rest is read (Err f) e = subst (λ f. ReadsAs (edits_seen n) (Err f) (edits_or_refusal n all)) (sym e.1) tt
+refused_as n all found document_fault.NoMemory first rest is read (Err f) e = subst (λ f. ReadsAs (edits_view n) (Err f) (edits_or_refusal n all)) (sym e.1) tt
 refused_as n all found document_fault.BadMember first rest is read (Err f) e =
-    subst (λ f. ReadsAs (edits_seen n) (Err f) (edits_or_refusal n all)) (sym e.1) (ap (edits_or_refusal n) (is ∙ refused found document_fault.BadMember first rest read))
+    subst (λ f. ReadsAs (edits_view n) (Err f) (edits_or_refusal n all)) (sym e.1) (ap (edits_or_refusal n) (is ∙ refused found document_fault.BadMember first rest read))
 refused_as n all found document_fault.BadId first rest is read (Err f) e =
-    subst (λ f. ReadsAs (edits_seen n) (Err f) (edits_or_refusal n all)) (sym e.1) (ap (edits_or_refusal n) (is ∙ refused found document_fault.BadId first rest read))
+    subst (λ f. ReadsAs (edits_view n) (Err f) (edits_or_refusal n all)) (sym e.1) (ap (edits_or_refusal n) (is ∙ refused found document_fault.BadId first rest read))
 refused_as n all found document_fault.BadRev first rest is read (Err f) e =
-    subst (λ f. ReadsAs (edits_seen n) (Err f) (edits_or_refusal n all)) (sym e.1) (ap (edits_or_refusal n) (is ∙ refused found document_fault.BadRev first rest read))
+    subst (λ f. ReadsAs (edits_view n) (Err f) (edits_or_refusal n all)) (sym e.1) (ap (edits_or_refusal n) (is ∙ refused found document_fault.BadRev first rest read))
 
 pub all_before : (found : List Edit) → edits_before found (Ok []) ≡ Ok found
 all_before found = ap Ok (append-nil found)

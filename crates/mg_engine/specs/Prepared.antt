@@ -9,7 +9,7 @@ use Rattle.mg_engine.specs.declared.bulk.read.PreparedBulk.TheVariants.{Edits, R
 use Rattle.mg_engine.specs.declared.prepared.Task.{Task}
 use Rattle.mg_engine.specs.declared.prepared.Task.TheVariants.{Apply, Execute}
 use Rattle.mg_engine.specs.declared.refusal.Refusal.{Refusal}
-use Rattle.mg_engine.specs.View.{asked}
+use Rattle.mg_engine.specs.View.{command_view}
 
 -- in every world the command has the effect of these edits
 pub record Makes (new_edits : Bool) (es : List Edit) (c : Asked) : Type 0 where
@@ -32,4 +32,4 @@ Determines (Refused r) c = AlwaysRefused r c
 -- in every world the task does what the command asks
 abbrev pub Does : Task → Asked → Type 0
 Does (Apply read) c = Determines read c
-Does (Execute command) c = asked command ≡ c
+Does (Execute command) c = command_view command ≡ c

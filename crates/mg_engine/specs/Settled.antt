@@ -7,7 +7,7 @@ use Rattle.mg_shard.specs.Shard.{ShardView}
 use Rattle.mg_scan.specs.Built.{with_index}
 use Rattle.mg_engine.specs.Commands.{Answer}
 use Rattle.mg_engine.specs.Stands.{StateView}
-use Rattle.mg_engine.specs.View.{said}
+use Rattle.mg_engine.specs.View.{reply_view}
 use Rattle.mg_engine.specs.declared.reply.Reply.{Reply}
 use Rattle.mg_engine.specs.declared.reply.Reply.TheVariants.{NoMemory}
 
@@ -17,7 +17,7 @@ is_accepted a = a.status == 200 || a.status == 201
 
 -- whether a reply accepts its command; `NoMemory` does not
 abbrev pub accepts : Reply → Bool
-accepts r = option_map_or is_accepted (said r) false
+accepts r = option_map_or is_accepted (reply_view r) false
 
 -- there is a next state, which may equal the one before it, if and only if the reply accepts its command
 abbrev pub IsSettled : {X : Type 0} → Reply → Option X → Type 0

@@ -5,18 +5,18 @@ use Rattle.std.specs.FinMap as finite
 use Rattle.mg_shard.specs.Documents.{StandFor}
 use Rattle.mg_shard.specs.Draft.{DraftStandsFor, DraftView}
 use Rattle.mg_shard.specs.Histories.{Histories}
-use Rattle.mg_shard.specs.Shard.{ShardView, shards_seen}
+use Rattle.mg_shard.specs.Shard.{ShardView, shards_view}
 use Rattle.mg_engine.specs.Stands.{HaveRows, StateView}
 use Rattle.mg_engine.specs.declared.state.State.TheInside.{Inside}
 
 -- the name, the catalog, the shards and the number that a state holds
-abbrev pub state_shown : Inside → StateView
-state_shown s = record { name = string_bytes (arc_value s.name); catalog = arc_value s.catalog; shards = shards_seen s.shards.items; counter = s.counter }
+abbrev pub state_view : Inside → StateView
+state_view s = record { name = string_bytes (arc_value s.name); catalog = arc_value s.catalog; shards = shards_view s.shards.items; counter = s.counter }
 
 -- there is a shard, and each shard has the rows of the catalog's indexes and of no other index
 pub record IsIndexed (s : Inside) : Type 0 where
   pub some : 0 < length s.shards.items
-  pub rows : HaveRows (arc_value s.catalog) (shards_seen s.shards.items)
+  pub rows : HaveRows (arc_value s.catalog) (shards_view s.shards.items)
 
 -- a shard without documents and indexes
 abbrev pub empty_shard : ShardView

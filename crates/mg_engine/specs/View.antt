@@ -9,20 +9,20 @@ use Rattle.mg_engine.specs.declared.reply.Reply.TheVariants.{Full, NoMemory}
 use Rattle.mg_engine.specs.declared.refusal.Refusal.TheVariants.{OutOfMemory}
 
 -- what a command asks
-abbrev pub asked : Command → Asked
-asked (Bulk body) = bulk body
-asked (CreateIndex body) = create_index (view body)
-asked (DropIndex ddoc name) = drop_index (string_bytes ddoc) (string_bytes name)
-asked ListIndexes = list_indexes
-asked (Find body) = find (view body)
-asked (Explain body) = explain (view body)
-asked (Get id conflicts) = get (string_bytes id) conflicts
-asked (Reshard body) = reshard (view body)
+abbrev pub command_view : Command → Asked
+command_view (Bulk body) = bulk body
+command_view (CreateIndex body) = create_index (view body)
+command_view (DropIndex ddoc name) = drop_index (string_bytes ddoc) (string_bytes name)
+command_view ListIndexes = list_indexes
+command_view (Find body) = find (view body)
+command_view (Explain body) = explain (view body)
+command_view (Get id conflicts) = get (string_bytes id) conflicts
+command_view (Reshard body) = reshard (view body)
 
 -- a complete reply as an answer; `None` for `NoMemory`
-abbrev pub said : Reply → Option Answer
-said (Full status body) = Some (record { status = status; body = body.items })
-said NoMemory = None
+abbrev pub reply_view : Reply → Option Answer
+reply_view (Full status body) = Some (record { status = status; body = body.items })
+reply_view NoMemory = None
 
 -- the answer that a client gets; for `NoMemory`, the refusal `OutOfMemory`
 abbrev pub answer_in : Reply → Answer

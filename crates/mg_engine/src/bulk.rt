@@ -5,7 +5,7 @@ ghost use Rattle.mg_engine.specs.Objects.{BringObjects};
 ghost use Rattle.mg_engine.specs.Prepared.{Determines};
 ghost use Rattle.mg_engine.specs.Settled.{IsSettled, accepts};
 ghost use Rattle.mg_engine.specs.Stands.{StateStandsFor};
-ghost use Rattle.mg_engine.specs.View.{said};
+ghost use Rattle.mg_engine.specs.View.{reply_view};
 ghost use Rattle.mg_engine.specs.World.{World};
 
 mod apply;
@@ -37,7 +37,7 @@ impl State {
         body: &Packed,
     ) -> Result<(Reply, Option<State>), NoMemory>
         ensures does { IfOk result (λ r. (w : World) → StateStandsFor (P.place placement.now) self.now w
-            → (said r.0 ≡ Some (reply_of w (bulk body.now)))
+            → (reply_view r.0 ≡ Some (reply_of w (bulk body.now)))
             × StateStandsFor (P.place placement.now) (unwrap_or r.1 self.now)
             (next w (bulk body.now))) }
         ensures settled { IfOk result (λ r. IsSettled r.0 r.1) }
@@ -61,7 +61,7 @@ impl State {
         ensures does { IfOk result
             (λ r. (c : Asked) → Determines read c → (w : World)
             → StateStandsFor (P.place placement.now) self.now w
-            → (said r.0 ≡ Some (reply_of w c))
+            → (reply_view r.0 ≡ Some (reply_of w c))
             × StateStandsFor (P.place placement.now) (unwrap_or r.1 self.now) (next w c)) }
         ensures settled { IfOk result (λ r. IsSettled r.0 r.1) }
         ensures number { IfOk result (λ r. length (unwrap_or r.1 self.now).shards ≡ length self.now.shards) }
@@ -84,7 +84,7 @@ impl State {
         edits: Vec<Edit>,
     ) -> Result<(Reply, State), NoMemory>
         ensures reply { IfOk result (λ r. (w : World) → StateStandsFor (P.place placement.now) self.now w
-            → said r.0 ≡ Some (edits_effect w new_edits edits.items).answer) }
+            → reply_view r.0 ≡ Some (edits_effect w new_edits edits.items).answer) }
         ensures holds { IfOk result
             (λ r. (w : World) → BringObjects edits.items → StateStandsFor (P.place placement.now) self.now w
             → StateStandsFor (P.place placement.now) r.1 (edits_effect w new_edits edits.items).world) }

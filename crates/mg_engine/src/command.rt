@@ -1,6 +1,6 @@
 ghost use Rattle.std.specs.Prelude.{◌≡◌, IfOk};
 ghost use Rattle.mg_engine.specs.Commands.{is_write};
-ghost use Rattle.mg_engine.specs.View.{asked};
+ghost use Rattle.mg_engine.specs.View.{command_view};
 
 use mg_packed::Packed;
 use mg_value::{Json, NoMemory};
@@ -32,7 +32,7 @@ pub enum Command {
 impl Command {
     /// Whether the command is a write, that is, may change documents, indexes or the number of shards. Takes no memory.
     pub fn is_write(&self) -> bool
-        ensures { result ≡ is_write (asked self.now) }
+        ensures { result ≡ is_write (command_view self.now) }
     {
         match self {
             Command::Bulk(_) => true,
@@ -51,7 +51,7 @@ impl Command {
 
     /// Copies the command. Errors: `NoMemory` if an allocation fails. Cost: the size of what the command carries.
     pub fn copy(&self, alloc: Global) -> Result<Command, NoMemory>
-        ensures { IfOk result (λ c. asked c ≡ asked self.now) }
+        ensures { IfOk result (λ c. command_view c ≡ command_view self.now) }
     {
         match self {
             Command::Bulk(body) => Ok(Command::Bulk(body.copy(alloc)?)),

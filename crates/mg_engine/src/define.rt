@@ -8,8 +8,8 @@ ghost use Rattle.mg_engine.specs.Commands.{create_index, create_answer, drop_ind
 ghost use Rattle.mg_engine.specs.Settled.{IsSettled, accepts, shard_without, state_with, state_without};
 ghost use Rattle.mg_scan.specs.Built.{with_index};
 ghost use Rattle.mg_engine.specs.Stands.{StateStandsFor};
-ghost use Rattle.mg_shard.specs.Shard.{shards_seen};
-ghost use Rattle.mg_engine.specs.View.{said};
+ghost use Rattle.mg_shard.specs.Shard.{shards_view};
+ghost use Rattle.mg_engine.specs.View.{reply_view};
 ghost use Rattle.mg_engine.specs.World.{World};
 ghost use Rattle.mg_shard.specs.Dealt.{Placing};
 
@@ -41,7 +41,7 @@ impl State {
         body: &Json,
     ) -> Result<(Reply, Option<State>), NoMemory>
         ensures does { IfOk result (λ r. (place : Placing) (w : World) → StateStandsFor place self.now w
-            → (said r.0 ≡ Some (reply_of w (create_index (view body.now))))
+            → (reply_view r.0 ≡ Some (reply_of w (create_index (view body.now))))
             × StateStandsFor place (unwrap_or r.1 self.now) (next w (create_index (view body.now)))) }
         ensures settled { IfOk result (λ r. IsSettled r.0 r.1) }
         ensures number { IfOk result (λ r. length (unwrap_or r.1 self.now).shards ≡ length self.now.shards) }
@@ -65,7 +65,7 @@ impl State {
         definition: IndexDef,
     ) -> Result<(Reply, State), NoMemory>
         ensures does { IfOk result (λ r. (place : Placing) (w : World) → StateStandsFor place self.now w
-            → (said r.0 ≡ Some (create_answer w (Ok definition)))
+            → (reply_view r.0 ≡ Some (create_answer w (Ok definition)))
             × StateStandsFor place r.1 (world_defined w (Ok definition))) }
         ensures accepted { IfOk result (λ r. accepts r.0 ≡ true) }
         ensures number { IfOk result (λ r. length r.1.shards ≡ length self.now.shards) }
@@ -124,7 +124,7 @@ impl State {
         name: &str,
     ) -> Result<(Reply, Option<State>), NoMemory>
         ensures does { IfOk result (λ r. (place : Placing) (w : World) → StateStandsFor place self.now w
-            → (said r.0 ≡ Some (reply_of w (drop_index ddoc.now name.now)))
+            → (reply_view r.0 ≡ Some (reply_of w (drop_index ddoc.now name.now)))
             × StateStandsFor place (unwrap_or r.1 self.now) (next w (drop_index ddoc.now name.now))) }
         ensures settled { IfOk result (λ r. IsSettled r.0 r.1) }
         ensures number { IfOk result (λ r. length (unwrap_or r.1 self.now).shards ≡ length self.now.shards) }
@@ -152,7 +152,7 @@ impl State {
     pub(crate) fn list_indexes(&self, alloc: Global) -> Result<Reply, NoMemory>
         ensures { IfOk result
             (λ r. (place : Placing) (w : World) → StateStandsFor place self.now w
-            → said r ≡ Some (reply_of w list_indexes)) }
+            → reply_view r ≡ Some (reply_of w list_indexes)) }
     {
         let indexes = indexes_json(alloc, self.catalog.list())?;
         let body = line(alloc, &indexes)?;
@@ -208,7 +208,7 @@ fn build_on_all<R: Threads + Sync, G>(
     definition: &IndexDef,
 ) -> Result<Vec<Arc<Shard>>, NoMemory>
     ensures { IfOk result
-        (λ v. shards_seen v.items ≡ map (with_index definition.now) (shards_seen shards.now)) }
+        (λ v. shards_view v.items ≡ map (with_index definition.now) (shards_view shards.now)) }
 {
     let alloc = context.alloc;
     let workers = context.workers.count();
@@ -224,7 +224,7 @@ fn drop_from_all(
     name: &str,
 ) -> Result<Vec<Arc<Shard>>, NoMemory>
     ensures { IfOk result
-        (λ v. shards_seen v.items ≡ map (shard_without ddoc.now name.now) (shards_seen shards.now)) }
+        (λ v. shards_view v.items ≡ map (shard_without ddoc.now name.now) (shards_view shards.now)) }
 {
     let mut all = Vec::with_capacity(alloc, shards.len())?;
     for shard in shards {

@@ -2,9 +2,9 @@ ghost use Rattle.std.specs.Prelude.{◌≡◌, ◌≤◌, All, IfOk, IfNone, IfS
 ghost use Rattle.mg_engine.specs.Commands.{is_write, reply_of, shards_after, shards_after_all};
 ghost use Rattle.mg_engine.specs.Settled.{IsSettled};
 ghost use Rattle.mg_engine.specs.World.{World, empty_world};
-ghost use Rattle.mg_engine.specs.View.{asked, said};
+ghost use Rattle.mg_engine.specs.View.{command_view, reply_view};
 ghost use Rattle.mg_engine.specs.Stands.{Stands, shard_count};
-ghost use Rattle.mg_shard.specs.Shard.{shards_seen};
+ghost use Rattle.mg_shard.specs.Shard.{shards_view};
 ghost use Rattle.mg_engine.specs.Execution.{Answers, IsExecution, answered_commands};
 
 use crate::command::Command;
@@ -81,10 +81,10 @@ impl<P: Placement + Drop> Engine<P> {
         // For each world that the engine stands for, the reply is the one that the definitions give, and the engine
         // then stands for the world that the command leaves; or memory was refused, and it stands for the same world.
         ensures answers { (w : World) → Stands P.place self.old w
-            → Answers w (asked command.now) (said result) (Stands P.place self.new) }
-        ensures refused { IfNone (said result) (self.new ≡ self.old) }
-        ensures shards { IfSome (said result)
-            (λ _. shard_count self.new ≡ shards_after (shard_count self.old) (asked command.now)) }
+            → Answers w (command_view command.now) (reply_view result) (Stands P.place self.new) }
+        ensures refused { IfNone (reply_view result) (self.new ≡ self.old) }
+        ensures shards { IfSome (reply_view result)
+            (λ _. shard_count self.new ≡ shards_after (shard_count self.old) (command_view command.now)) }
         ensures placement { self.new.0 ≡ self.old.0 }
     {
         let context = Context {
@@ -112,10 +112,10 @@ impl<P: Placement + Drop> Engine<P> {
         requires some { 1 ≤ workers }
         requires most { workers ≤ 32 }
         ensures answers { (w : World) → Stands P.place self.old w
-            → Answers w (asked command) (said result) (Stands P.place self.new) }
-        ensures refused { IfNone (said result) (self.new ≡ self.old) }
-        ensures shards { IfSome (said result)
-            (λ _. shard_count self.new ≡ shards_after (shard_count self.old) (asked command)) }
+            → Answers w (command_view command) (reply_view result) (Stands P.place self.new) }
+        ensures refused { IfNone (reply_view result) (self.new ≡ self.old) }
+        ensures shards { IfSome (reply_view result)
+            (λ _. shard_count self.new ≡ shards_after (shard_count self.old) (command_view command)) }
         ensures placement { self.new.0 ≡ self.old.0 }
     {
         if !command.is_write() {
@@ -140,11 +140,11 @@ impl<P: Placement + Drop> Engine<P> {
         workers: usize,
         gate: &G,
     ) -> Reply
-        requires read { is_write (asked command.now) ≡ false }
+        requires read { is_write (command_view command.now) ≡ false }
         requires some { 1 ≤ workers }
         requires most { workers ≤ 32 }
         ensures { (w : World) → Stands P.place self.now w
-            → IfSome (said result) (λ a. a ≡ reply_of w (asked command.now)) }
+            → IfSome (reply_view result) (λ a. a ≡ reply_of w (command_view command.now)) }
     {
         self.answer_by(rt, alloc, command, Workers::exactly(workers), gate)
     }
@@ -159,9 +159,9 @@ impl<P: Placement + Drop> Engine<P> {
         workers: Workers,
         gate: &G,
     ) -> Reply
-        requires read { is_write (asked command.now) ≡ false }
+        requires read { is_write (command_view command.now) ≡ false }
         ensures { (w : World) → Stands P.place self.now w
-            → IfSome (said result) (λ a. a ≡ reply_of w (asked command.now)) }
+            → IfSome (reply_view result) (λ a. a ≡ reply_of w (command_view command.now)) }
     {
         let context = Context {
             rt,
@@ -182,14 +182,14 @@ impl<P: Placement + Drop> Engine<P> {
         command: Command,
         workers: usize,
     ) -> (Reply, Option<Engine<P>>)
-        requires write { is_write (asked command) ≡ true }
+        requires write { is_write (command_view command) ≡ true }
         requires some { 1 ≤ workers }
         requires most { workers ≤ 32 }
         ensures answers { (w : World) → Stands P.place self.now w
-            → Answers w (asked command) (said result.0) (Stands P.place (unwrap_or result.1 self.now)) }
+            → Answers w (command_view command) (reply_view result.0) (Stands P.place (unwrap_or result.1 self.now)) }
         ensures next { IsSettled result.0 result.1 }
-        ensures shards { IfSome (said result.0) (λ _. shard_count (unwrap_or result.1 self.now)
-            ≡ shards_after (shard_count self.now) (asked command)) }
+        ensures shards { IfSome (reply_view result.0) (λ _. shard_count (unwrap_or result.1 self.now)
+            ≡ shards_after (shard_count self.now) (command_view command)) }
         ensures placement { IfSome result.1 (λ next. next.0 ≡ self.now.0) }
     {
         match Prepared::of(alloc, command) {
@@ -209,9 +209,9 @@ impl<P: Placement + Drop> Engine<P> {
     ) -> (Reply, Option<Engine<P>>)
         requires write { is_write prepared ≡ true }
         ensures answers { (w : World) → Stands P.place self.now w
-            → Answers w prepared (said result.0) (Stands P.place (unwrap_or result.1 self.now)) }
+            → Answers w prepared (reply_view result.0) (Stands P.place (unwrap_or result.1 self.now)) }
         ensures next { IsSettled result.0 result.1 }
-        ensures shards { IfSome (said result.0) (λ _. shard_count (unwrap_or result.1 self.now)
+        ensures shards { IfSome (reply_view result.0) (λ _. shard_count (unwrap_or result.1 self.now)
             ≡ shards_after (shard_count self.now) prepared) }
         ensures placement { IfSome result.1 (λ next. next.0 ≡ self.now.0) }
     {
@@ -242,8 +242,8 @@ impl<P: Placement + Drop> Engine<P> {
 
     /// Returns the shards. Each has the rows of the indexes of the catalog, and of no other index. Takes no memory.
     pub fn shards(&self) -> &[Arc<Shard>]
-        ensures shards { shards_seen result.now ≡ self.now.1.shards }
-        ensures rows { All (λ s. s.definitions ≡ self.now.1.catalog) (shards_seen result.now) }
+        ensures shards { shards_view result.now ≡ self.now.1.shards }
+        ensures rows { All (λ s. s.definitions ≡ self.now.1.catalog) (shards_view result.now) }
     {
         self.state.indexed_shards()
     }
@@ -262,12 +262,12 @@ impl<P: Placement + Drop> Engine<P> {
         requires some { 1 ≤ workers }
         requires most { workers ≤ 32 }
         ensures run { (w : World) → Stands P.place self.old w → IfOk result
-            (λ replies. IsExecution w (map asked commands.now) (map said replies.items)
+            (λ replies. IsExecution w (map command_view commands.now) (map reply_view replies.items)
             (Stands P.place self.new)) }
         ensures none_run { OnErr result (self.new ≡ self.old) }
         ensures shards { IfOk result (λ replies. shard_count self.new
             ≡ shards_after_all (shard_count self.old)
-            (answered_commands (map asked commands.now) (map said replies.items))) }
+            (answered_commands (map command_view commands.now) (map reply_view replies.items))) }
         ensures placement { self.new.0 ≡ self.old.0 }
     {
         let mut replies = Vec::with_capacity(alloc, commands.len())?;

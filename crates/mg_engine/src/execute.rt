@@ -4,7 +4,7 @@ ghost use Rattle.mg_engine.specs.Commands.{is_write, shards_after};
 ghost use Rattle.mg_engine.specs.Execution.{Answers};
 ghost use Rattle.mg_engine.specs.Settled.{IsSettled, reply_made, settled_of};
 ghost use Rattle.mg_engine.specs.Stands.{StateStandsFor};
-ghost use Rattle.mg_engine.specs.View.{asked, said};
+ghost use Rattle.mg_engine.specs.View.{command_view, reply_view};
 ghost use Rattle.mg_engine.specs.World.{World};
 
 use crate::command::Command;
@@ -28,12 +28,12 @@ impl State {
         command: &Command,
     ) -> (Reply, Option<State>)
         ensures answers { (w : World) → StateStandsFor (P.place placement.now) self.now w
-            → Answers w (asked command.now) (said result.0)
+            → Answers w (command_view command.now) (reply_view result.0)
             (StateStandsFor (P.place placement.now) (unwrap_or result.1 self.now)) }
-        ensures write { is_write (asked command.now) ≡ true → IsSettled result.0 result.1 }
-        ensures read { is_write (asked command.now) ≡ false → result.1 ≡ None }
-        ensures number { IfSome (said result.0) (λ _. length (unwrap_or result.1 self.now).shards
-            ≡ shards_after (length self.now.shards) (asked command.now)) }
+        ensures write { is_write (command_view command.now) ≡ true → IsSettled result.0 result.1 }
+        ensures read { is_write (command_view command.now) ≡ false → result.1 ≡ None }
+        ensures number { IfSome (reply_view result.0) (λ _. length (unwrap_or result.1 self.now).shards
+            ≡ shards_after (length self.now.shards) (command_view command.now)) }
     {
         match command {
             Command::Bulk(body) => answer_write(self.bulk(context.alloc, placement, body)),
@@ -64,10 +64,10 @@ impl State {
         prepared: Prepared,
     ) -> (Reply, Option<State>)
         ensures answers { (w : World) → StateStandsFor (P.place placement.now) self.now w
-            → Answers w prepared (said result.0)
+            → Answers w prepared (reply_view result.0)
             (StateStandsFor (P.place placement.now) (unwrap_or result.1 self.now)) }
         ensures write { is_write prepared ≡ true → IsSettled result.0 result.1 }
-        ensures number { IfSome (said result.0) (λ _. length (unwrap_or result.1 self.now).shards
+        ensures number { IfSome (reply_view result.0) (λ _. length (unwrap_or result.1 self.now).shards
             ≡ shards_after (length self.now.shards) prepared) }
     {
         let Prepared { given: _, task } = prepared;

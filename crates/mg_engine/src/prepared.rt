@@ -1,7 +1,7 @@
 //! Prepared commands: the documents of a bulk are read before the command is executed, since this needs no state.
 ghost use Rattle.std.specs.Prelude.{◌≡◌, IfOk};
 ghost use Rattle.mg_engine.specs.Prepared.{Does};
-ghost use Rattle.mg_engine.specs.View.{asked};
+ghost use Rattle.mg_engine.specs.View.{command_view};
 
 use crate::bulk::PreparedBulk;
 use crate::command::Command;
@@ -36,11 +36,11 @@ impl Model for Prepared {
     ghost coded = { asked_code };
 
     ghost use Rattle.mg_engine.specs.Prepared.{Does};
-    ghost use Rattle.mg_engine.specs.View.{asked};
+    ghost use Rattle.mg_engine.specs.View.{command_view};
 
-    ghost view = { λ p. asked p.given.value };
+    ghost view = { λ p. command_view p.given.value };
 
-    ghost invariant = { λ p. Does p.task (asked p.given.value) };
+    ghost invariant = { λ p. Does p.task (command_view p.given.value) };
 }
 
 impl Prepared {
@@ -50,7 +50,7 @@ impl Prepared {
     /// Errors: `NoMemory` if an allocation fails; the command is then dropped. Cost: that of `Edit::read` for each document of a bulk;
     /// constant for any other command.
     pub fn of(alloc: Global, command: Command) -> Result<Prepared, NoMemory>
-        ensures { IfOk result (λ p. p ≡ asked command) }
+        ensures { IfOk result (λ p. p ≡ command_view command) }
     {
         let given = Snapshot::of(&command);
         let task = Task::of(alloc, command)?;
@@ -61,7 +61,7 @@ impl Prepared {
 impl Task {
     // Returns what is to be done for a command. Reads the documents of a bulk into edits.
     fn of(alloc: Global, command: Command) -> Result<Task, NoMemory>
-        ensures { IfOk result (λ t. Does t (asked command)) }
+        ensures { IfOk result (λ t. Does t (command_view command)) }
     {
         match command {
             Command::Bulk(body) => Ok(Task::Apply(PreparedBulk::of(alloc, &body)?)),

@@ -4,13 +4,13 @@ ghost use Rattle.mg_value.specs.View.{view};
 ghost use Rattle.mg_shard.specs.Dealt.{Placing, ShardsStandFor};
 ghost use Rattle.mg_query.specs.Page.{candidates_of};
 ghost use Rattle.mg_query.specs.Query.{query_of};
-ghost use Rattle.mg_query.specs.Seen.{query_seen};
+ghost use Rattle.mg_query.specs.View.{query_view};
 ghost use Rattle.mg_query.specs.Served.{HaveIdsAndRevs};
 ghost use Rattle.mg_engine.specs.Commands.{Answer, explain, explain_answer, find, answer_of_query, reply_of};
 ghost use Rattle.mg_engine.specs.Stands.{StateStandsFor};
-ghost use Rattle.mg_shard.specs.Shard.{HaveIndexes, shards_seen};
+ghost use Rattle.mg_shard.specs.Shard.{HaveIndexes, shards_view};
 ghost use Rattle.mg_engine.specs.Answering.{MakesAnswer};
-ghost use Rattle.mg_engine.specs.View.{said};
+ghost use Rattle.mg_engine.specs.View.{reply_view};
 ghost use Rattle.mg_engine.specs.World.{World};
 
 use crate::body::{line, with_line_feed};
@@ -39,7 +39,7 @@ impl State {
     ) -> Result<Reply, NoMemory>
         ensures { IfOk result
             (λ r. (place : Placing) (w : World) → StateStandsFor place self.now w
-            → said r ≡ Some (reply_of w (find (view body.now)))) }
+            → reply_view r ≡ Some (reply_of w (find (view body.now)))) }
     {
         let line = page_line(context, &self.catalog, self.indexed_shards(), body);
         let reply = make_reply(context.alloc, line)?;
@@ -51,7 +51,7 @@ impl State {
     pub(crate) fn explain(&self, alloc: Global, body: &Json) -> Result<Reply, NoMemory>
         ensures { IfOk result
             (λ r. (place : Placing) (w : World) → StateStandsFor place self.now w
-            → said r ≡ Some (reply_of w (explain (view body.now)))) }
+            → reply_view r ≡ Some (reply_of w (explain (view body.now)))) }
     {
         let line = explanation_line(alloc, &self.name, &self.catalog, body);
         let reply = make_reply(alloc, line)?;
@@ -67,8 +67,8 @@ fn page_line<R: Threads + Sync, G: Gate + Sync>(
     shards: &[Arc<Shard>],
     body: &Json,
 ) -> Result<Vec<u8>, Fault>
-    requires indexes { HaveIndexes catalog.now (shards_seen shards.now) }
-    ensures { (place : Placing) (w : World) → ShardsStandFor place (shards_seen shards.now) w.docs
+    requires indexes { HaveIndexes catalog.now (shards_view shards.now) }
+    ensures { (place : Placing) (w : World) → ShardsStandFor place (shards_view shards.now) w.docs
         → HaveIdsAndRevs (candidates_of w.docs)
         → w.indexes ≡ catalog.now → MakesAnswer result (answer_of_query w (query_of (view body.now))) }
 {
@@ -83,10 +83,10 @@ fn answer_line<R: Threads + Sync, G: Gate + Sync>(
     shards: &[Arc<Shard>],
     query: &Query<'_>,
 ) -> Result<Vec<u8>, Fault>
-    requires indexes { HaveIndexes catalog.now (shards_seen shards.now) }
-    ensures { (place : Placing) (w : World) → ShardsStandFor place (shards_seen shards.now) w.docs
+    requires indexes { HaveIndexes catalog.now (shards_view shards.now) }
+    ensures { (place : Placing) (w : World) → ShardsStandFor place (shards_view shards.now) w.docs
         → HaveIdsAndRevs (candidates_of w.docs)
-        → w.indexes ≡ catalog.now → MakesAnswer result (answer_of_query w (Ok (query_seen query.now))) }
+        → w.indexes ≡ catalog.now → MakesAnswer result (answer_of_query w (Ok (query_view query.now))) }
 {
     let Context {
         rt,
@@ -121,7 +121,7 @@ fn explanation_line(
 
 // Makes the reply: status 200 with the body, or the refusal. Errors: `NoMemory` if the body is that error, or if an allocation fails.
 fn make_reply(alloc: Global, body: Result<Vec<u8>, Fault>) -> Result<Reply, NoMemory>
-    ensures { IfOk result (λ r. (a : Answer) → MakesAnswer body a → said r ≡ Some a) }
+    ensures { IfOk result (λ r. (a : Answer) → MakesAnswer body a → reply_view r ≡ Some a) }
 {
     match body {
         Ok(body) => Ok(Reply::Full { status: 200, body }),

@@ -9,8 +9,8 @@ ghost use Rattle.mg_shard.specs.Documents.{StandsAt, form_of};
 ghost use Rattle.mg_engine.specs.Bodies.{line_of};
 ghost use Rattle.mg_engine.specs.Commands.{get_answer};
 ghost use Rattle.mg_engine.specs.Stands.{StateStandsFor};
-ghost use Rattle.mg_shard.specs.Shard.{shards_seen};
-ghost use Rattle.mg_engine.specs.View.{said};
+ghost use Rattle.mg_shard.specs.Shard.{shards_view};
+ghost use Rattle.mg_engine.specs.View.{reply_view};
 ghost use Rattle.mg_engine.specs.World.{World};
 
 use crate::body::{line, text_line, with_line_feed};
@@ -39,7 +39,7 @@ impl State {
         conflicts: bool,
     ) -> Result<Reply, NoMemory>
         ensures { IfOk result (λ r. (w : World) → StateStandsFor (P.place placement.now) self.now w
-            → said r ≡ Some (get_answer id.now conflicts (finite.get w.docs id.now))) }
+            → reply_view r ≡ Some (get_answer id.now conflicts (finite.get w.docs id.now))) }
     {
         each_id_has_its_shard();
         let shard = shard_of(placement, &self.shards, id);
@@ -51,8 +51,8 @@ impl State {
 // Returns the shard on which an id is placed.
 fn shard_of<'a, P: Placement>(placement: &P, shards: &'a [Arc<Shard>], id: &str) -> &'a Shard
     requires { 0 < length shards.now }
-    ensures { slice_get (shards_seen shards.now)
-        (P.place placement.now id.now (length (shards_seen shards.now))) ≡ Some result.now }
+    ensures { slice_get (shards_view shards.now)
+        (P.place placement.now id.now (length (shards_view shards.now))) ≡ Some result.now }
 {
     let place = placement.shard_of(id, shards.len());
     let shard = &shards[place];
@@ -62,7 +62,7 @@ fn shard_of<'a, P: Placement>(placement: &P, shards: &'a [Arc<Shard>], id: &str)
 // Makes the reply to a `GET` of a document. Its id is placed on this shard.
 fn get_from(alloc: Global, shard: &Shard, id: &str, conflicts: bool) -> Result<Reply, NoMemory>
     ensures { IfOk result (λ r. (o : Option Paths) → StandsAt id.now (get shard.now.documents id.now) o
-        → said r ≡ Some (get_answer id.now conflicts o)) }
+        → reply_view r ≡ Some (get_answer id.now conflicts o)) }
 {
     let Some(document) = shard.document(id) else {
         return Ok(Reply::refusing(alloc, Refusal::Missing)?);

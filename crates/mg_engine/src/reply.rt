@@ -15,7 +15,7 @@ pub enum Reply {
 }
 
 impl Reply {
-    ghost use Rattle.mg_engine.specs.View.{answer_in, said};
+    ghost use Rattle.mg_engine.specs.View.{answer_in, reply_view};
 
     /// Returns the status; 503 for `NoMemory`. Takes no memory.
     pub fn status(&self) -> u16
@@ -39,7 +39,7 @@ impl Reply {
 
     /// Makes the reply that refuses a command. Errors: `NoMemory` if an allocation fails. Cost: the length of its body.
     pub fn refusing(alloc: Global, refusal: Refusal) -> Result<Reply, NoMemory>
-        ensures { IfOk result (λ r. said r ≡ Some (refused refusal)) }
+        ensures { IfOk result (λ r. reply_view r ≡ Some (refused refusal)) }
     {
         let body = Vec::from_slice(alloc, refusal.body().as_bytes())?;
         Ok(Reply::Full {

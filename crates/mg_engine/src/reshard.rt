@@ -5,12 +5,12 @@ ghost use Rattle.mg_value.specs.View.{view};
 ghost use Rattle.mg_index.specs.Definition.{IndexDefinition};
 ghost use Rattle.mg_shard.specs.Dealt.{ShardsStandFor};
 ghost use Rattle.mg_shard.specs.Histories.{Histories};
-ghost use Rattle.mg_shard.specs.Shard.{shards_seen};
+ghost use Rattle.mg_shard.specs.Shard.{shards_view};
 ghost use Rattle.mg_engine.specs.Commands.{next, reply_of, reshard, shards_after};
 ghost use Rattle.mg_engine.specs.Reshard.{shard_number, shards_asked};
 ghost use Rattle.mg_engine.specs.Settled.{IsSettled};
 ghost use Rattle.mg_engine.specs.Stands.{HaveRows, StateStandsFor};
-ghost use Rattle.mg_engine.specs.View.{said};
+ghost use Rattle.mg_engine.specs.View.{reply_view};
 ghost use Rattle.mg_engine.specs.World.{World};
 
 use crate::body::done_line;
@@ -38,7 +38,7 @@ impl State {
         body: &Json,
     ) -> Result<(Reply, Option<State>), NoMemory>
         ensures does { IfOk result (λ r. (w : World) → StateStandsFor (P.place placement.now) self.now w
-            → (said r.0 ≡ Some (reply_of w (reshard (view body.now))))
+            → (reply_view r.0 ≡ Some (reply_of w (reshard (view body.now))))
             × StateStandsFor (P.place placement.now) (unwrap_or r.1 self.now)
             (next w (reshard (view body.now)))) }
         ensures settled { IfOk result (λ r. IsSettled r.0 r.1) }
@@ -85,13 +85,13 @@ fn deal_shards<P: Placement, R: Threads + Sync, G>(
     count: usize,
 ) -> Result<Vec<Arc<Shard>>, NoMemory>
     requires { 0 < count }
-    ensures number { IfOk result (λ v. length (shards_seen v.items) ≡ count) }
+    ensures number { IfOk result (λ v. length (shards_view v.items) ≡ count) }
     ensures stands { IfOk result
-        (λ v. (hs : Histories) → ShardsStandFor (P.place placement.now) (shards_seen shards.now) hs
-        → ShardsStandFor (P.place placement.now) (shards_seen v.items) hs) }
+        (λ v. (hs : Histories) → ShardsStandFor (P.place placement.now) (shards_view shards.now) hs
+        → ShardsStandFor (P.place placement.now) (shards_view v.items) hs) }
     ensures rows { IfOk result
-        (λ v. (ds : List IndexDefinition) → 0 < length shards.now → HaveRows ds (shards_seen shards.now)
-        → HaveRows ds (shards_seen v.items)) }
+        (λ v. (ds : List IndexDefinition) → 0 < length shards.now → HaveRows ds (shards_view shards.now)
+        → HaveRows ds (shards_view v.items)) }
 {
     let workers = context.workers.count();
     let dealt = redeal(context.rt, context.alloc, shards, placement, count, workers)?;

@@ -1,7 +1,7 @@
 //! Lists of the shards of a state.
 ghost use Rattle.std.specs.Prelude.{◌≡◌, IfOk, replicate};
 ghost use Rattle.mg_engine.specs.StateView.{empty_shard};
-ghost use Rattle.mg_shard.specs.Shard.{shards_seen};
+ghost use Rattle.mg_shard.specs.Shard.{shards_view};
 
 use mg_shard::Shard;
 use mg_value::NoMemory;
@@ -10,7 +10,7 @@ use std::sync::Arc;
 
 /// Makes shards without documents or indexes. Errors: `NoMemory` if an allocation fails. Cost: their number.
 pub(crate) fn empty_shards(alloc: Global, shards: usize) -> Result<Vec<Arc<Shard>>, NoMemory>
-    ensures { IfOk result (λ v. shards_seen v.items ≡ replicate shards empty_shard) }
+    ensures { IfOk result (λ v. shards_view v.items ≡ replicate shards empty_shard) }
 {
     let mut made = Vec::with_capacity(alloc, shards)?;
     for _ in 0..shards {
@@ -25,7 +25,7 @@ pub(crate) fn share_shards(
     alloc: Global,
     shards: &[Arc<Shard>],
 ) -> Result<Vec<Arc<Shard>>, NoMemory>
-    ensures { IfOk result (λ v. shards_seen v.items ≡ shards_seen shards.now) }
+    ensures { IfOk result (λ v. shards_view v.items ≡ shards_view shards.now) }
 {
     let mut all = Vec::with_capacity(alloc, shards.len())?;
     for shard in shards {
@@ -36,7 +36,7 @@ pub(crate) fn share_shards(
 
 /// Puts each shard into an `Arc`. Errors: `NoMemory` if an allocation fails. Cost: their number.
 pub(crate) fn wrap_shards(alloc: Global, shards: Vec<Shard>) -> Result<Vec<Arc<Shard>>, NoMemory>
-    ensures { IfOk result (λ v. shards_seen v.items ≡ shards.items) }
+    ensures { IfOk result (λ v. shards_view v.items ≡ shards.items) }
 {
     let mut all = Vec::with_capacity(alloc, shards.len())?;
     for shard in shards {

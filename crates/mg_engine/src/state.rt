@@ -2,7 +2,7 @@
 ghost use Rattle.std.specs.Prelude.{◌≡◌, ◌<◌, All, IfOk, length};
 ghost use Rattle.mg_engine.specs.World.{empty_world};
 ghost use Rattle.mg_engine.specs.Stands.{HaveRows, StateStandsFor};
-ghost use Rattle.mg_shard.specs.Shard.{shards_seen};
+ghost use Rattle.mg_shard.specs.Shard.{shards_view};
 ghost use Rattle.mg_shard.specs.Dealt.{Placing};
 
 use crate::shards::{empty_shards, share_shards};
@@ -31,9 +31,9 @@ impl Model for State {
 
     ghost coded = { state_view_code };
 
-    ghost use Rattle.mg_engine.specs.StateView.{IsIndexed, state_shown};
+    ghost use Rattle.mg_engine.specs.StateView.{IsIndexed, state_view};
 
-    ghost view = { state_shown };
+    ghost view = { state_view };
 
     ghost invariant = { IsIndexed };
 }
@@ -69,9 +69,9 @@ impl State {
         counter: u64,
     ) -> Result<State, NoMemory>
         requires some { 0 < length shards.items }
-        requires rows { HaveRows self.now.catalog (shards_seen shards.items) }
+        requires rows { HaveRows self.now.catalog (shards_view shards.items) }
         ensures { IfOk result
-            (λ s. s ≡ record self.now { shards = shards_seen shards.items; counter = counter }) }
+            (λ s. s ≡ record self.now { shards = shards_view shards.items; counter = counter }) }
     {
         Ok(State {
             name: self.name.clone()?,
@@ -92,9 +92,9 @@ impl State {
         shards: Vec<Arc<Shard>>,
     ) -> Result<State, NoMemory>
         requires some { 0 < length shards.items }
-        requires rows { HaveRows catalog (shards_seen shards.items) }
+        requires rows { HaveRows catalog (shards_view shards.items) }
         ensures { IfOk result
-            (λ s. s ≡ record self.now { catalog = catalog; shards = shards_seen shards.items }) }
+            (λ s. s ≡ record self.now { catalog = catalog; shards = shards_view shards.items }) }
     {
         Ok(State {
             name: self.name.clone()?,
@@ -106,8 +106,8 @@ impl State {
 
     /// Returns the shards. Each has the rows of the indexes of the catalog, and of no other index. Takes no memory.
     pub(crate) fn indexed_shards(&self) -> &[Arc<Shard>]
-        ensures shards { shards_seen result.now ≡ self.now.shards }
-        ensures rows { All (λ s. s.definitions ≡ self.now.catalog) (shards_seen result.now) }
+        ensures shards { shards_view result.now ≡ self.now.shards }
+        ensures rows { All (λ s. s.definitions ≡ self.now.catalog) (shards_view result.now) }
     {
         &self.shards
     }

@@ -3,7 +3,7 @@ use Rattle.std.proofs.Common.{◌≡◌, ℕ, Bool, List, Option, Some, None, re
 use Rattle.std.specs.Prelude.{option_map, unwrap_or}
 use Rattle.mg_engine.specs.declared.reply.Reply.{Reply}
 use Rattle.mg_engine.specs.declared.reply.Reply.TheVariants.{Full, NoMemory}
-use Rattle.mg_engine.specs.View.{said, answer_in}
+use Rattle.mg_engine.specs.View.{reply_view, answer_in}
 use Rattle.mg_http.specs.Reply.{text_of, reply_text}
 
 -- the image of what is found, or of a default whose image is the empty one
@@ -13,6 +13,6 @@ found_or_nothing f None d o none e z = rw (← e) z
 found_or_nothing f (Some x) d o none e z = rw (← e) refl
 
 -- a reply's status and body are those of its text
-pub said_text : (omits_body : Bool) (r : Reply) → text_of omits_body (answer_in r) ≡ reply_text omits_body (said r)
+pub said_text : (omits_body : Bool) (r : Reply) → text_of omits_body (answer_in r) ≡ reply_text omits_body (reply_view r)
 said_text omits_body (Full status body) = refl
 said_text omits_body NoMemory = refl

@@ -9,13 +9,13 @@ use Rattle.mg_http.specs.Routes as spec
 use Rattle.mg_http.specs.Walk as walk
 
 -- the part of a route that a `RouteSegment` of the code stands for
-abbrev pub part_seen : RouteSegment → spec.RouteSegment
-part_seen (Literal segment) = spec.literal segment.now
-part_seen Parameter = spec.parameter
+abbrev pub part_view : RouteSegment → spec.RouteSegment
+part_view (Literal segment) = spec.literal segment.now
+part_view Parameter = spec.parameter
 
 -- the route that a row of the table stands for
 abbrev pub route_of : Route → spec.Route
-route_of r = record { method = r.method.now; path = map part_seen r.path.now; action = r.action }
+route_of r = record { method = r.method.now; path = map part_view r.path.now; action = r.action }
 
 -- the state of a match that a `RouteMatch` stands for
 abbrev pub match_in : RouteMatch → walk.RouteMatch

@@ -29,12 +29,12 @@ use Rattle.mg_http.specs.Target.{Request, body, asks, refuses}
 -- the request that a `ParsedRequest` stands for
 abbrev pub request_in : ParsedRequest → Request
 request_in (parsed.Body endpoint) = body endpoint
-request_in (parsed.Asks command) = asks (engine.asked command)
+request_in (parsed.Asks command) = asks (engine.command_view command)
 request_in (parsed.Refuses refusal) = refuses refusal
 
 -- the answer that a `MessageReply` stands for
 abbrev pub answer_in : MessageReply → Option Answer
-answer_in (message.Service reply) = engine.said reply
+answer_in (message.Service reply) = engine.reply_view reply
 answer_in (message.Refusal refusal) = Some (refused refusal)
 
 -- the message of a head and its body

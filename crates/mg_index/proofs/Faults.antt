@@ -119,8 +119,8 @@ directions_fault v vs d there is =
     ∙ ap (λ b. cond b None (Some Mixed)) (all_same d vs)
 
 -- a reading may return the fault of its value, or `NoMemory` if the value has none
-pub fault_or_no_memory : {A B : Type 0} (seen : A → B) (r : Result B IndexError) → ReadsAs seen (Err (unwrap_or (result_err r) NoMemory)) r
-fault_or_no_memory seen (Ok x) = tt
-fault_or_no_memory seen (Err Shape) = refl
-fault_or_no_memory seen (Err Mixed) = refl
-fault_or_no_memory seen (Err NoMemory) = tt
+pub fault_or_no_memory : {A B : Type 0} (item_view : A → B) (r : Result B IndexError) → ReadsAs item_view (Err (unwrap_or (result_err r) NoMemory)) r
+fault_or_no_memory item_view (Ok x) = tt
+fault_or_no_memory item_view (Err Shape) = refl
+fault_or_no_memory item_view (Err Mixed) = refl
+fault_or_no_memory item_view (Err NoMemory) = tt

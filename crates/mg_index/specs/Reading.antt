@@ -140,10 +140,10 @@ abbrev pub error_of_path : PathError → IndexError
 error_of_path path_fault.Empty = Shape
 error_of_path path_fault.NoMemory = NoMemory
 
--- a call returned what the definition gives, where `seen` is what a value of the code stands for; after `NoMemory`, the definition may
+-- a call returned what the definition gives, where `item_view` is what a value of the code stands for; after `NoMemory`, the definition may
 -- give anything
 abbrev pub ReadsAs : {X Y : Type 0} → (X → Y) → Result X IndexError → Result Y IndexError → Type 0
-ReadsAs seen (Ok x) r = r ≡ Ok (seen x)
-ReadsAs seen (Err NoMemory) r = Unit {0}
-ReadsAs seen (Err Shape) r = r ≡ Err Shape
-ReadsAs seen (Err Mixed) r = r ≡ Err Mixed
+ReadsAs item_view (Ok x) r = r ≡ Ok (item_view x)
+ReadsAs item_view (Err NoMemory) r = Unit {0}
+ReadsAs item_view (Err Shape) r = r ≡ Err Shape
+ReadsAs item_view (Err Mixed) r = r ≡ Err Mixed

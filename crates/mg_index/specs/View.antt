@@ -10,8 +10,8 @@ use Rattle.mg_index.specs.declared.error.NoUsableIndex.{NoUsableIndex}
 use Rattle.mg_index.specs.declared.query.Hint as code
 
 -- the columns that a `Columns` of the code stands for
-abbrev pub columns_seen : column.Columns → Columns
-columns_seen c = record { texts = map string_bytes c.texts.items; steps = c.paths.items; direction = c.direction }
+abbrev pub columns_view : column.Columns → Columns
+columns_view c = record { texts = map string_bytes c.texts.items; steps = c.paths.items; direction = c.direction }
 
 -- the hint that a `Hint` of the code stands for
 abbrev pub hint_of : code.Hint → Hint

@@ -4,7 +4,7 @@ ghost use Rattle.mg_value.specs.View.{view, items_view};
 ghost use Rattle.mg_value.specs.Value.{list};
 ghost use Rattle.mg_path.specs.Part.{steps_of};
 ghost use Rattle.mg_index.specs.Reading.{ReadsAs, each_of, field_path, field_direction, one_direction, columns_of, columns_read};
-ghost use Rattle.mg_index.specs.View.{columns_seen};
+ghost use Rattle.mg_index.specs.View.{columns_view};
 
 use crate::error::IndexError;
 use crate::field::{all_have_direction, field_direction, field_path};
@@ -26,13 +26,13 @@ pub(crate) struct Columns {
 // Errors: `Shape` for an empty array, or for an item that is not a column or whose path has an empty step; otherwise
 // `Mixed` for columns in both directions. `NoMemory` if an allocation fails, even if the array has a fault.
 pub(crate) fn read_columns(alloc: Global, fields: &[Json]) -> Result<Columns, IndexError>
-    ensures { ReadsAs columns_seen result (columns_read (Some (list (items_view fields.now)))) }
+    ensures { ReadsAs columns_view result (columns_read (Some (list (items_view fields.now)))) }
 {
     columns_in(alloc, fields)
 }
 
 fn columns_in(alloc: Global, fields: &[Json]) -> Result<Columns, IndexError>
-    ensures { ReadsAs columns_seen result (columns_of (map view fields.now)) }
+    ensures { ReadsAs columns_view result (columns_of (map view fields.now)) }
 {
     let texts = read_texts(alloc, fields)?;
     let paths = read_paths(alloc, &texts)?;

@@ -3,7 +3,7 @@ ghost use Rattle.std.specs.Prelude.{◌≡◌, IfOk, Some, is_err, is_none, opti
 ghost use Rattle.mg_value.specs.Value.{object};
 ghost use Rattle.mg_value.specs.View.{view, members_view};
 ghost use Rattle.mg_index.specs.Reading.{ReadsAs, definition_of, columns_read, is_json_index, is_json_type, is_no_filter, is_not_partitioned, member_of_index, definition_named, text_given};
-ghost use Rattle.mg_index.specs.View.{columns_seen};
+ghost use Rattle.mg_index.specs.View.{columns_view};
 
 use crate::column::{Columns, read_columns};
 use crate::definition::IndexDef;
@@ -29,7 +29,7 @@ pub(crate) fn read_definition(alloc: Global, body: &Json) -> Result<IndexDef, In
 
 // Reads the columns of `fields`. Errors: `Shape` if it is absent or not an array; for an array, those of `read_columns`.
 fn read_fields(alloc: Global, fields: Option<&Json>) -> Result<Columns, IndexError>
-    ensures { ReadsAs columns_seen result (columns_read (option_map (λ j. view j.now) fields.entry)) }
+    ensures { ReadsAs columns_view result (columns_read (option_map (λ j. view j.now) fields.entry)) }
 {
     match fields {
         Some(Json::List(fields)) => read_columns(alloc, fields),
@@ -61,7 +61,7 @@ fn name_definition(
     columns: Columns,
 ) -> Result<IndexDef, NoMemory>
     ensures { IfOk result (λ d. d ≡ definition_named (option_map (λ t. t.now) ddoc.entry)
-        (option_map (λ t. t.now) name.entry) (columns_seen columns)) }
+        (option_map (λ t. t.now) name.entry) (columns_view columns)) }
 {
     let digest = fields_digest(alloc, columns.direction, &columns.texts)?;
     let ddoc = match ddoc {

@@ -9,7 +9,7 @@ use native.Mathlib.Decide.{ℕ_discrete}
 use Rattle.mg_machine.specs.Laws.{IsPrefix as Begins}
 use Rattle.mg_machine.specs.Machine.{Commit, longer_of}
 use Rattle.mg_machine.proofs.Beginnings.{itself, two}
-use Rattle.mg_live.specs.View.{commit_seen, commits_seen}
+use Rattle.mg_live.specs.View.{commit_view, commits_view}
 use Rattle.mg_live.specs.declared.markers.Entry.{Entry}
 
 -- of two prefixes of one list, the shorter is a prefix of the longer
@@ -31,8 +31,8 @@ prefix_whole (x ∷ xs) (y ∷ ys) p le =
     let rest = prefix_whole xs ys (p.0, cc (p.1)) (omega arith) in cc (p.1, rest)
 
 -- the commits of a prefix are a prefix of the commits of the whole
-pub seen_begins : (xs ys : List Entry) → IsPrefix xs ys → Begins (commits_seen xs) (commits_seen ys)
-seen_begins xs ys p = (commits_seen p.0, sym (ap commits_seen p.1) ∙ map-append commit_seen xs p.0)
+pub seen_begins : (xs ys : List Entry) → IsPrefix xs ys → Begins (commits_view xs) (commits_view ys)
+seen_begins xs ys p = (commits_view p.0, sym (ap commits_view p.1) ∙ map-append commit_view xs p.0)
 
 -- commits are a prefix of themselves
 pub begins_itself : (cs : List Commit) → Begins cs cs
@@ -47,7 +47,7 @@ longer_second cs ds p = elim (two (nat_lt (length cs) (length ds))) [
 
 -- the lengths of two prefixes of one list decide which is a prefix of the other
 pub compared : (xs ys zs : List Entry) → IsPrefix xs zs → IsPrefix ys zs → (b : Bool) → leb (length xs) (length ys) ≡ b
-    → MatchBool b (Begins (commits_seen xs) (commits_seen ys)) (Begins (commits_seen ys) (commits_seen xs))
+    → MatchBool b (Begins (commits_view xs) (commits_view ys)) (Begins (commits_view ys) (commits_view xs))
 compared xs ys zs p q true is = seen_begins xs ys (prefix_shorter xs ys zs p q (leb-true (length xs) (length ys) is))
 compared xs ys zs p q false is = let less = leb-false (length xs) (length ys) is in seen_begins ys xs (prefix_shorter ys xs zs q p (omega arith))
 

@@ -5,7 +5,7 @@ use Rattle.std.proofs.lemmas.Bool.Decides.{nat_tests}
 use Rattle.logbook.specs.Pages.{Book}
 use Rattle.mg_engine.specs.Commands.{Asked, Answer, refused}
 use Rattle.mg_engine.specs.Settled.{accepts, is_accepted}
-use Rattle.mg_engine.specs.View.{asked, said}
+use Rattle.mg_engine.specs.View.{command_view, reply_view}
 use Rattle.mg_engine.specs.declared.command.Command.{Command}
 use Rattle.mg_engine.specs.declared.refusal.Refusal.TheVariants.{TooLarge}
 use Rattle.mg_engine.specs.declared.reply.Reply.{Reply}
@@ -16,7 +16,7 @@ use Rattle.mg_live.specs.Published.{Publishes, Standing, WriteLeaves}
 use Rattle.mg_live.specs.Snapshots.{StandsAfter, IsSnapshotOf, commits_of}
 use Rattle.mg_live.specs.SeatView.{IsLater, Learned, SeatView, SeatWrites}
 use Rattle.mg_live.specs.Rules.{log_entry}
-use Rattle.mg_live.specs.View.{commit_seen, commits_seen}
+use Rattle.mg_live.specs.View.{commit_view, commits_view}
 use Rattle.mg_live.specs.declared.commit_log.Prefix.{Prefix}
 use Rattle.mg_live.specs.declared.markers.Entry.{Entry}
 use Rattle.mg_machine.specs.declared.point.Point.{Point}
@@ -31,10 +31,10 @@ stands_after book name opened s is = record { commits = refl; stands = is.after.
 -- ---- a write
 
 -- whether the reply to a write accepts it
-answered : (r : Reply) (a : Answer) (b : Bool) → said r ≡ Some a → accepts r ≡ b → is_accepted a ≡ b
+answered : (r : Reply) (a : Answer) (b : Bool) → reply_view r ≡ Some a → accepts r ≡ b → is_accepted a ≡ b
 answered r a b is accepts = rw is at accepts
 
-pub refused_write : (name : List ℕ) (cs : List Commit) (seat : ℕ) (c : Asked) (r : Reply) → said r ≡ Some (write_reply name cs c) → accepts r ≡ false → WriteLeaves name cs (seat, c) (said r) None
+pub refused_write : (name : List ℕ) (cs : List Commit) (seat : ℕ) (c : Asked) (r : Reply) → reply_view r ≡ Some (write_reply name cs c) → accepts r ≡ false → WriteLeaves name cs (seat, c) (reply_view r) None
 refused_write name cs seat c r is denied =
     let refuses : is_accepted (write_reply name cs c) ≡ false = answered r (write_reply name cs c) false is denied in
     rw is (refl, refuses)
@@ -49,38 +49,38 @@ free name cs c t = elim (two (are_full cs)) [
 pub room_for : (name : List ℕ) (cs : List Commit) (c : Asked) → is_accepted (write_reply name cs c) ≡ true → length cs ≢ 18446744073709551615
 room_for name cs c t = let no = free name cs c t in grind (arith, nat_tests, no)
 
-pub has_room : (name : List ℕ) (log : List Entry) (c : Asked) (r : Reply) → said r ≡ Some (write_reply name (commits_seen log) c) → accepts r ≡ true → length log ≢ 18446744073709551615
+pub has_room : (name : List ℕ) (log : List Entry) (c : Asked) (r : Reply) → reply_view r ≡ Some (write_reply name (commits_view log) c) → accepts r ≡ true → length log ≢ 18446744073709551615
 has_room name log c r is taken =
-    let cs = commits_seen log in
-    subst (λ (n : ℕ). n ≢ 18446744073709551615) (length-map log commit_seen) (room_for name cs c (answered r (write_reply name cs c) true is taken))
+    let cs = commits_view log in
+    subst (λ (n : ℕ). n ≢ 18446744073709551615) (length-map log commit_view) (room_for name cs c (answered r (write_reply name cs c) true is taken))
 
 -- the commits after an accepted write
-more : (log after : List Entry) (seat : ℕ) (c : Command) (next : ℕ) → after ≡ log ++ log_entry seat c next ∷ [] → commits_seen after ≡ commits_seen log ++ (seat, asked c) ∷ []
-more log after seat c next is = ap commits_seen is ∙ map-append commit_seen log (log_entry seat c next ∷ [])
+more : (log after : List Entry) (seat : ℕ) (c : Command) (next : ℕ) → after ≡ log ++ log_entry seat c next ∷ [] → commits_view after ≡ commits_view log ++ (seat, command_view c) ∷ []
+more log after seat c next is = ap commits_view is ∙ map-append commit_view log (log_entry seat c next ∷ [])
 
-pub one_more : (name : List ℕ) (log after : List Entry) (seat : ℕ) (c : Command) (next : ℕ) (r : Reply) → said r ≡ Some (write_reply name (commits_seen log) (asked c)) → accepts r ≡ true → after ≡ log ++ log_entry seat c next ∷ []
-    → WriteLeaves name (commits_seen log) (seat, asked c) (said r) (Some (commits_seen after))
+pub one_more : (name : List ℕ) (log after : List Entry) (seat : ℕ) (c : Command) (next : ℕ) (r : Reply) → reply_view r ≡ Some (write_reply name (commits_view log) (command_view c)) → accepts r ≡ true → after ≡ log ++ log_entry seat c next ∷ []
+    → WriteLeaves name (commits_view log) (seat, command_view c) (reply_view r) (Some (commits_view after))
 one_more name log after seat c next r is taken added =
-    let cs = commits_seen log in
-    let accepted : is_accepted (write_reply name cs (asked c)) ≡ true = answered r (write_reply name cs (asked c)) true is taken in
+    let cs = commits_view log in
+    let accepted : is_accepted (write_reply name cs (command_view c)) ≡ true = answered r (write_reply name cs (command_view c)) true is taken in
     rw is (refl, accepted, more log after seat c next added)
 
 -- the point after an accepted write
-pub there : {P : Type 0} {place : P → List ℕ → ℕ → ℕ} (name : List ℕ) (log after : List Entry) (seat : ℕ) (c : Command) (next : ℕ) (r : Reply) (p : Point P) → said r ≡ Some (write_reply name (commits_seen log) (asked c)) → accepts r ≡ true → after ≡ log ++ log_entry seat c next ∷ []
-    → IsAfter place name p (after_write name (commits_seen log) seat (asked c)) → IsAfter place name p (commits_seen after)
+pub there : {P : Type 0} {place : P → List ℕ → ℕ → ℕ} (name : List ℕ) (log after : List Entry) (seat : ℕ) (c : Command) (next : ℕ) (r : Reply) (p : Point P) → reply_view r ≡ Some (write_reply name (commits_view log) (command_view c)) → accepts r ≡ true → after ≡ log ++ log_entry seat c next ∷ []
+    → IsAfter place name p (after_write name (commits_view log) seat (command_view c)) → IsAfter place name p (commits_view after)
 there {place = place} name log after seat c next r p is taken added at =
-    let cs = commits_seen log in
-    let accepted : is_accepted (write_reply name cs (asked c)) ≡ true = answered r (write_reply name cs (asked c)) true is taken in
-    let now : IsAfter place name p (cs ++ (seat, asked c) ∷ []) = rw accepted at at in
+    let cs = commits_view log in
+    let accepted : is_accepted (write_reply name cs (command_view c)) ≡ true = answered r (write_reply name cs (command_view c)) true is taken in
+    let now : IsAfter place name p (cs ++ (seat, command_view c) ∷ []) = rw accepted at at in
     subst (λ (ds : List Commit). IsAfter place name p ds) (sym (more log after seat c next added)) now
 
 -- the shards after an accepted write
-pub dealt : {P : Type 0} (name : List ℕ) (opened : ℕ) (log after : List Entry) (seat : ℕ) (c : Command) (next : ℕ) (r : Reply) (p : Point P) → said r ≡ Some (write_reply name (commits_seen log) (asked c)) → accepts r ≡ true → after ≡ log ++ log_entry seat c next ∷ []
-    → HasShardsAfter opened p (after_write name (commits_seen log) seat (asked c)) → HasShardsAfter opened p (commits_seen after)
+pub dealt : {P : Type 0} (name : List ℕ) (opened : ℕ) (log after : List Entry) (seat : ℕ) (c : Command) (next : ℕ) (r : Reply) (p : Point P) → reply_view r ≡ Some (write_reply name (commits_view log) (command_view c)) → accepts r ≡ true → after ≡ log ++ log_entry seat c next ∷ []
+    → HasShardsAfter opened p (after_write name (commits_view log) seat (command_view c)) → HasShardsAfter opened p (commits_view after)
 dealt name opened log after seat c next r p is taken added at =
-    let cs = commits_seen log in
-    let accepted : is_accepted (write_reply name cs (asked c)) ≡ true = answered r (write_reply name cs (asked c)) true is taken in
-    let now : HasShardsAfter opened p (cs ++ (seat, asked c) ∷ []) = rw accepted at at in
+    let cs = commits_view log in
+    let accepted : is_accepted (write_reply name cs (command_view c)) ≡ true = answered r (write_reply name cs (command_view c)) true is taken in
+    let now : HasShardsAfter opened p (cs ++ (seat, command_view c) ∷ []) = rw accepted at at in
     subst (λ (ds : List Commit). HasShardsAfter opened p ds) (sym (more log after seat c next added)) now
 
 -- the commits after a write that leaves a snapshot
@@ -97,12 +97,12 @@ published name write old new (Some a) later h seen tally =
     record { later = later; answer = h.0; published = rw yes h.2; seen = seen; tally = rw h.1 tally }
 
 -- what a write that is not accepted does to what its seat has seen
-pub left : (name : List ℕ) (write : Commit) (old : Standing) (o : Option Answer) (was shown new : Prefix) (after : List Commit) → after ≡ old.published → commits_seen shown.seen.log ≡ old.published → IsPrefix old.seen old.published
-    → WriteLeaves name old.published write o None → old.seen ≡ commits_seen was.seen.log → MatchOption o (new ≡ was) (λ a. new ≡ shown)
-    → Publishes name write old o (record { published = after; seen = commits_seen new.seen.log; tally = old.tally })
+pub left : (name : List ℕ) (write : Commit) (old : Standing) (o : Option Answer) (was shown new : Prefix) (after : List Commit) → after ≡ old.published → commits_view shown.seen.log ≡ old.published → IsPrefix old.seen old.published
+    → WriteLeaves name old.published write o None → old.seen ≡ commits_view was.seen.log → MatchOption o (new ≡ was) (λ a. new ≡ shown)
+    → Publishes name write old o (record { published = after; seen = commits_view new.seen.log; tally = old.tally })
 left name write old None was shown new after same now later h seen at =
-    ap (λ (cs : List Commit). record old { published = cs; seen = commits_seen new.seen.log }) same
-    ∙ ap (λ (cs : List Commit). record old { seen = cs }) (ap (λ (f : Prefix). commits_seen f.seen.log) at ∙ sym seen)
+    ap (λ (cs : List Commit). record old { published = cs; seen = commits_view new.seen.log }) same
+    ∙ ap (λ (cs : List Commit). record old { seen = cs }) (ap (λ (f : Prefix). commits_view f.seen.log) at ∙ sym seen)
 left name write old (Some a) was shown new after same now later h seen at =
     let no : is_accepted (write_reply name old.published write.1) ≡ false = rw h.0 at h.1 in
     let stays : old.published ≡ after_write name old.published write.0 write.1 = rw no refl in
@@ -110,7 +110,7 @@ left name write old (Some a) was shown new after same now later h seen at =
       later = later;
       answer = h.0;
       published = same ∙ stays;
-      seen = ap (λ (f : Prefix). commits_seen f.seen.log) at ∙ now ∙ sym same;
+      seen = ap (λ (f : Prefix). commits_view f.seen.log) at ∙ now ∙ sym same;
       tally = rw h.1 refl;
     }
 

@@ -4,7 +4,7 @@ use Rattle.mg_engine.specs.Commands.{Answer}
 use Rattle.mg_engine.specs.Settled.{is_accepted}
 use Rattle.mg_machine.specs.Laws.{IsPrefix}
 use Rattle.mg_machine.specs.Machine.{Commit, after_write, write_reply}
-use Rattle.mg_live.specs.View.{commits_seen}
+use Rattle.mg_live.specs.View.{commits_view}
 use Rattle.mg_live.specs.SeatView.{tally_after}
 use Rattle.mg_live.specs.declared.commit_log.Prefix.{Prefix}
 
@@ -24,7 +24,7 @@ pub record Standing : Type 0 where
 
 -- the standing of a seat that has seen this prefix and has this tally
 abbrev pub standing : List Commit → Prefix → ℕ → Standing
-standing cs prefix tally = record { published = cs; seen = commits_seen prefix.seen.log; tally = tally }
+standing cs prefix tally = record { published = cs; seen = commits_view prefix.seen.log; tally = tally }
 
 -- a write is answered after the published commits, of which its seat had seen a prefix. An accepted write is published as the last commit,
 -- and its seat's tally counts it. The seat has then seen all that is published

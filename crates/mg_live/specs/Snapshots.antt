@@ -5,12 +5,12 @@ use Rattle.logbook.specs.Pages.{Book}
 use Rattle.mg_engine.specs.Stands.{StateView, Stands}
 use Rattle.mg_machine.specs.Machine.{Commit, shards_of, world_of}
 use Rattle.mg_machine.specs.Points.{IsAfter, HasShardsAfter}
-use Rattle.mg_live.specs.View.{commits_seen}
+use Rattle.mg_live.specs.View.{commits_view}
 use Rattle.mg_live.specs.declared.snapshot.Snapshot.{Snapshot}
 
 -- the commits after which a snapshot was taken
 abbrev pub commits_of : {P : Type 0} → Snapshot P → List Commit
-commits_of s = commits_seen s.prefix.seen.log
+commits_of s = commits_view s.prefix.seen.log
 
 -- what a snapshot's engine holds
 abbrev pub state_of : {P : Type 0} → Snapshot P → StateView

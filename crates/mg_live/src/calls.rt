@@ -2,7 +2,7 @@
 ghost use Rattle.std.specs.Prelude.{◌≤◌};
 ghost use Rattle.mg_value.specs.View.{view};
 ghost use Rattle.mg_engine.specs.Commands.{bulk, create_index, drop_index, explain, find, get, list_indexes, reshard};
-ghost use Rattle.mg_engine.specs.View.{said};
+ghost use Rattle.mg_engine.specs.View.{reply_view};
 ghost use Rattle.mg_live.specs.SeatView.{Answered};
 
 use crate::database::{Database, EndsWriter};
@@ -27,7 +27,7 @@ where
     pub fn find<R: Threads + Sync>(&mut self, rt: &R, body: &Json, workers: usize) -> Reply
         requires some { 1 ≤ workers }
         requires most { workers ≤ 32 }
-        ensures { Answered D.db self.old (find (view body.now)) (said result) self.new }
+        ensures { Answered D.db self.old (find (view body.now)) (reply_view result) self.new }
     {
         match body.copy(self.alloc) {
             Ok(body) => self.read(rt, &Command::Find(body), Workers::most(workers), &NoGate),
@@ -47,7 +47,7 @@ where
     ) -> Reply
         requires some { 1 ≤ workers }
         requires most { workers ≤ 32 }
-        ensures { Answered D.db self.old (find (view body.now)) (said result) self.new }
+        ensures { Answered D.db self.old (find (view body.now)) (reply_view result) self.new }
     {
         match body.copy(self.alloc) {
             Ok(body) => self.read(rt, &Command::Find(body), Workers::exactly(workers), gate),
@@ -57,7 +57,7 @@ where
 
     /// Explains a query: which index serves it, and which range of the index it reads.
     pub fn explain<R: Threads + Sync>(&mut self, rt: &R, body: &Json) -> Reply
-        ensures { Answered D.db self.old (explain (view body.now)) (said result) self.new }
+        ensures { Answered D.db self.old (explain (view body.now)) (reply_view result) self.new }
     {
         match body.copy(self.alloc) {
             Ok(body) => self.read(rt, &Command::Explain(body), Workers::most(1), &NoGate),
@@ -67,7 +67,7 @@ where
 
     /// Lists the indexes.
     pub fn list_indexes<R: Threads + Sync>(&mut self, rt: &R) -> Reply
-        ensures { Answered D.db self.old list_indexes (said result) self.new }
+        ensures { Answered D.db self.old list_indexes (reply_view result) self.new }
     {
         self.read(rt, &Command::ListIndexes, Workers::most(1), &NoGate)
     }
@@ -75,7 +75,7 @@ where
     /// Gets the document of an id, with its conflicts if `conflicts` is true. Refused as `Missing` if there is no such document, and as
     /// `Deleted` if the document is deleted.
     pub fn get<R: Threads + Sync>(&mut self, rt: &R, id: &str, conflicts: bool) -> Reply
-        ensures { Answered D.db self.old (get id.now conflicts) (said result) self.new }
+        ensures { Answered D.db self.old (get id.now conflicts) (reply_view result) self.new }
     {
         match String::from_str(self.alloc, id) {
             Ok(id) => self.read(
@@ -93,7 +93,7 @@ where
     pub fn bulk<R: Wait + Threads + Sync>(&mut self, rt: &R, body: &Json, workers: usize) -> Reply
         requires some { 1 ≤ workers }
         requires most { workers ≤ 32 }
-        ensures { Answered D.db self.old (bulk (view body.now)) (said result) self.new }
+        ensures { Answered D.db self.old (bulk (view body.now)) (reply_view result) self.new }
     {
         match Packed::of(self.alloc, body) {
             Ok(body) => self.write(rt, Command::Bulk(body), Workers::most(workers)),
@@ -111,7 +111,7 @@ where
     ) -> Reply
         requires some { 1 ≤ workers }
         requires most { workers ≤ 32 }
-        ensures { Answered D.db self.old (create_index (view body.now)) (said result) self.new }
+        ensures { Answered D.db self.old (create_index (view body.now)) (reply_view result) self.new }
     {
         match body.copy(self.alloc) {
             Ok(body) => self.write(rt, Command::CreateIndex(body), Workers::most(workers)),
@@ -130,7 +130,7 @@ where
     ) -> Reply
         requires some { 1 ≤ workers }
         requires most { workers ≤ 32 }
-        ensures { Answered D.db self.old (drop_index ddoc.now name.now) (said result) self.new }
+        ensures { Answered D.db self.old (drop_index ddoc.now name.now) (reply_view result) self.new }
     {
         let Ok(ddoc) = String::from_str(self.alloc, ddoc) else {
             return Reply::NoMemory;
@@ -156,7 +156,7 @@ where
     ) -> Reply
         requires some { 1 ≤ workers }
         requires most { workers ≤ 32 }
-        ensures { Answered D.db self.old (reshard (view body.now)) (said result) self.new }
+        ensures { Answered D.db self.old (reshard (view body.now)) (reply_view result) self.new }
     {
         match body.copy(self.alloc) {
             Ok(body) => self.write(rt, Command::Reshard(body), Workers::most(workers)),

@@ -4,7 +4,7 @@ ghost use Rattle.logbook.specs.Pages.{may_write};
 ghost use Rattle.mg_machine.specs.Laws.{IsPrefix};
 ghost use Rattle.mg_live.specs.Adding.{AddsAfter};
 ghost use Rattle.mg_live.specs.Rules.{count_word, pen_word, log_entry};
-ghost use Rattle.mg_live.specs.View.{commits_seen};
+ghost use Rattle.mg_live.specs.View.{commits_view};
 
 use crate::markers::{AddEntry, Entry, LogRule, NoGain, TakePen};
 use logbook::{Offer, Pen, Seen, Start, Word};
@@ -196,8 +196,8 @@ impl Prefix {
     pub(crate) fn begins(&self, other: &Prefix) -> bool
         requires { self.now.seen.book ≡ other.now.seen.book }
         ensures begins { MatchBool result
-            (IsPrefix (commits_seen self.now.seen.log) (commits_seen other.now.seen.log))
-            (IsPrefix (commits_seen other.now.seen.log) (commits_seen self.now.seen.log)) }
+            (IsPrefix (commits_view self.now.seen.log) (commits_view other.now.seen.log))
+            (IsPrefix (commits_view other.now.seen.log) (commits_view self.now.seen.log)) }
         ensures shorter { MatchBool result
             (length self.now.seen.log ≤ length other.now.seen.log)
             (length other.now.seen.log < length self.now.seen.log) }
@@ -213,10 +213,10 @@ impl Prefix {
     pub(crate) fn longer(self, other: &Prefix) -> Prefix
         requires { self.seen.book ≡ other.now.seen.book }
         ensures book { result.seen.book ≡ self.seen.book }
-        ensures this { IsPrefix (commits_seen self.seen.log) (commits_seen result.seen.log) }
-        ensures other { IsPrefix (commits_seen other.now.seen.log) (commits_seen result.seen.log) }
-        ensures within { (n : ℕ) → length (commits_seen self.seen.log) ≤ n
-            → length (commits_seen other.now.seen.log) ≤ n → length (commits_seen result.seen.log) ≤ n }
+        ensures this { IsPrefix (commits_view self.seen.log) (commits_view result.seen.log) }
+        ensures other { IsPrefix (commits_view other.now.seen.log) (commits_view result.seen.log) }
+        ensures within { (n : ℕ) → length (commits_view self.seen.log) ≤ n
+            → length (commits_view other.now.seen.log) ≤ n → length (commits_view result.seen.log) ≤ n }
     {
         if self.begins(other) {
             return other.again();

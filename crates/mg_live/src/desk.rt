@@ -2,12 +2,12 @@
 //! tallies, which count them; and what ends the writer.
 ghost use Rattle.std.specs.Prelude.{◌≡◌, ◌≤◌, true, [], length, MatchBool, MatchOption};
 ghost use Rattle.mg_engine.specs.Commands.{is_write};
-ghost use Rattle.mg_engine.specs.View.{asked, said};
+ghost use Rattle.mg_engine.specs.View.{command_view, reply_view};
 ghost use Rattle.mg_machine.specs.Laws.{IsPrefix};
 ghost use Rattle.mg_live.specs.Published.{Publishes, standing};
 ghost use Rattle.mg_live.specs.Adding.{AddsAfter};
 ghost use Rattle.mg_live.specs.Snapshots.{HasSnapshot, IsSnapshotOf, commits_of};
-ghost use Rattle.mg_live.specs.View.{commits_seen};
+ghost use Rattle.mg_live.specs.View.{commits_view};
 
 use crate::commit_log::{LogWriter, Prefix, Write};
 use crate::database::{Database, EndsWriter};
@@ -112,12 +112,12 @@ where
         tally: &mut Tally<D>,
         prefix: &mut Prefix,
     ) -> (Reply, Option<Snapshot<P>>)
-        requires write { is_write (asked write.command.value) ≡ true }
-        requires prepared { prepared ≡ asked write.command.value }
+        requires write { is_write (command_view write.command.value) ≡ true }
+        requires prepared { prepared ≡ command_view write.command.value }
         requires here { prefix.old.seen.book ≡ D.commit_log }
         ensures here { prefix.new.seen.book ≡ D.commit_log }
-        ensures publishes { Publishes D.db (write.seat, asked write.command.value)
-            (standing self.old prefix.old tally.old) (said result.0)
+        ensures publishes { Publishes D.db (write.seat, command_view write.command.value)
+            (standing self.old prefix.old tally.old) (reply_view result.0)
             (standing self.new prefix.new tally.new) }
     {
         let now = self.writer.published();
@@ -144,8 +144,8 @@ where
     pub(crate) fn catch_up(&self, prefix: &mut Prefix) -> bool
         requires { prefix.old.seen.book ≡ D.commit_log }
         ensures here { prefix.new.seen.book ≡ D.commit_log }
-        ensures caught_up { MatchBool result ((commits_seen prefix.new.seen.log ≡ self.now)
-            × IsPrefix (commits_seen prefix.old.seen.log) self.now) (prefix.new ≡ prefix.old) }
+        ensures caught_up { MatchBool result ((commits_view prefix.new.seen.log ≡ self.now)
+            × IsPrefix (commits_view prefix.old.seen.log) self.now) (prefix.new ≡ prefix.old) }
         ensures published { HasSnapshot P.place D.db D.shards self.now }
     {
         let now = self.writer.published();
@@ -161,10 +161,10 @@ where
     pub(crate) fn count_commits(&mut self, all: &mut Share<D>, seen: &Prefix) -> u64
         requires parts { all.old.parts ≡ D.parts }
         requires here { seen.now.seen.book ≡ D.commit_log }
-        requires within { length (commits_seen seen.now.seen.log) ≤ all.old.amount }
+        requires within { length (commits_view seen.now.seen.log) ≤ all.old.amount }
         ensures same { self.new ≡ self.old }
         ensures commits { (result ≡ length self.old) × (result ≡ all.old.amount) }
-        ensures begins { IsPrefix (commits_seen seen.now.seen.log) self.old }
+        ensures begins { IsPrefix (commits_view seen.now.seen.log) self.old }
     {
         self.tally_book.audit(all);
         let now = self.writer.published();
@@ -177,7 +177,7 @@ where
 
 // Lets a seat see what is published, unless the reply is `NoMemory`.
 fn see_answered(reply: &Reply, prefix: &mut Prefix, published: &Prefix)
-    ensures { MatchOption (said reply.now) (prefix.new ≡ prefix.old) (λ a. prefix.new ≡ published.now) }
+    ensures { MatchOption (reply_view reply.now) (prefix.new ≡ prefix.old) (λ a. prefix.new ≡ published.now) }
 {
     match reply {
         Reply::NoMemory => {}

@@ -3,7 +3,7 @@ ghost use Rattle.std.specs.Prelude.{◌≡◌, ◌≢◌, ◌≤◌, ◌+◌, []
 ghost use Rattle.mg_machine.specs.Laws.{IsPrefix};
 ghost use Rattle.mg_machine.specs.Machine.{Commit};
 ghost use Rattle.mg_live.specs.SeatView.{AreAll, HasSeenMore, all_tallies, new_seats};
-ghost use Rattle.mg_live.specs.View.{commits_seen};
+ghost use Rattle.mg_live.specs.View.{commits_view};
 ghost use Rattle.mg_live.specs.declared.live.CloseError.TheVariants.{Ahead, Missing};
 
 use crate::commit_log::{CommitLog, Prefix};
@@ -176,8 +176,8 @@ where
     requires empty { (empty.now.seen.book ≡ D.commit_log) × (empty.now.seen.log ≡ []) }
     requires within { All (λ s. length s.seen ≤ made) seats.now }
     ensures here { result.seen.book ≡ D.commit_log }
-    ensures within { length (commits_seen result.seen.log) ≤ made }
-    ensures begins { All (λ s. IsPrefix s.seen (commits_seen result.seen.log)) seats.now }
+    ensures within { length (commits_view result.seen.log) ≤ made }
+    ensures begins { All (λ s. IsPrefix s.seen (commits_view result.seen.log)) seats.now }
 {
     let mut longest = empty.again();
     for seat in seats {

@@ -1,9 +1,9 @@
 //! Seats, at which sessions read and write.
 ghost use Rattle.std.specs.Prelude.{◌≡◌, ◌≤◌, true, false, IfOk, OnErr, OnOk};
 ghost use Rattle.mg_engine.specs.Commands.{is_write};
-ghost use Rattle.mg_engine.specs.View.{asked, said};
+ghost use Rattle.mg_engine.specs.View.{command_view, reply_view};
 ghost use Rattle.mg_live.specs.Snapshots.{StandsAfter, HasSnapshot};
-ghost use Rattle.mg_live.specs.View.{commits_seen};
+ghost use Rattle.mg_live.specs.View.{commits_view};
 ghost use Rattle.mg_live.specs.SeatView.{Answered, IsLater, SeatReads, Learned, SeatWrites};
 
 use crate::commit_log::{Prefix, Write};
@@ -48,10 +48,10 @@ where
 
     ghost coded = { seat_view_code };
 
-    ghost use Rattle.mg_live.specs.View.{commits_seen};
+    ghost use Rattle.mg_live.specs.View.{commits_view};
 
     ghost view = { λ s.
-        record { number = s.number; seen = commits_seen s.prefix.seen.log; tally = s.tally } };
+        record { number = s.number; seen = commits_view s.prefix.seen.log; tally = s.tally } };
 
     ghost invariant = { λ s. s.prefix.seen.book ≡ D.commit_log };
 }
@@ -72,9 +72,9 @@ impl<D: Database> Model for Seen<D> {
 
     ghost coded = { commits_code };
 
-    ghost use Rattle.mg_live.specs.View.{commits_seen};
+    ghost use Rattle.mg_live.specs.View.{commits_view};
 
-    ghost view = { λ s. commits_seen s.prefix.seen.log };
+    ghost view = { λ s. commits_view s.prefix.seen.log };
 
     ghost invariant = { λ s. s.prefix.seen.book ≡ D.commit_log };
 }
@@ -83,7 +83,7 @@ impl<D: Database> Seen<D> {
     // Makes what a seat that has seen this prefix lets others learn.
     fn of(prefix: &Prefix) -> Seen<D>
         requires { prefix.now.seen.book ≡ D.commit_log }
-        ensures { result ≡ commits_seen prefix.now.seen.log }
+        ensures { result ≡ commits_view prefix.now.seen.log }
     {
         Seen {
             prefix: prefix.again(),
@@ -134,7 +134,7 @@ where
     ) -> Reply
         requires some { 1 ≤ workers }
         requires most { workers ≤ 32 }
-        ensures { Answered D.db self.old (asked command) (said result) self.new }
+        ensures { Answered D.db self.old (command_view command) (reply_view result) self.new }
     {
         if command.is_write() {
             self.write(rt, command, Workers::most(workers))
@@ -152,8 +152,8 @@ where
         workers: Workers,
         gate: &G,
     ) -> Reply
-        requires read { is_write (asked command.now) ≡ false }
-        ensures { SeatReads D.db self.old (asked command.now) (said result) self.new }
+        requires read { is_write (command_view command.now) ≡ false }
+        ensures { SeatReads D.db self.old (command_view command.now) (reply_view result) self.new }
     {
         let Ok(snapshot) = self.snapshot() else {
             return Reply::NoMemory;
@@ -173,8 +173,8 @@ where
         command: Command,
         workers: Workers,
     ) -> Reply
-        requires write { is_write (asked command) ≡ true }
-        ensures { SeatWrites D.db self.old (asked command) (said result) self.new }
+        requires write { is_write (command_view command) ≡ true }
+        ensures { SeatWrites D.db self.old (command_view command) (reply_view result) self.new }
     {
         let Seat {
             number,

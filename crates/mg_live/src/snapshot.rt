@@ -3,10 +3,10 @@ ghost use Rattle.std.specs.Prelude.{◌≡◌, ◌≤◌, true, length, All, IfO
 ghost use Rattle.std.specs.Arc.{arc_value};
 ghost use Rattle.mg_engine.specs.Commands.{is_write};
 ghost use Rattle.mg_engine.specs.Settled.{accepts};
-ghost use Rattle.mg_engine.specs.View.{asked, said};
+ghost use Rattle.mg_engine.specs.View.{command_view, reply_view};
 ghost use Rattle.mg_live.specs.Published.{WriteLeaves};
 ghost use Rattle.mg_live.specs.Snapshots.{IsSnapshotOf, commits_of, state_of};
-ghost use Rattle.mg_shard.specs.Shard.{shards_seen};
+ghost use Rattle.mg_shard.specs.Shard.{shards_view};
 ghost use Rattle.mg_live.specs.Adding.{AddsAfter};
 
 use crate::commit_log::{LogWriter, Prefix, Write};
@@ -36,9 +36,9 @@ impl<P: Placement + Drop> Snapshot<P> {
 
     /// Returns the database's shards. Each has the rows of the indexes of the catalog, and of no other index. Takes no memory.
     pub fn shards(&self) -> &[Arc<Shard>]
-        ensures shards { shards_seen result.now ≡ (state_of self.now).shards }
+        ensures shards { shards_view result.now ≡ (state_of self.now).shards }
         ensures number { length result.now ≡ length (state_of self.now).shards }
-        ensures rows { All (λ s. s.definitions ≡ (state_of self.now).catalog) (shards_seen result.now) }
+        ensures rows { All (λ s. s.definitions ≡ (state_of self.now).catalog) (shards_view result.now) }
     {
         self.point.engine.shards()
     }
@@ -71,12 +71,12 @@ impl<P: Placement + Drop> Snapshot<P> {
         write: Write,
         prepared: Prepared,
     ) -> (Reply, Option<Snapshot<P>>)
-        requires write { is_write (asked write.command.value) ≡ true }
-        requires prepared { prepared ≡ asked write.command.value }
+        requires write { is_write (command_view write.command.value) ≡ true }
+        requires prepared { prepared ≡ command_view write.command.value }
         requires log { AddsAfter log.old D.commit_log self.now.prefix.seen.log }
         requires here { IsSnapshotOf P.place D.commit_log D.db D.shards self.now }
-        ensures next { WriteLeaves D.db (commits_of self.now) (write.seat, asked write.command.value)
-            (said result.0)
+        ensures next { WriteLeaves D.db (commits_of self.now) (write.seat, command_view write.command.value)
+            (reply_view result.0)
             (option_map commits_of result.1) }
         ensures log { MatchOption result.1 (log.new ≡ log.old)
             (λ s. AddsAfter log.new D.commit_log s.prefix.seen.log) }

@@ -9,7 +9,7 @@ use Rattle.mg_engine.specs.Commands.{Asked, Answer, reply_of, shards_after, shar
 use Rattle.mg_engine.specs.Execution.{Answers}
 use Rattle.mg_engine.specs.Settled.{IsSettled}
 use Rattle.mg_engine.specs.Stands.{StateView, Stands, shard_count}
-use Rattle.mg_engine.specs.View.{said}
+use Rattle.mg_engine.specs.View.{reply_view}
 use Rattle.mg_engine.specs.declared.reply.Reply.{Reply}
 use Rattle.mg_shard.specs.declared.placement.Md5Placement.{Md5Placement}
 use Rattle.mg_machine.specs.Machine.{Commit, Machine, after_write, are_full, entered, commands_of, longer_of, seen_by, shards_of, with_seen, world_of, write_reply}
@@ -55,13 +55,13 @@ module _ {P : Type 0} {place : P → List ℕ → ℕ → ℕ} where
 
   -- a write that is accepted: `r` is the engine's reply `given`, which is complete, and the point `q` has the engine `e` after it
   pub one_more : (name : List ℕ) (p q : Point P) (cs : List Commit) (seat : ℕ) (c : Asked) (r given : Reply) (next : Option (P × StateView)) (now e : P × StateView)
-      → p.commits < 18446744073709551615 → IsAfter place name p cs → (r ≡ given) × (is_some (said r) ≡ true) → now ≡ arc_value p.engine → next ≡ Some e → arc_value q.engine ≡ e → q.commits ≡ p.commits + 1
-      → ((w : World) → Stands place now w → Answers w c (said given) (Stands place (unwrap_or next now))) → IsSettled given next → Written place name cs seat c (said r) q
+      → p.commits < 18446744073709551615 → IsAfter place name p cs → (r ≡ given) × (is_some (reply_view r) ≡ true) → now ≡ arc_value p.engine → next ≡ Some e → arc_value q.engine ≡ e → q.commits ≡ p.commits + 1
+      → ((w : World) → Stands place now w → Answers w c (reply_view given) (Stands place (unwrap_or next now))) → IsSettled given next → Written place name cs seat c (reply_view r) q
   one_more name p q cs seat c r given next now e room at whole before left kept count did settled =
       let start : Stands place now (world_of name cs) = rw before at.engine in
-      let answers : Answers (world_of name cs) c (said r) (Stands place (arc_value q.engine)) = rw (whole.0, kept) (rw left at (did (world_of name cs) start)) in
-      let accepts : true ≡ option_map_or is_accepted (said r) false = rw whole.0 (rw left at settled) in
-      accepted name p q cs seat c (said r) room at whole.1 answers accepts count
+      let answers : Answers (world_of name cs) c (reply_view r) (Stands place (arc_value q.engine)) = rw (whole.0, kept) (rw left at (did (world_of name cs) start)) in
+      let accepts : true ≡ option_map_or is_accepted (reply_view r) false = rw whole.0 (rw left at settled) in
+      accepted name p q cs seat c (reply_view r) room at whole.1 answers accepts count
 
   -- the point after a write whose answer refuses it
   declined : (name : List ℕ) (p q : Point P) (cs : List Commit) (seat : ℕ) (c : Asked) (o : Option Answer) (ends : World → Type 0) → p.commits < 18446744073709551615 → IsAfter place name p cs → IsAfter place name q cs → is_some o ≡ true
@@ -74,14 +74,14 @@ module _ {P : Type 0} {place : P → List ℕ → ℕ → ℕ} where
 
   -- a write that is refused: `r` is the engine's reply `given`, which is complete, and the point `q` has the same engine
   pub no_more : (name : List ℕ) (p q : Point P) (cs : List Commit) (seat : ℕ) (c : Asked) (r given : Reply) (next : Option (P × StateView)) (now : P × StateView)
-      → p.commits < 18446744073709551615 → IsAfter place name p cs → (r ≡ given) × (is_some (said r) ≡ true) → now ≡ arc_value p.engine → next ≡ None → arc_value q.engine ≡ arc_value p.engine → q.commits ≡ p.commits
-      → ((w : World) → Stands place now w → Answers w c (said given) (Stands place (unwrap_or next now))) → IsSettled given next → Written place name cs seat c (said r) q
+      → p.commits < 18446744073709551615 → IsAfter place name p cs → (r ≡ given) × (is_some (reply_view r) ≡ true) → now ≡ arc_value p.engine → next ≡ None → arc_value q.engine ≡ arc_value p.engine → q.commits ≡ p.commits
+      → ((w : World) → Stands place now w → Answers w c (reply_view given) (Stands place (unwrap_or next now))) → IsSettled given next → Written place name cs seat c (reply_view r) q
   no_more name p q cs seat c r given next now room at whole before left same count did settled =
       let start : Stands place now (world_of name cs) = rw before at.engine in
-      let answers : Answers (world_of name cs) c (said r) (Stands place now) = rw whole.0 (rw left at (did (world_of name cs) start)) in
-      let refuses : false ≡ option_map_or is_accepted (said r) false = rw whole.0 (rw left at settled) in
+      let answers : Answers (world_of name cs) c (reply_view r) (Stands place now) = rw whole.0 (rw left at (did (world_of name cs) start)) in
+      let refuses : false ≡ option_map_or is_accepted (reply_view r) false = rw whole.0 (rw left at settled) in
       let once_more : IsAfter place name q cs = record { engine = rw same at.engine; commits = count ∙ at.commits } in
-      declined name p q cs seat c (said r) (Stands place now) room at once_more whole.1 answers refuses
+      declined name p q cs seat c (reply_view r) (Stands place now) room at once_more whole.1 answers refuses
 
 -- ---- the shards after a write
 
@@ -95,11 +95,11 @@ shards_of-one n cs p = ap (shards_after_all n) (map-append (λ c. c.1) cs (p ∷
 
 -- the shards after a write that is accepted, as in `one_more`
 pub dealt_more : {P : Type 0} (name : List ℕ) (n : ℕ) (p : Point P) (q : P × StateView) (cs : List Commit) (seat : ℕ) (c : Asked) (r given : Reply) (next : Option (P × StateView)) (now e : P × StateView)
-    → said r ≡ Some (write_reply name cs c) → r ≡ given → now ≡ arc_value p.engine → next ≡ Some e → q ≡ e
-    → IfSome (said given) (λ _. shard_count (unwrap_or next now) ≡ shards_after (shard_count now) c) → IsSettled given next → HasShardsAfter n p cs → shard_count q ≡ shards_of n (after_write name cs seat c)
+    → reply_view r ≡ Some (write_reply name cs c) → r ≡ given → now ≡ arc_value p.engine → next ≡ Some e → q ≡ e
+    → IfSome (reply_view given) (λ _. shard_count (unwrap_or next now) ≡ shards_after (shard_count now) c) → IsSettled given next → HasShardsAfter n p cs → shard_count q ≡ shards_of n (after_write name cs seat c)
 dealt_more name n p q cs seat c r given next now e is made before kept left deals settled at =
-    let reply_is : said given ≡ Some (write_reply name cs c) = rw made at is in
-    let accepts : true ≡ option_map_or is_accepted (said given) false = rw kept at settled in
+    let reply_is : reply_view given ≡ Some (write_reply name cs c) = rw made at is in
+    let accepts : true ≡ option_map_or is_accepted (reply_view given) false = rw kept at settled in
     let yes : is_accepted (write_reply name cs c) ≡ true = sym (rw reply_is at accepts) in
     let count : shard_count e ≡ shards_after (shard_count now) c = rw (reply_is, kept) at deals in
     let one = shards_of-one n cs (seat, c) in
@@ -107,10 +107,10 @@ dealt_more name n p q cs seat c r given next now e is made before kept left deal
 
 -- the shards after a write that is refused
 pub dealt_same : {P : Type 0} (name : List ℕ) (n : ℕ) (p : Point P) (q : P × StateView) (cs : List Commit) (seat : ℕ) (c : Asked) (r given : Reply) (next : Option (P × StateView))
-    → said r ≡ Some (write_reply name cs c) → r ≡ given → next ≡ None → q ≡ arc_value p.engine → IsSettled given next → HasShardsAfter n p cs → shard_count q ≡ shards_of n (after_write name cs seat c)
+    → reply_view r ≡ Some (write_reply name cs c) → r ≡ given → next ≡ None → q ≡ arc_value p.engine → IsSettled given next → HasShardsAfter n p cs → shard_count q ≡ shards_of n (after_write name cs seat c)
 dealt_same name n p q cs seat c r given next is made left same settled at =
-    let reply_is : said given ≡ Some (write_reply name cs c) = rw made at is in
-    let refuses : false ≡ option_map_or is_accepted (said given) false = rw left at settled in
+    let reply_is : reply_view given ≡ Some (write_reply name cs c) = rw made at is in
+    let refuses : false ≡ option_map_or is_accepted (reply_view given) false = rw left at settled in
     let no : is_accepted (write_reply name cs c) ≡ false = sym (rw reply_is at refuses) in
     rw (no, same) at
 

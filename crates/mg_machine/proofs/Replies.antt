@@ -2,32 +2,32 @@
 use Rattle.std.proofs.Common.{◌≡◌, ◌+◌, ◌<◌, ◌≤◌, ℕ, zero, suc, List, [], ◌∷◌, ◌++◌, Option, is_some, length, get_or, map, option_and_then, take, refl, ap, sym, ◌∙◌, subst, arith}
 use Rattle.std.proofs.lemmas.List.{map-append, map_more, take_all}
 use Rattle.mg_engine.specs.Commands.{Answer}
-use Rattle.mg_engine.specs.View.{said}
+use Rattle.mg_engine.specs.View.{reply_view}
 use Rattle.mg_engine.specs.declared.reply.Reply.{Reply}
 use Rattle.mg_machine.specs.Machine.{Event, Machine, happens, machine_after, replies_of_events}
 use Rattle.mg_machine.specs.Laws.{AreAt, IsAt}
-use Rattle.mg_machine.specs.View.{event_seen, events_seen}
+use Rattle.mg_machine.specs.View.{event_view, events_view}
 use Rattle.mg_machine.specs.declared.interleave.Event as code
 use Rattle.mg_machine.proofs.Events.{after-append}
 
 -- ---- events of the code
 
 -- the first i + 1 events are the first i and the event i
-pub seen_more : (es : List code.Event) (i : ℕ) (e : code.Event) → i < length es → e ≡ get_or es i e → events_seen (take (i + 1) es) ≡ events_seen (take i es) ++ event_seen e ∷ []
-seen_more es i e here is = map_more event_seen es i e here ∙ ap (λ x. events_seen (take i es) ++ event_seen x ∷ []) (sym is)
+pub seen_more : (es : List code.Event) (i : ℕ) (e : code.Event) → i < length es → e ≡ get_or es i e → events_view (take (i + 1) es) ≡ events_view (take i es) ++ event_view e ∷ []
+seen_more es i e here is = map_more event_view es i e here ∙ ap (λ x. events_view (take i es) ++ event_view x ∷ []) (sym is)
 
 -- the first i events are all events, if there are no more than i
-pub seen_all : (es : List code.Event) (i : ℕ) → length es ≤ i → events_seen (take i es) ≡ events_seen es
-seen_all es i over = ap events_seen (take_all i es over)
+pub seen_all : (es : List code.Event) (i : ℕ) → length es ≤ i → events_view (take i es) ≡ events_view es
+seen_all es i over = ap events_view (take_all i es over)
 
-item_at : (seats : ℕ) (es : List code.Event) (i : ℕ) (d : code.Event) → AreAt seats (events_seen es) → i < length es → IsAt seats (event_seen (get_or es i d))
+item_at : (seats : ℕ) (es : List code.Event) (i : ℕ) (d : code.Event) → AreAt seats (events_view es) → i < length es → IsAt seats (event_view (get_or es i d))
 item_at seats [] i d at here = absurd (omega (arith, here))
 item_at seats (e ∷ es) zero d at here = at.0
 item_at seats (e ∷ es) (suc n) d at here = item_at seats es n d at.1 (omega (arith, here))
 
 -- each event is at one of the seats
-pub event_at : (seats : ℕ) (es : List code.Event) (i : ℕ) (e : code.Event) → AreAt seats (events_seen es) → i < length es → e ≡ get_or es i e → IsAt seats (event_seen e)
-event_at seats es i e at here is = subst (λ (x : code.Event). IsAt seats (event_seen x)) (sym is) (item_at seats es i e at here)
+pub event_at : (seats : ℕ) (es : List code.Event) (i : ℕ) (e : code.Event) → AreAt seats (events_view es) → i < length es → e ≡ get_or es i e → IsAt seats (event_view e)
+event_at seats es i e at here is = subst (λ (x : code.Event). IsAt seats (event_view x)) (sym is) (item_at seats es i e at here)
 
 at_both : (seats : ℕ) (es : List Event) (e : Event) → AreAt seats es → IsAt seats e → AreAt seats (es ++ e ∷ [])
 at_both seats [] e at here = (here, tt)
@@ -35,8 +35,8 @@ at_both seats (d ∷ es) e at here = (at.0, at_both seats es e at.1 here)
 
 -- if the first i events are at the seats, and the event i is, the first i + 1 are
 pub at_more : (seats : ℕ) (es : List code.Event) (i : ℕ) (e : code.Event) → i < length es → e ≡ get_or es i e
-    → AreAt seats (events_seen (take i es)) → IsAt seats (event_seen e) → AreAt seats (events_seen (take (i + 1) es))
-at_more seats es i e below is at here = subst (AreAt seats) (sym (seen_more es i e below is)) (at_both seats (events_seen (take i es)) (event_seen e) at here)
+    → AreAt seats (events_view (take i es)) → IsAt seats (event_view e) → AreAt seats (events_view (take (i + 1) es))
+at_more seats es i e below is at here = subst (AreAt seats) (sym (seen_more es i e below is)) (at_both seats (events_view (take i es)) (event_view e) at here)
 
 -- ---- one more event
 
@@ -54,9 +54,9 @@ replies_more name m (d ∷ es) e = ap (λ rs. (happens name m d).1 ∷ rs) (repl
 
 -- the replies, with the reply to one more event
 pub said_more : (name : List ℕ) (m : Machine) (es more : List Event) (e : Event) (rs new : List (Option Reply)) (r : Option Reply) → more ≡ es ++ e ∷ [] → new ≡ rs ++ r ∷ []
-    → option_and_then said r ≡ (happens_after name m es e).1 → map (option_and_then said) rs ≡ replies_of_events name m es → map (option_and_then said) new ≡ replies_of_events name m more
+    → option_and_then reply_view r ≡ (happens_after name m es e).1 → map (option_and_then reply_view) rs ≡ replies_of_events name m es → map (option_and_then reply_view) new ≡ replies_of_events name m more
 said_more name m es more e rs new r is now one before =
-    ap (map (option_and_then said)) now ∙ map-append (option_and_then said) rs (r ∷ []) ∙ ap (λ l. l ++ option_and_then said r ∷ []) before
+    ap (map (option_and_then reply_view)) now ∙ map-append (option_and_then reply_view) rs (r ∷ []) ∙ ap (λ l. l ++ option_and_then reply_view r ∷ []) before
     ∙ ap (λ a. replies_of_events name m es ++ a ∷ []) one ∙ sym (replies_more name m es e) ∙ ap (replies_of_events name m) (sym is)
 
 -- which events have a reply, with one more event

@@ -40,9 +40,9 @@ is_said : {A : Type 0} (a b : A) → Some a ≡ Some b → a ≡ b
 is_said a b h = cc
 
 pub reads_are_of_the_seen : ReadsAreOfTheSeen
-reads_are_of_the_seen name seats es seat c a at reads said =
+reads_are_of_the_seen name seats es seat c a at reads replied =
     let cs = seen_by (after name seats es) seat in
-    let h : Some (reply_of (world_of name cs) c) ≡ Some a = rw reads at said in
+    let h : Some (reply_of (world_of name cs) c) ≡ Some a = rw reads at replied in
     replies-one (empty_world name) (commands_of cs) c ∙ ap (λ x. replies_of (empty_world name) (commands_of cs) ++ x ∷ []) (is_said (reply_of (world_of name cs) c) a h)
 
 -- while all events are at other seats, a seat has seen what it had seen when it caught up

@@ -1,10 +1,10 @@
 //! Sessions side by side, replayed one event after another.
 ghost use Rattle.std.specs.Prelude.{◌≡◌, ◌↔◌, ℕ, List, IfOk, IsTrue, is_some, map, option_and_then, vec_len};
-ghost use Rattle.mg_engine.specs.View.{said};
+ghost use Rattle.mg_engine.specs.View.{reply_view};
 ghost use Rattle.mg_machine.specs.Laws.{AreAt, IsAt};
 ghost use Rattle.mg_machine.specs.Machine.{Machine, happens, opened, replies_of_events};
 ghost use Rattle.mg_machine.specs.Seats.{SeatsStandFor};
-ghost use Rattle.mg_machine.specs.View.{event_seen, events_seen};
+ghost use Rattle.mg_machine.specs.View.{event_view, events_view};
 
 use crate::seats::Seats;
 use mg_engine::{Command, Reply};
@@ -30,7 +30,7 @@ pub enum Event {
 
 /// Whether each seat that the events name is one of `seats` seats, as `replay` requires. Takes no memory. Cost: the number of events.
 pub fn are_at(seats: usize, events: &[Event]) -> bool
-    ensures { IsTrue result ↔ AreAt seats (events_seen events.now) }
+    ensures { IsTrue result ↔ AreAt seats (events_view events.now) }
 {
     for event in events {
         if !is_at(seats, event) {
@@ -42,7 +42,7 @@ pub fn are_at(seats: usize, events: &[Event]) -> bool
 
 // Whether each seat that an event names is one of `seats` seats.
 fn is_at(seats: usize, event: &Event) -> bool
-    ensures { IsTrue result ↔ IsAt seats (event_seen event.now) }
+    ensures { IsTrue result ↔ IsAt seats (event_view event.now) }
 {
     match event {
         Event::Publish { seat, command: _ } => *seat < seats,
@@ -67,13 +67,13 @@ pub fn replay<R: Threads + Sync>(
     seats: usize,
     events: &[Event],
 ) -> Result<Vec<Option<Reply>>, NoMemory>
-    requires { AreAt seats (events_seen events.now) }
+    requires { AreAt seats (events_view events.now) }
     ensures replies { IfOk result
-        (λ v. map (option_and_then said) v.items
-        ≡ replies_of_events db.now (opened seats) (events_seen events.now)) }
+        (λ v. map (option_and_then reply_view) v.items
+        ≡ replies_of_events db.now (opened seats) (events_view events.now)) }
     ensures some { IfOk result
         (λ v. map is_some v.items
-        ≡ map is_some (replies_of_events db.now (opened seats) (events_seen events.now))) }
+        ≡ map is_some (replies_of_events db.now (opened seats) (events_view events.now))) }
 {
     let mut at = Seats::open(alloc, db, seats)?;
     let mut replies = Vec::with_capacity(alloc, events.len())?;
@@ -91,11 +91,11 @@ fn happen<R: Threads + Sync>(
     at: &mut Seats,
     event: &Event,
 ) -> Result<Option<Reply>, NoMemory>
-    requires { IsAt (vec_len at.old.each) (event_seen event.now) }
+    requires { IsAt (vec_len at.old.each) (event_view event.now) }
     ensures follow { IfOk result (λ r. (name : List ℕ) (m : Machine) → SeatsStandFor name at.old m
-        → (option_and_then said r ≡ (happens name m (event_seen event.now)).1)
-        × (is_some r ≡ is_some (happens name m (event_seen event.now)).1)
-        × SeatsStandFor name at.new (happens name m (event_seen event.now)).0) }
+        → (option_and_then reply_view r ≡ (happens name m (event_view event.now)).1)
+        × (is_some r ≡ is_some (happens name m (event_view event.now)).1)
+        × SeatsStandFor name at.new (happens name m (event_view event.now)).0) }
     ensures number { vec_len at.new.each ≡ vec_len at.old.each }
 {
     match event {

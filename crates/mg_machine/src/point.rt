@@ -2,7 +2,7 @@
 ghost use Rattle.std.specs.Prelude.{◌≡◌, ◌<◌, ◌≤◌, ℕ, List, [], IfOk, Some, true, false, is_some};
 ghost use Rattle.std.specs.Arc.{arc_value};
 ghost use Rattle.mg_engine.specs.Commands.{is_write, reply_of};
-ghost use Rattle.mg_engine.specs.View.{asked, said};
+ghost use Rattle.mg_engine.specs.View.{command_view, reply_view};
 ghost use Rattle.mg_engine.specs.Stands.{Stands};
 ghost use Rattle.mg_engine.specs.World.{World};
 ghost use Rattle.mg_machine.specs.Machine.{Commit, after_write, write_reply};
@@ -66,9 +66,9 @@ impl<P: Placement + Drop> Point<P> {
         workers: Workers,
         gate: &G,
     ) -> Result<Reply, NoMemory>
-        requires read { is_write (asked command.now) ≡ false }
+        requires read { is_write (command_view command.now) ≡ false }
         ensures { IfOk result (λ r. (w : World) → Stands P.place (arc_value self.now.engine) w
-            → said r ≡ Some (reply_of w (asked command.now))) }
+            → reply_view r ≡ Some (reply_of w (command_view command.now))) }
     {
         into_result(self.engine.answer_by(rt, alloc, command, workers, gate))
     }
@@ -85,14 +85,14 @@ impl<P: Placement + Drop> Point<P> {
         command: &Command,
         workers: Workers,
     ) -> Result<(Reply, Point<P>), NoMemory>
-        requires write { is_write (asked command.now) ≡ true }
+        requires write { is_write (command_view command.now) ≡ true }
         ensures after { IfOk result
             (λ r. (name : List ℕ) (cs : List Commit) (seat : ℕ) → IsAfter P.place name self.now cs
-            → (said r.0 ≡ Some (write_reply name cs (asked command.now)))
-            × IsAfter P.place name r.1 (after_write name cs seat (asked command.now))) }
+            → (reply_view r.0 ≡ Some (write_reply name cs (command_view command.now)))
+            × IsAfter P.place name r.1 (after_write name cs seat (command_view command.now))) }
         ensures dealt { IfOk result (λ r. (name : List ℕ) (shards : ℕ) (cs : List Commit) (seat : ℕ)
             → IsAfter P.place name self.now cs → HasShardsAfter shards self.now cs
-            → HasShardsAfter shards r.1 (after_write name cs seat (asked command.now))) }
+            → HasShardsAfter shards r.1 (after_write name cs seat (command_view command.now))) }
     {
         let prepared = Prepared::of(alloc, command.copy(alloc)?)?;
         self.write_prepared(rt, alloc, prepared, workers)
@@ -111,7 +111,7 @@ impl<P: Placement + Drop> Point<P> {
         requires write { is_write prepared ≡ true }
         ensures after { IfOk result
             (λ r. (name : List ℕ) (cs : List Commit) (seat : ℕ) → IsAfter P.place name self.now cs
-            → (said r.0 ≡ Some (write_reply name cs prepared))
+            → (reply_view r.0 ≡ Some (write_reply name cs prepared))
             × IsAfter P.place name r.1 (after_write name cs seat prepared)) }
         ensures dealt { IfOk result (λ r. (name : List ℕ) (shards : ℕ) (cs : List Commit) (seat : ℕ)
             → IsAfter P.place name self.now cs → HasShardsAfter shards self.now cs
@@ -136,7 +136,7 @@ impl<P: Placement + Drop> Point<P> {
         requires room { self.now.commits < 18446744073709551615 }
         ensures after { IfOk result
             (λ r. (name : List ℕ) (cs : List Commit) (seat : ℕ) → IsAfter P.place name self.now cs
-            → (said r.0 ≡ Some (write_reply name cs prepared))
+            → (reply_view r.0 ≡ Some (write_reply name cs prepared))
             × IsAfter P.place name r.1 (after_write name cs seat prepared)) }
         ensures dealt { IfOk result (λ r. (name : List ℕ) (shards : ℕ) (cs : List Commit) (seat : ℕ)
             → IsAfter P.place name self.now cs → HasShardsAfter shards self.now cs
@@ -161,7 +161,7 @@ impl<P: Placement + Drop> Point<P> {
 
 // Returns the reply if it is complete. `Reply::NoMemory` becomes the error.
 fn into_result(reply: Reply) -> Result<Reply, NoMemory>
-    ensures { IfOk result (λ r. (r ≡ reply) × (is_some (said r) ≡ true)) }
+    ensures { IfOk result (λ r. (r ≡ reply) × (is_some (reply_view r) ≡ true)) }
 {
     match reply {
         Reply::NoMemory => Err(NoMemory),

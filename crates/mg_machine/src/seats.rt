@@ -2,7 +2,7 @@
 //! have a write that the seat of the write has not seen.
 ghost use Rattle.std.specs.Prelude.{◌≡◌, ◌<◌, ℕ, List, All, IfOk, OnOk, false, true, vec_len};
 ghost use Rattle.mg_engine.specs.Commands.{is_write};
-ghost use Rattle.mg_engine.specs.View.{asked, said};
+ghost use Rattle.mg_engine.specs.View.{command_view, reply_view};
 ghost use Rattle.mg_machine.specs.Machine.{Machine, Commit, answer, entered, happens, opened, publish, read, told, written};
 ghost use Rattle.mg_machine.specs.Seats.{SeatsStandFor, by_md5};
 ghost use Rattle.mg_machine.specs.Points.{IsAfter};
@@ -48,8 +48,8 @@ impl Seats {
     ) -> Result<Reply, NoMemory>
         requires { seat < vec_len self.old.each }
         ensures follow { IfOk result (λ r. (name : List ℕ) (m : Machine) → SeatsStandFor name self.old m
-            → (said r ≡ (happens name m (publish seat (asked command.now))).1)
-            × SeatsStandFor name self.new (happens name m (publish seat (asked command.now))).0) }
+            → (reply_view r ≡ (happens name m (publish seat (command_view command.now))).1)
+            × SeatsStandFor name self.new (happens name m (publish seat (command_view command.now))).0) }
         ensures number { vec_len self.new.each ≡ vec_len self.old.each }
     {
         if command.is_write() {
@@ -72,8 +72,8 @@ impl Seats {
     ) -> Result<Reply, NoMemory>
         requires { seat < vec_len self.old.each }
         ensures follow { IfOk result (λ r. (name : List ℕ) (m : Machine) → SeatsStandFor name self.old m
-            → (said r ≡ (happens name m (answer seat (asked command.now))).1)
-            × SeatsStandFor name self.new (happens name m (answer seat (asked command.now))).0) }
+            → (reply_view r ≡ (happens name m (answer seat (command_view command.now))).1)
+            × SeatsStandFor name self.new (happens name m (answer seat (command_view command.now))).0) }
         ensures number { vec_len self.new.each ≡ vec_len self.old.each }
     {
         if command.is_write() {
@@ -117,10 +117,10 @@ impl Seats {
         seat: usize,
         command: &Command,
     ) -> Result<Reply, NoMemory>
-        requires read { is_write (asked command.now) ≡ false }
+        requires read { is_write (command_view command.now) ≡ false }
         requires seat { seat < vec_len self.now.each }
         ensures { IfOk result (λ r. (name : List ℕ) (m : Machine) → SeatsStandFor name self.now m
-            → said r ≡ (read name m seat (asked command.now)).1) }
+            → reply_view r ≡ (read name m seat (command_view command.now)).1) }
     {
         let seen = &self.each[seat];
         let reply = seen.read(rt, alloc, command, Workers::exactly(1), &NoGate)?;
@@ -135,11 +135,11 @@ impl Seats {
         seat: usize,
         command: &Command,
     ) -> Result<Reply, NoMemory>
-        requires write { is_write (asked command.now) ≡ true }
+        requires write { is_write (command_view command.now) ≡ true }
         requires seat { seat < vec_len self.old.each }
         ensures follow { IfOk result (λ r. (name : List ℕ) (m : Machine) → SeatsStandFor name self.old m
-            → (said r ≡ (written name m seat (asked command.now)).1)
-            × SeatsStandFor name self.new (written name m seat (asked command.now)).0) }
+            → (reply_view r ≡ (written name m seat (command_view command.now)).1)
+            × SeatsStandFor name self.new (written name m seat (command_view command.now)).0) }
         ensures number { vec_len self.new.each ≡ vec_len self.old.each }
     {
         let (reply, next) = self.latest.write(rt, alloc, command, Workers::exactly(1))?;

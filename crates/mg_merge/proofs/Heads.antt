@@ -9,7 +9,7 @@ use Rattle.std.proofs.lemmas.List.{append-nil, get_or-map, length-map, map-set}
 use Rattle.mg_collate.specs.Sorted.{sorted_with, sorted}
 use Rattle.mg_collate.proofs.Sorting.{NoneBelow, Rises, times, all_of_each, all_weaker, all_append, rises, in_order, sorted_least}
 use Rattle.mg_merge.specs.Merged.{contents_of, joined}
-use Rattle.mg_merge.specs.Remaining.{lent_of, remaining_of, first_order, BeginsFirst}
+use Rattle.mg_merge.specs.Remaining.{lent_view, remaining_of, first_order, BeginsFirst}
 
 -- ---- which list begins first
 
@@ -167,16 +167,16 @@ pub rest_order : {X : Type 0} (order : X → X → Ordering) → IsTotalOrder or
 rest_order order o remaining place rest x left ordered k e h =
     subst (All (IsSorted order)) (sym (remaining_of-set remaining place left)) (order_kept order o (remaining_of remaining) place x left.now ordered k (sym (rest_at remaining place rest (within remaining place k) e) ∙ h))
 
-lent_more : {X : Type 0} (lent : List (Bor X)) (item : Bor X) (ys : List X) → lent_of lent ++ item.now ∷ ys ≡ lent_of (lent ++ item ∷ []) ++ ys
+lent_more : {X : Type 0} (lent : List (Bor X)) (item : Bor X) (ys : List X) → lent_view lent ++ item.now ∷ ys ≡ lent_view (lent ++ item ∷ []) ++ ys
 lent_more [] item ys = refl
 lent_more (x ∷ lent) item ys = ap (λ zs. x.now ∷ zs) (lent_more lent item ys)
 
 -- what was taken, followed by what is left in order, is the whole result, also after one more is taken
-pub one_more_lent : {X : Type 0} (order : X → X → Ordering) (all : List X) (lent more : List (Bor X)) (item : Bor X) (remaining seen left : List (Bor (List X))) → all ≡ lent_of lent ++ sorted order (joined (remaining_of remaining)) → seen ≡ remaining
-    → sorted order (joined (remaining_of seen)) ≡ item.now ∷ sorted order (joined (remaining_of left)) → more ≡ lent ++ item ∷ [] → all ≡ lent_of more ++ sorted order (joined (remaining_of left))
+pub one_more_lent : {X : Type 0} (order : X → X → Ordering) (all : List X) (lent more : List (Bor X)) (item : Bor X) (remaining seen left : List (Bor (List X))) → all ≡ lent_view lent ++ sorted order (joined (remaining_of remaining)) → seen ≡ remaining
+    → sorted order (joined (remaining_of seen)) ≡ item.now ∷ sorted order (joined (remaining_of left)) → more ≡ lent ++ item ∷ [] → all ≡ lent_view more ++ sorted order (joined (remaining_of left))
 one_more_lent order all lent more item remaining seen left e same first m =
-    e ∙ ap (λ rs. lent_of lent ++ sorted order (joined (remaining_of rs))) (sym same) ∙ ap (λ ys. lent_of lent ++ ys) first ∙ lent_more lent item (sorted order (joined (remaining_of left)))
-    ∙ ap (λ l. lent_of l ++ sorted order (joined (remaining_of left))) (sym m)
+    e ∙ ap (λ rs. lent_view lent ++ sorted order (joined (remaining_of rs))) (sym same) ∙ ap (λ ys. lent_view lent ++ ys) first ∙ lent_more lent item (sorted order (joined (remaining_of left)))
+    ∙ ap (λ l. lent_view l ++ sorted order (joined (remaining_of left))) (sym m)
 
 -- ---- one list alone
 

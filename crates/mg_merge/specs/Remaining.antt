@@ -10,8 +10,8 @@ abbrev pub remaining_of : {X : Type 0} → List (Bor (List X)) → List (List X)
 remaining_of remaining = map (λ rest. rest.now) remaining
 
 -- the borrowed items
-abbrev pub lent_of : {X : Type 0} → List (Bor X) → List X
-lent_of lent = map (λ x. x.now) lent
+abbrev pub lent_view : {X : Type 0} → List (Bor X) → List X
+lent_view lent = map (λ x. x.now) lent
 
 -- compares lists by their first items; an empty list is after all others, and two empty lists tie
 abbrev pub first_order : {X : Type 0} → (X → X → Ordering) → List X → List X → Ordering

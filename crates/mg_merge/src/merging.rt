@@ -2,7 +2,7 @@ ghost use Rattle.std.specs.Prelude.{◌≡◌, All, IfOk, length, map, take};
 ghost use Rattle.mg_collate.specs.Row.{rows_view};
 ghost use Rattle.mg_collate.specs.Sorted.{IsInOrder};
 ghost use Rattle.mg_merge.specs.Merged.{IsInOrderBy, contents_of, lists_view, merged, merged_by};
-ghost use Rattle.mg_merge.specs.Remaining.{lent_of};
+ghost use Rattle.mg_merge.specs.Remaining.{lent_view};
 
 use crate::ranked::Ranked;
 use crate::remaining::{take_first, whole_lists};
@@ -75,7 +75,7 @@ fn first_lent<'a, T: Ranked>(
 ) -> Result<Vec<&'a T>, NoMemory>
     requires { All (IsInOrderBy T.row_of direction) (contents_of lists.now) }
     ensures { IfOk result
-        (λ lent. lent_of lent.items ≡ merged_by T.row_of direction take (contents_of lists.now)) }
+        (λ lent. lent_view lent.items ≡ merged_by T.row_of direction take (contents_of lists.now)) }
 {
     if lists.len() == 1 {
         return first_of_one(alloc, lists[0].as_slice(), take);
@@ -94,7 +94,7 @@ fn first_lent<'a, T: Ranked>(
 
 // Borrows the first `count` items of a single list, without a comparison.
 fn first_of_one<'a, T>(alloc: Global, list: &'a [T], count: usize) -> Result<Vec<&'a T>, NoMemory>
-    ensures { IfOk result (λ lent. lent_of lent.items ≡ take count list.now) }
+    ensures { IfOk result (λ lent. lent_view lent.items ≡ take count list.now) }
 {
     let count = count.min(list.len());
     let mut lent = Vec::with_capacity(alloc, count)?;
@@ -105,7 +105,7 @@ fn first_of_one<'a, T>(alloc: Global, list: &'a [T], count: usize) -> Result<Vec
 }
 
 fn copy_all<T: Copy>(alloc: Global, lent: &[&T]) -> Result<Vec<T>, NoMemory>
-    ensures { IfOk result (λ items. items.items ≡ lent_of lent.now) }
+    ensures { IfOk result (λ items. items.items ≡ lent_view lent.now) }
 {
     let mut items = Vec::with_capacity(alloc, lent.len())?;
     for item in lent {
@@ -115,7 +115,7 @@ fn copy_all<T: Copy>(alloc: Global, lent: &[&T]) -> Result<Vec<T>, NoMemory>
 }
 
 fn copy_rows(alloc: Global, lent: &[&Row]) -> Result<Vec<Row>, NoMemory>
-    ensures { IfOk result (λ rows. rows_view rows.items ≡ rows_view (lent_of lent.now)) }
+    ensures { IfOk result (λ rows. rows_view rows.items ≡ rows_view (lent_view lent.now)) }
 {
     let mut rows = Vec::with_capacity(alloc, lent.len())?;
     for row in lent {

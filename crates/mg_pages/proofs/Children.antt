@@ -8,7 +8,7 @@ use Rattle.std.specs.List.{flat_map}
 use Rattle.mg_pages.specs.Order.{IsProbe, Ascends, above, below, found, inserted, removed, probe_from_total}
 use Rattle.mg_pages.specs.Search.{IsAmong}
 use Rattle.mg_pages.specs.Runs.{IsEndRun}
-use Rattle.mg_pages.specs.Parts.{IsLast, AreWhole, child_seen, child_value, child_whole, children, node_value}
+use Rattle.mg_pages.specs.Parts.{IsLast, AreWhole, child_view, child_value, child_whole, children, node_value}
 use Rattle.mg_pages.specs.declared.child.Child.{Child}
 use Rattle.mg_pages.specs.declared.child.Node.{Node}
 use Rattle.mg_pages.proofs.Sorted.{above_first, found_cut, found_one, split_at, above_of_below, above_one_less, above_one_not, before_one}
@@ -22,21 +22,21 @@ pub within_children : {T P : Type 0} (xs : List (Child T P)) (i : ℕ) → i < l
 within_children xs i l = omega (arith, mapped_length child_value xs)
 
 -- its part is whole, and ends with its last element
-pub child_at : {T P : Type 0} (W : P → Type 0) (seen : P → List T) (xs : List (Child T P)) (i : ℕ) (c : Child T P) (n : Node T P) → i < length xs → c ≡ get_or xs i c → n ≡ arc_value c.node
-    → AreWhole (child_whole W seen) (children xs) → child_whole W seen (node_value n)
-child_at W seen xs i c n l e v h = whole_at (child_whole W seen) (children xs) i (node_value n) (within_children xs i l) (part_at xs i c n l e v) h
+pub child_at : {T P : Type 0} (W : P → Type 0) (view : P → List T) (xs : List (Child T P)) (i : ℕ) (c : Child T P) (n : Node T P) → i < length xs → c ≡ get_or xs i c → n ≡ arc_value c.node
+    → AreWhole (child_whole W view) (children xs) → child_whole W view (node_value n)
+child_at W view xs i c n l e v h = whole_at (child_whole W view) (children xs) i (node_value n) (within_children xs i l) (part_at xs i c n l e v) h
 
 -- its elements ascend
-pub child_ascends : {T P : Type 0} (seen : P → List T) (order : T → T → Ordering) (xs : List (Child T P)) (i : ℕ) (c : Child T P) (n : Node T P) → i < length xs → c ≡ get_or xs i c → n ≡ arc_value c.node
-    → Ascends order (flat_map (child_seen seen) (children xs)) → Ascends order (seen n.part)
-child_ascends seen order xs i c n l e v s = ascends_at (child_seen seen) order (children xs) i (node_value n) (within_children xs i l) (part_at xs i c n l e v) s
+pub child_ascends : {T P : Type 0} (view : P → List T) (order : T → T → Ordering) (xs : List (Child T P)) (i : ℕ) (c : Child T P) (n : Node T P) → i < length xs → c ≡ get_or xs i c → n ≡ arc_value c.node
+    → Ascends order (flat_map (child_view view) (children xs)) → Ascends order (view n.part)
+child_ascends view order xs i c n l e v s = ascends_at (child_view view) order (children xs) i (node_value n) (within_children xs i l) (part_at xs i c n l e v) s
 
 -- parts that are whole are not empty
-pub seen_some : {P T : Type 0} (W : P → Type 0) (seen : P → List T) (ps : List (T × P)) → 0 < length ps → AreWhole (child_whole W seen) ps → 0 < length (flat_map (child_seen seen) ps)
-seen_some W seen [] n h = absurd (omega arith)
-seen_some W seen (p ∷ ps) n h =
+pub view_some : {P T : Type 0} (W : P → Type 0) (view : P → List T) (ps : List (T × P)) → 0 < length ps → AreWhole (child_whole W view) ps → 0 < length (flat_map (child_view view) ps)
+view_some W view [] n h = absurd (omega arith)
+view_some W view (p ∷ ps) n h =
     let e = ap length h.0.1.is in
-    omega (arith, length-append (seen p.1) (flat_map (child_seen seen) ps), length-append h.0.1.front (p.0 ∷ []), e)
+    omega (arith, length-append (view p.1) (flat_map (child_view view) ps), length-append h.0.1.front (p.0 ∷ []), e)
 
 -- the element at the last place is the last of a list
 pub last_at : {T : Type 0} (xs : List T) (x : T) → 0 < length xs → x ≡ get_or xs (length xs - 1) x → IsLast x xs

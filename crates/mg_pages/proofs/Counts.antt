@@ -7,28 +7,28 @@ use Rattle.std.specs.Cmp.{IsTotalOrder}
 use Rattle.std.specs.List.{flat_map}
 use Rattle.mg_pages.specs.Order.{Ascends, above, below, found, inserted, over}
 use Rattle.mg_pages.specs.Search.{AllAbove, AllBelow}
-use Rattle.mg_pages.proofs.Parts.{seen_below, seen_split, seen_take_more}
+use Rattle.mg_pages.proofs.Parts.{view_below, view_split, view_take_more}
 use Rattle.mg_pages.proofs.Sorted.{inserted_new, inserted_over}
 
-module _ {P T : Type 0} (seen : P → List T) where
-  pub count_more : (ps : List P) (i : ℕ) (p : P) → i < length ps → p ≡ get_or ps i p → length (flat_map seen (take (i + 1) ps)) ≡ length (flat_map seen (take i ps)) + length (seen p)
-  count_more ps i p l e = ap length (seen_take_more seen ps i p l e) ∙ length-append (flat_map seen (take i ps)) (seen p)
+module _ {P T : Type 0} (view : P → List T) where
+  pub count_more : (ps : List P) (i : ℕ) (p : P) → i < length ps → p ≡ get_or ps i p → length (flat_map view (take (i + 1) ps)) ≡ length (flat_map view (take i ps)) + length (view p)
+  count_more ps i p l e = ap length (view_take_more view ps i p l e) ∙ length-append (flat_map view (take i ps)) (view p)
 
   -- the parts up to the i-th have no more elements than all parts
-  pub count_within : (ps : List P) (i : ℕ) (p : P) → i < length ps → p ≡ get_or ps i p → length (flat_map seen (take i ps)) + length (seen p) ≤ length (flat_map seen ps)
+  pub count_within : (ps : List P) (i : ℕ) (p : P) → i < length ps → p ≡ get_or ps i p → length (flat_map view (take i ps)) + length (view p) ≤ length (flat_map view ps)
   count_within ps i p l e =
-      let n = ap length (seen_split seen ps i p l e) in
-      omega (arith, n, length-append (flat_map seen (take i ps)) (seen p ++ flat_map seen (drop (i + 1) ps)), length-append (seen p) (flat_map seen (drop (i + 1) ps)))
+      let n = ap length (view_split view ps i p l e) in
+      omega (arith, n, length-append (flat_map view (take i ps)) (view p ++ flat_map view (drop (i + 1) ps)), length-append (view p) (flat_map view (drop (i + 1) ps)))
 
-  pub count_cut : (ps : List P) (k : ℕ) → length (flat_map seen ps) ≡ length (flat_map seen (take k ps)) + length (flat_map seen (drop k ps))
+  pub count_cut : (ps : List P) (k : ℕ) → length (flat_map view ps) ≡ length (flat_map view (take k ps)) + length (flat_map view (drop k ps))
   count_cut ps k =
-      sym (ap (λ qs. length (flat_map seen qs)) (take-append-drop k ps)) ∙ ap length (flat_map-append seen (take k ps) (drop k ps)) ∙ length-append (flat_map seen (take k ps)) (flat_map seen (drop k ps))
+      sym (ap (λ qs. length (flat_map view qs)) (take-append-drop k ps)) ∙ ap length (flat_map-append view (take k ps) (drop k ps)) ∙ length-append (flat_map view (take k ps)) (flat_map view (drop k ps))
 
   -- the elements below a key are all before its part, and those of its part that are below the key
-  pub count_below_parts : (against : T → Ordering) (ps : List P) (i : ℕ) (p : P) → i < length ps → p ≡ get_or ps i p → AllBelow against (flat_map seen (take i ps)) → AllAbove against (flat_map seen (drop (i + 1) ps))
-      → length (below against (flat_map seen ps)) ≡ length (flat_map seen (take i ps)) + length (below against (seen p))
+  pub count_below_parts : (against : T → Ordering) (ps : List P) (i : ℕ) (p : P) → i < length ps → p ≡ get_or ps i p → AllBelow against (flat_map view (take i ps)) → AllAbove against (flat_map view (drop (i + 1) ps))
+      → length (below against (flat_map view ps)) ≡ length (flat_map view (take i ps)) + length (below against (view p))
   count_below_parts against ps i p l e low high =
-      ap length (seen_below seen against ps i p l e low high) ∙ length-append (flat_map seen (take i ps)) (below against (seen p))
+      ap length (view_below view against ps i p l e low high) ∙ length-append (flat_map view (take i ps)) (below against (view p))
 
 pub count_of_below : {T : Type 0} (against : T → Ordering) (xs : List T) → length (below against xs) ≤ length xs
 count_of_below against xs = omega (arith, length-filter_both (λ x. is_gt (against x)) (λ x. not (is_gt (against x))) (λ x. refl) xs)

@@ -18,42 +18,42 @@ mapped_at f xs i a p l e v = v ∙ ap f e ∙ sym (get_or-map f xs i a p l)
 pub mapped_length : {A X : Type 0} (f : A → X) (xs : List A) → length (map f xs) ≡ length xs
 mapped_length f xs = length-map xs f
 
-module _ {P T : Type 0} (seen : P → List T) where
-  pub seen_split : (ps : List P) (i : ℕ) (p : P) → i < length ps → p ≡ get_or ps i p → flat_map seen ps ≡ flat_map seen (take i ps) ++ (seen p ++ flat_map seen (drop (i + 1) ps))
-  seen_split ps i p l e = ap (flat_map seen) (split_at ps i p l e) ∙ flat_map-append seen (take i ps) (p ∷ drop (i + 1) ps)
+module _ {P T : Type 0} (view : P → List T) where
+  pub view_split : (ps : List P) (i : ℕ) (p : P) → i < length ps → p ≡ get_or ps i p → flat_map view ps ≡ flat_map view (take i ps) ++ (view p ++ flat_map view (drop (i + 1) ps))
+  view_split ps i p l e = ap (flat_map view) (split_at ps i p l e) ∙ flat_map-append view (take i ps) (p ∷ drop (i + 1) ps)
 
-  pub seen_take_more : (ps : List P) (i : ℕ) (p : P) → i < length ps → p ≡ get_or ps i p → flat_map seen (take (i + 1) ps) ≡ flat_map seen (take i ps) ++ seen p
-  seen_take_more ps i p l e = ap (flat_map seen) (take_one_more ps i p l e) ∙ flat_map-append seen (take i ps) (p ∷ []) ∙ ap (λ xs. flat_map seen (take i ps) ++ xs) (append-nil (seen p))
+  pub view_take_more : (ps : List P) (i : ℕ) (p : P) → i < length ps → p ≡ get_or ps i p → flat_map view (take (i + 1) ps) ≡ flat_map view (take i ps) ++ view p
+  view_take_more ps i p l e = ap (flat_map view) (take_one_more ps i p l e) ∙ flat_map-append view (take i ps) (p ∷ []) ∙ ap (λ xs. flat_map view (take i ps) ++ xs) (append-nil (view p))
 
   -- the last element of the last part is the last of all
-  pub last_seen : (ps : List P) (p : P) (x : T) → 0 < length ps → p ≡ get_or ps (length ps - 1) p → IsLast x (seen p) → IsLast x (flat_map seen ps)
-  last_seen ps p x some e it =
+  pub last_view : (ps : List P) (p : P) (x : T) → 0 < length ps → p ≡ get_or ps (length ps - 1) p → IsLast x (view p) → IsLast x (flat_map view ps)
+  last_view ps p x some e it =
       let i = length ps - 1 in
       let rest : drop (i + 1) ps ≡ [] = drop_all (i + 1) ps (omega arith) in
       record {
-        front = flat_map seen (take i ps) ++ it.front;
-        is = seen_split ps i p (omega arith) e ∙ ap (λ qs. flat_map seen (take i ps) ++ (seen p ++ flat_map seen qs)) rest
-            ∙ ap (λ xs. flat_map seen (take i ps) ++ xs) (append-nil (seen p) ∙ it.is) ∙ sym (append_assoc (flat_map seen (take i ps)) it.front (x ∷ []));
+        front = flat_map view (take i ps) ++ it.front;
+        is = view_split ps i p (omega arith) e ∙ ap (λ qs. flat_map view (take i ps) ++ (view p ++ flat_map view qs)) rest
+            ∙ ap (λ xs. flat_map view (take i ps) ++ xs) (append-nil (view p) ∙ it.is) ∙ sym (append_assoc (flat_map view (take i ps)) it.front (x ∷ []));
       }
 
   module _ (order : T → T → Ordering) (against : T → Ordering) (probe : IsProbe order against) where
     -- a key that is above the last element of a part is above all elements of that part and of those before it
-    pub below_part : (ps : List P) (i : ℕ) (p : P) (x : T) → i < length ps → p ≡ get_or ps i p → Ascends order (flat_map seen ps) → IsLast x (seen p) → against x ≡ Greater → AllBelow against (flat_map seen (take (i + 1) ps))
+    pub below_part : (ps : List P) (i : ℕ) (p : P) (x : T) → i < length ps → p ≡ get_or ps i p → Ascends order (flat_map view ps) → IsLast x (view p) → against x ≡ Greater → AllBelow against (flat_map view (take (i + 1) ps))
     below_part ps i p x l e s it g =
-        let front = flat_map seen (take i ps) in
-        let upto : flat_map seen (take (i + 1) ps) ≡ (front ++ it.front) ++ x ∷ [] = seen_take_more ps i p l e ∙ ap (λ xs. front ++ xs) it.is ∙ sym (append_assoc front it.front (x ∷ [])) in
-        let whole : flat_map seen ps ≡ ((front ++ it.front) ++ x ∷ []) ++ flat_map seen (drop (i + 1) ps) =
-        seen_split ps i p l e ∙ sym (append_assoc front (seen p) (flat_map seen (drop (i + 1) ps))) ∙ ap (λ xs. xs ++ flat_map seen (drop (i + 1) ps)) (sym (seen_take_more ps i p l e) ∙ upto) in
-        let rises = ascends_left order ((front ++ it.front) ++ x ∷ []) (flat_map seen (drop (i + 1) ps)) (subst (Ascends order) whole s) in
+        let front = flat_map view (take i ps) in
+        let upto : flat_map view (take (i + 1) ps) ≡ (front ++ it.front) ++ x ∷ [] = view_take_more ps i p l e ∙ ap (λ xs. front ++ xs) it.is ∙ sym (append_assoc front it.front (x ∷ [])) in
+        let whole : flat_map view ps ≡ ((front ++ it.front) ++ x ∷ []) ++ flat_map view (drop (i + 1) ps) =
+        view_split ps i p l e ∙ sym (append_assoc front (view p) (flat_map view (drop (i + 1) ps))) ∙ ap (λ xs. xs ++ flat_map view (drop (i + 1) ps)) (sym (view_take_more ps i p l e) ∙ upto) in
+        let rises = ascends_left order ((front ++ it.front) ++ x ∷ []) (flat_map view (drop (i + 1) ps)) (subst (Ascends order) whole s) in
         subst (AllBelow against) (sym upto) (below_last order against probe (front ++ it.front) x rises g)
 
     -- a key that is not above the last element of a part is below all that comes after that part
-    pub above_part : (ps : List P) (i : ℕ) (p : P) (x : T) → i < length ps → p ≡ get_or ps i p → Ascends order (flat_map seen ps) → IsLast x (seen p) → is_gt (against x) ≡ false → AllAbove against (flat_map seen (drop (i + 1) ps))
+    pub above_part : (ps : List P) (i : ℕ) (p : P) (x : T) → i < length ps → p ≡ get_or ps i p → Ascends order (flat_map view ps) → IsLast x (view p) → is_gt (against x) ≡ false → AllAbove against (flat_map view (drop (i + 1) ps))
     above_part ps i p x l e s it n =
-        let front = flat_map seen (take i ps) in
-        let rest = flat_map seen (drop (i + 1) ps) in
-        let whole : flat_map seen ps ≡ (front ++ it.front) ++ x ∷ rest =
-        seen_split ps i p l e ∙ ap (λ xs. front ++ (xs ++ rest)) it.is ∙ ap (λ xs. front ++ xs) (append_assoc it.front (x ∷ []) rest) ∙ sym (append_assoc front it.front (x ∷ rest)) in
+        let front = flat_map view (take i ps) in
+        let rest = flat_map view (drop (i + 1) ps) in
+        let whole : flat_map view ps ≡ (front ++ it.front) ++ x ∷ rest =
+        view_split ps i p l e ∙ ap (λ xs. front ++ (xs ++ rest)) it.is ∙ ap (λ xs. front ++ xs) (append_assoc it.front (x ∷ []) rest) ∙ sym (append_assoc front it.front (x ∷ rest)) in
         above_first order against probe (front ++ it.front) x rest (subst (Ascends order) whole s) n
 
 pub whole_at : {P : Type 0} (W : P → Type 0) (ps : List P) (i : ℕ) (p : P) → i < length ps → p ≡ get_or ps i p → AreWhole W ps → W p
@@ -68,33 +68,33 @@ mapped_replaced v xs i f b l =
     ap (map v) (replaced xs i f b l) ∙ map-append v (take i xs) (f ∷ b ∷ drop (i + 1) xs)
     ∙ ap₂ (λ us vs. us ++ v f ∷ v b ∷ vs) (sym (take-map v i xs)) (sym (drop-map v (i + 1) xs))
 
-module _ {P T : Type 0} (seen : P → List T) where
-  pub seen_halves : (ps : List P) (i : ℕ) (p f b : P) → i < length ps → p ≡ get_or ps i p → seen f ++ seen b ≡ seen p → flat_map seen (take i ps ++ f ∷ b ∷ drop (i + 1) ps) ≡ flat_map seen ps
-  seen_halves ps i p f b l e h =
-      let front = flat_map seen (take i ps) in
-      let rest = flat_map seen (drop (i + 1) ps) in
-      flat_map-append seen (take i ps) (f ∷ b ∷ drop (i + 1) ps) ∙ ap (λ xs. front ++ xs) (sym (append_assoc (seen f) (seen b) rest) ∙ ap (λ xs. xs ++ rest) h) ∙ sym (seen_split seen ps i p l e)
+module _ {P T : Type 0} (view : P → List T) where
+  pub view_halves : (ps : List P) (i : ℕ) (p f b : P) → i < length ps → p ≡ get_or ps i p → view f ++ view b ≡ view p → flat_map view (take i ps ++ f ∷ b ∷ drop (i + 1) ps) ≡ flat_map view ps
+  view_halves ps i p f b l e h =
+      let front = flat_map view (take i ps) in
+      let rest = flat_map view (drop (i + 1) ps) in
+      flat_map-append view (take i ps) (f ∷ b ∷ drop (i + 1) ps) ∙ ap (λ xs. front ++ xs) (sym (append_assoc (view f) (view b) rest) ∙ ap (λ xs. xs ++ rest) h) ∙ sym (view_split view ps i p l e)
 
   -- the elements after one part has changed
-  pub seen_set : (ps : List P) (i : ℕ) (q : P) → i < length ps → flat_map seen (set ps i q) ≡ flat_map seen (take i ps) ++ (seen q ++ flat_map seen (drop (i + 1) ps))
-  seen_set ps i q l = ap (flat_map seen) (set_is ps i q l) ∙ flat_map-append seen (take i ps) (q ∷ drop (i + 1) ps)
+  pub view_set : (ps : List P) (i : ℕ) (q : P) → i < length ps → flat_map view (set ps i q) ≡ flat_map view (take i ps) ++ (view q ++ flat_map view (drop (i + 1) ps))
+  view_set ps i q l = ap (flat_map view) (set_is ps i q l) ∙ flat_map-append view (take i ps) (q ∷ drop (i + 1) ps)
 
   -- the elements of one part ascend
-  pub ascends_at : (order : T → T → Ordering) (ps : List P) (i : ℕ) (p : P) → i < length ps → p ≡ get_or ps i p → Ascends order (flat_map seen ps) → Ascends order (seen p)
-  ascends_at order ps i p l e s = ascends_left order (seen p) (flat_map seen (drop (i + 1) ps)) (ascends_right order (flat_map seen (take i ps)) _ (subst (Ascends order) (seen_split seen ps i p l e) s))
+  pub ascends_at : (order : T → T → Ordering) (ps : List P) (i : ℕ) (p : P) → i < length ps → p ≡ get_or ps i p → Ascends order (flat_map view ps) → Ascends order (view p)
+  ascends_at order ps i p l e s = ascends_left order (view p) (flat_map view (drop (i + 1) ps)) (ascends_right order (flat_map view (take i ps)) _ (subst (Ascends order) (view_split view ps i p l e) s))
 
-  pub seen_inserted : (order : T → T → Ordering) (x : T) (ps : List P) (i : ℕ) (p q : P) → i < length ps → p ≡ get_or ps i p → AllBelow (order x) (flat_map seen (take i ps)) → AllAbove (order x) (flat_map seen (drop (i + 1) ps))
-      → seen q ≡ inserted order x (seen p) → flat_map seen (set ps i q) ≡ inserted order x (flat_map seen ps)
-  seen_inserted order x ps i p q l e low high h =
-      let front = flat_map seen (take i ps) in
-      let rest = flat_map seen (drop (i + 1) ps) in
-      seen_set ps i q l ∙ ap (λ xs. front ++ (xs ++ rest)) h ∙ sym (ap (inserted order x) (seen_split seen ps i p l e) ∙ inserted_cut order x front (seen p) rest low high)
+  pub view_inserted : (order : T → T → Ordering) (x : T) (ps : List P) (i : ℕ) (p q : P) → i < length ps → p ≡ get_or ps i p → AllBelow (order x) (flat_map view (take i ps)) → AllAbove (order x) (flat_map view (drop (i + 1) ps))
+      → view q ≡ inserted order x (view p) → flat_map view (set ps i q) ≡ inserted order x (flat_map view ps)
+  view_inserted order x ps i p q l e low high h =
+      let front = flat_map view (take i ps) in
+      let rest = flat_map view (drop (i + 1) ps) in
+      view_set ps i q l ∙ ap (λ xs. front ++ (xs ++ rest)) h ∙ sym (ap (inserted order x) (view_split view ps i p l e) ∙ inserted_cut order x front (view p) rest low high)
 
-  pub seen_kept : (ps : List P) (i : ℕ) (p q : P) → i < length ps → p ≡ get_or ps i p → seen q ≡ seen p → flat_map seen (set ps i q) ≡ flat_map seen ps
-  seen_kept ps i p q l e h = seen_set ps i q l ∙ ap (λ xs. flat_map seen (take i ps) ++ (xs ++ flat_map seen (drop (i + 1) ps))) h ∙ sym (seen_split seen ps i p l e)
+  pub view_kept : (ps : List P) (i : ℕ) (p q : P) → i < length ps → p ≡ get_or ps i p → view q ≡ view p → flat_map view (set ps i q) ≡ flat_map view ps
+  view_kept ps i p q l e h = view_set ps i q l ∙ ap (λ xs. flat_map view (take i ps) ++ (xs ++ flat_map view (drop (i + 1) ps))) h ∙ sym (view_split view ps i p l e)
 
-  pub seen_found : (against : T → Ordering) (ps : List P) (i : ℕ) (p : P) → i < length ps → p ≡ get_or ps i p → AllBelow against (flat_map seen (take i ps)) → AllAbove against (flat_map seen (drop (i + 1) ps)) → found against (seen p) ≡ found against (flat_map seen ps)
-  seen_found against ps i p l e low high = sym (ap (found against) (seen_split seen ps i p l e) ∙ found_cut against (flat_map seen (take i ps)) (seen p) (flat_map seen (drop (i + 1) ps)) low high)
+  pub view_found : (against : T → Ordering) (ps : List P) (i : ℕ) (p : P) → i < length ps → p ≡ get_or ps i p → AllBelow against (flat_map view (take i ps)) → AllAbove against (flat_map view (drop (i + 1) ps)) → found against (view p) ≡ found against (flat_map view ps)
+  view_found against ps i p l e low high = sym (ap (found against) (view_split view ps i p l e) ∙ found_cut against (flat_map view (take i ps)) (view p) (flat_map view (drop (i + 1) ps)) low high)
 
 pub whole_set : {P : Type 0} (W : P → Type 0) (ps : List P) (i : ℕ) (q : P) → i < length ps → AreWhole W ps → W q → AreWhole W (set ps i q)
 whole_set W ps i q l h w =
@@ -137,8 +137,8 @@ front_whole W ps us k e h = subst (AreWhole W) (sym e) (all_left W (take k ps) (
 pub back_whole : {P : Type 0} (W : P → Type 0) (ps us : List P) (k : ℕ) → us ≡ drop k ps → AreWhole W ps → AreWhole W us
 back_whole W ps us k e h = subst (AreWhole W) (sym e) (all_right W (take k ps) (drop k ps) (subst (AreWhole W) (sym (take-append-drop k ps)) h))
 
-pub seen_cut : {P T : Type 0} (seen : P → List T) (ps us vs : List P) (k : ℕ) → us ≡ take k ps → vs ≡ drop k ps → flat_map seen us ++ flat_map seen vs ≡ flat_map seen ps
-seen_cut seen ps us vs k d e = ap₂ (λ xs ys. flat_map seen xs ++ flat_map seen ys) d e ∙ sym (flat_map-append seen (take k ps) (drop k ps)) ∙ ap (flat_map seen) (take-append-drop k ps)
+pub view_cut : {P T : Type 0} (view : P → List T) (ps us vs : List P) (k : ℕ) → us ≡ take k ps → vs ≡ drop k ps → flat_map view us ++ flat_map view vs ≡ flat_map view ps
+view_cut view ps us vs k d e = ap₂ (λ xs ys. flat_map view xs ++ flat_map view ys) d e ∙ sym (flat_map-append view (take k ps) (drop k ps)) ∙ ap (flat_map view) (take-append-drop k ps)
 
 -- ---- a change in one of several shared parts
 
@@ -147,18 +147,18 @@ put_whole f W xs i b l h w =
     let n = mapped_length f xs in
     (omega (arith, length-set xs i b), subst (AreWhole W) (sym (mapped_set f xs i b)) (whole_set W (map f xs) i (f b) (omega arith) h w))
 
-module _ {A P T : Type 0} (f : A → P) (seen : P → List T) where
-  pub put_seen : (order : T → T → Ordering) (x : T) (xs : List A) (i : ℕ) (a b : A) → i < length xs → a ≡ get_or xs i a
-      → AllBelow (order x) (flat_map seen (take i (map f xs))) → AllAbove (order x) (flat_map seen (drop (i + 1) (map f xs)))
-      → seen (f b) ≡ inserted order x (seen (f a)) → flat_map seen (map f (set xs i b)) ≡ inserted order x (flat_map seen (map f xs))
-  put_seen order x xs i a b l e low high h =
+module _ {A P T : Type 0} (f : A → P) (view : P → List T) where
+  pub put_view : (order : T → T → Ordering) (x : T) (xs : List A) (i : ℕ) (a b : A) → i < length xs → a ≡ get_or xs i a
+      → AllBelow (order x) (flat_map view (take i (map f xs))) → AllAbove (order x) (flat_map view (drop (i + 1) (map f xs)))
+      → view (f b) ≡ inserted order x (view (f a)) → flat_map view (map f (set xs i b)) ≡ inserted order x (flat_map view (map f xs))
+  put_view order x xs i a b l e low high h =
       let n = mapped_length f xs in
-      ap (flat_map seen) (mapped_set f xs i b) ∙ seen_inserted seen order x (map f xs) i (f a) (f b) (omega arith) (mapped_at f xs i a (f a) l e refl) low high h
+      ap (flat_map view) (mapped_set f xs i b) ∙ view_inserted view order x (map f xs) i (f a) (f b) (omega arith) (mapped_at f xs i a (f a) l e refl) low high h
 
-  pub put_kept : (xs : List A) (i : ℕ) (a b : A) → i < length xs → a ≡ get_or xs i a → seen (f b) ≡ seen (f a) → flat_map seen (map f (set xs i b)) ≡ flat_map seen (map f xs)
+  pub put_kept : (xs : List A) (i : ℕ) (a b : A) → i < length xs → a ≡ get_or xs i a → view (f b) ≡ view (f a) → flat_map view (map f (set xs i b)) ≡ flat_map view (map f xs)
   put_kept xs i a b l e h =
       let n = mapped_length f xs in
-      ap (flat_map seen) (mapped_set f xs i b) ∙ seen_kept seen (map f xs) i (f a) (f b) (omega arith) (mapped_at f xs i a (f a) l e refl) h
+      ap (flat_map view) (mapped_set f xs i b) ∙ view_kept view (map f xs) i (f a) (f b) (omega arith) (mapped_at f xs i a (f a) l e refl) h
 
 pub on_err_when : {T E P : Type 0} (r : Result T E) → P → OnErr r P
 on_err_when (Ok x) p = tt
@@ -184,12 +184,12 @@ pub run_next : {X : Type 0} (before run xs ys zs : List X) → IsRun before xs �
 run_next before run xs ys zs b n r e = subst (IsRun run) (sym (e ∙ ap (λ us. us ++ ys) (b.some n))) r
 
 -- the elements of the parts from the i-th on
-pub seen_from : {P T : Type 0} (seen : P → List T) (ps : List P) (i : ℕ) (p : P) → i < length ps → p ≡ get_or ps i p → flat_map seen (drop i ps) ≡ seen p ++ flat_map seen (drop (i + 1) ps)
-seen_from seen ps i p l e = ap (flat_map seen) (drop_more ps i p l ∙ ap (λ q. q ∷ drop (i + 1) ps) (sym e))
+pub view_from : {P T : Type 0} (view : P → List T) (ps : List P) (i : ℕ) (p : P) → i < length ps → p ≡ get_or ps i p → flat_map view (drop i ps) ≡ view p ++ flat_map view (drop (i + 1) ps)
+view_from view ps i p l e = ap (flat_map view) (drop_more ps i p l ∙ ap (λ q. q ∷ drop (i + 1) ps) (sym e))
 
-pub seen_above : {P T : Type 0} (seen : P → List T) (against : T → Ordering) (ps : List P) (i : ℕ) (p : P) → i < length ps → p ≡ get_or ps i p → AllBelow against (flat_map seen (take i ps)) → AllAbove against (flat_map seen (drop (i + 1) ps))
-    → above against (flat_map seen ps) ≡ above against (seen p) ++ flat_map seen (drop (i + 1) ps)
-seen_above seen against ps i p l e low high = ap (above against) (seen_split seen ps i p l e) ∙ above_cut against (flat_map seen (take i ps)) (seen p) (flat_map seen (drop (i + 1) ps)) low high
+pub view_above : {P T : Type 0} (view : P → List T) (against : T → Ordering) (ps : List P) (i : ℕ) (p : P) → i < length ps → p ≡ get_or ps i p → AllBelow against (flat_map view (take i ps)) → AllAbove against (flat_map view (drop (i + 1) ps))
+    → above against (flat_map view ps) ≡ above against (view p) ++ flat_map view (drop (i + 1) ps)
+view_above view against ps i p l e low high = ap (above against) (view_split view ps i p l e) ∙ above_cut against (flat_map view (take i ps)) (view p) (flat_map view (drop (i + 1) ps)) low high
 
 pub continued_whole : {T : Type 0} (order : T → T → Ordering) → IsTotalOrder order → (run xs : List T) → IsRun run xs → Ascends order xs → continued order xs run ≡ xs
 continued_whole order o run xs r s = continued_is order o xs [] run r.rest r.is s (λ n. sym r.is ∙ r.some n) ∙ sym r.is
@@ -213,30 +213,30 @@ mapped_remove f xs i =
 pub removed_one : {X : Type 0} (xs : List X) (i : ℕ) → take i xs ++ drop (suc i) xs ≡ take i xs ++ drop (i + 1) xs
 removed_one xs i = let e : suc i ≡ i + 1 = omega arith in ap (λ k. take i xs ++ drop k xs) e
 
-module _ {A P T : Type 0} (f : A → P) (seen : P → List T) where
+module _ {A P T : Type 0} (f : A → P) (view : P → List T) where
   -- a removal in one part is a removal in the list of all elements
-  pub seen_removed : (against : T → Ordering) (xs : List A) (i : ℕ) (a b : A) → i < length xs → a ≡ get_or xs i a
-      → AllBelow against (flat_map seen (take i (map f xs))) → AllAbove against (flat_map seen (drop (i + 1) (map f xs)))
-      → seen (f b) ≡ removed against (seen (f a)) → flat_map seen (map f (set xs i b)) ≡ removed against (flat_map seen (map f xs))
-  seen_removed against xs i a b l e low high h =
+  pub view_removed : (against : T → Ordering) (xs : List A) (i : ℕ) (a b : A) → i < length xs → a ≡ get_or xs i a
+      → AllBelow against (flat_map view (take i (map f xs))) → AllAbove against (flat_map view (drop (i + 1) (map f xs)))
+      → view (f b) ≡ removed against (view (f a)) → flat_map view (map f (set xs i b)) ≡ removed against (flat_map view (map f xs))
+  view_removed against xs i a b l e low high h =
       let n = mapped_length f xs in
       let k : i < length (map f xs) = omega arith in
-      let front = flat_map seen (take i (map f xs)) in
-      let rest = flat_map seen (drop (i + 1) (map f xs)) in
-      ap (flat_map seen) (mapped_set f xs i b) ∙ seen_set seen (map f xs) i (f b) k ∙ ap (λ us. front ++ (us ++ rest)) h
-      ∙ sym (ap (removed against) (seen_split seen (map f xs) i (f a) k (mapped_at f xs i a (f a) l e refl)) ∙ removed_cut against front (seen (f a)) rest low high)
+      let front = flat_map view (take i (map f xs)) in
+      let rest = flat_map view (drop (i + 1) (map f xs)) in
+      ap (flat_map view) (mapped_set f xs i b) ∙ view_set view (map f xs) i (f b) k ∙ ap (λ us. front ++ (us ++ rest)) h
+      ∙ sym (ap (removed against) (view_split view (map f xs) i (f a) k (mapped_at f xs i a (f a) l e refl)) ∙ removed_cut against front (view (f a)) rest low high)
 
   -- taking out an empty part changes no elements
-  pub seen_without : (xs : List A) (i : ℕ) (b : A) → i < length xs → seen (f b) ≡ [] → flat_map seen (map f (take i (set xs i b) ++ drop (suc i) (set xs i b))) ≡ flat_map seen (map f (set xs i b))
-  seen_without xs i b l h =
+  pub view_without : (xs : List A) (i : ℕ) (b : A) → i < length xs → view (f b) ≡ [] → flat_map view (map f (take i (set xs i b) ++ drop (suc i) (set xs i b))) ≡ flat_map view (map f (set xs i b))
+  view_without xs i b l h =
       let ys = set xs i b in
       let n = mapped_length f ys in
       let k : i < length ys = omega (arith, length-set xs i b) in
       let at : f b ≡ get_or (map f ys) i (f b) = mapped_at f ys i b (f b) k (sym (get_or-set_same xs i b b l)) refl in
-      let front = flat_map seen (take i (map f ys)) in
-      let rest = flat_map seen (drop (i + 1) (map f ys)) in
-      ap (flat_map seen) (mapped_remove f ys i) ∙ flat_map-append seen (take i (map f ys)) (drop (i + 1) (map f ys))
-      ∙ sym (seen_split seen (map f ys) i (f b) (omega arith) at ∙ ap (λ us. front ++ (us ++ rest)) h)
+      let front = flat_map view (take i (map f ys)) in
+      let rest = flat_map view (drop (i + 1) (map f ys)) in
+      ap (flat_map view) (mapped_remove f ys i) ∙ flat_map-append view (take i (map f ys)) (drop (i + 1) (map f ys))
+      ∙ sym (view_split view (map f ys) i (f b) (omega arith) at ∙ ap (λ us. front ++ (us ++ rest)) h)
 
 pub whole_without : {A P : Type 0} (f : A → P) (W : P → Type 0) (xs : List A) (i : ℕ) (b : A) → i < length xs → AreWhole W (map f xs) → AreWhole W (map f (take i (set xs i b) ++ drop (suc i) (set xs i b)))
 whole_without f W xs i b l h =
@@ -262,9 +262,9 @@ end_more run xs ys zs r n e = record {
 pub end_next : {X : Type 0} (before run xs ys zs : List X) → IsEndRun before xs → length before ≡ 0 → IsEndRun run ys → zs ≡ ys ++ xs → IsEndRun run zs
 end_next before run xs ys zs b n r e = subst (IsEndRun run) (sym (e ∙ ap (λ us. ys ++ us) (b.some n) ∙ append-nil ys)) r
 
-pub seen_below : {P T : Type 0} (seen : P → List T) (against : T → Ordering) (ps : List P) (i : ℕ) (p : P) → i < length ps → p ≡ get_or ps i p → AllBelow against (flat_map seen (take i ps)) → AllAbove against (flat_map seen (drop (i + 1) ps))
-    → below against (flat_map seen ps) ≡ flat_map seen (take i ps) ++ below against (seen p)
-seen_below seen against ps i p l e low high = ap (below against) (seen_split seen ps i p l e) ∙ below_cut against (flat_map seen (take i ps)) (seen p) (flat_map seen (drop (i + 1) ps)) low high
+pub view_below : {P T : Type 0} (view : P → List T) (against : T → Ordering) (ps : List P) (i : ℕ) (p : P) → i < length ps → p ≡ get_or ps i p → AllBelow against (flat_map view (take i ps)) → AllAbove against (flat_map view (drop (i + 1) ps))
+    → below against (flat_map view ps) ≡ flat_map view (take i ps) ++ below against (view p)
+view_below view against ps i p l e low high = ap (below against) (view_split view ps i p l e) ∙ below_cut against (flat_map view (take i ps)) (view p) (flat_map view (drop (i + 1) ps)) low high
 
 pub ended_whole : {T : Type 0} (order : T → T → Ordering) → IsTotalOrder order → (run xs : List T) → IsEndRun run xs → Ascends order xs → ended order xs run ≡ xs
 ended_whole order o run xs r s = ended_is order o xs r.rest run [] (r.is ∙ sym (append-nil (r.rest ++ run))) s (λ n. sym r.is ∙ r.some n) ∙ sym r.is

@@ -6,7 +6,7 @@ use Rattle.std.specs.List.{flat_map}
 use Rattle.mg_pages.specs.Order.{Ascends, IsProbe, above, below}
 use Rattle.mg_pages.specs.Parts.{IsLast}
 use Rattle.mg_pages.specs.Runs.{IsEndRun, IsPageAt, IsRun, continued, continued_after, ended}
-use Rattle.mg_pages.proofs.Parts.{end_whole, run_whole, seen_split}
+use Rattle.mg_pages.proofs.Parts.{end_whole, run_whole, view_split}
 use Rattle.mg_pages.proofs.Sorted.{above_suffix, below_prefix, continued_is, ended_is}
 
 -- ---- the page of an element
@@ -15,15 +15,15 @@ pub page_itself : {X : Type 0} (page xs : List X) (i : ℕ) → page ≡ xs → 
 page_itself page xs i e l = record { front = []; rest = []; is = sym e ∙ sym (append-nil page); at = omega arith; within = omega (arith, l, ap length e) }
 
 -- the page of an element of a part is its page among all
-pub page_part : {P T : Type 0} (seen : P → List T) (ps : List P) (k : ℕ) (p : P) (page : List T) (place left i : ℕ) → k < length ps → p ≡ get_or ps k p → i ≡ length (flat_map seen (take k ps)) + left
-    → IsPageAt page place left (seen p) → IsPageAt page place i (flat_map seen ps)
-page_part seen ps k p page place left i l e n it =
-    let before = flat_map seen (take k ps) in
-    let after = flat_map seen (drop (k + 1) ps) in
+pub page_part : {P T : Type 0} (view : P → List T) (ps : List P) (k : ℕ) (p : P) (page : List T) (place left i : ℕ) → k < length ps → p ≡ get_or ps k p → i ≡ length (flat_map view (take k ps)) + left
+    → IsPageAt page place left (view p) → IsPageAt page place i (flat_map view ps)
+page_part view ps k p page place left i l e n it =
+    let before = flat_map view (take k ps) in
+    let after = flat_map view (drop (k + 1) ps) in
     record {
       front = before ++ it.front;
       rest = it.rest ++ after;
-      is = seen_split seen ps k p l e ∙ ap (λ us. before ++ (us ++ after)) it.is
+      is = view_split view ps k p l e ∙ ap (λ us. before ++ (us ++ after)) it.is
           ∙ ap (λ us. before ++ us) (append_assoc it.front (page ++ it.rest) after ∙ ap (λ us. it.front ++ us) (append_assoc page it.rest after))
           ∙ sym (append_assoc before it.front (page ++ (it.rest ++ after)));
       at = omega (arith, n, it.at, length-append before it.front);

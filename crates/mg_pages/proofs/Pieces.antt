@@ -5,7 +5,7 @@ use Rattle.std.specs.List.{flat_map}
 use Rattle.mg_pages.specs.Order.{Ascends, IsProbe, above, below}
 use Rattle.mg_pages.specs.Runs.{IsEndRun, IsPiece, IsRun}
 use Rattle.mg_pages.specs.Search.{AllAbove, AllBelow, IsAmong, BelongsWithin}
-use Rattle.mg_pages.proofs.Parts.{seen_split}
+use Rattle.mg_pages.proofs.Parts.{view_split}
 use Rattle.mg_pages.proofs.Sorted.{above_cut, above_first, above_gap, all_right, ascends_left, ascends_right, before_one, below_cut, below_gap, split_at}
 
 -- a list is a piece of itself
@@ -13,14 +13,14 @@ pub piece_itself : {T : Type 0} (page xs : List T) → page ≡ xs → IsPiece p
 piece_itself page xs e = record { front = []; rest = []; is = sym e ∙ sym (append-nil page) }
 
 -- a piece of one part is a piece of all parts
-pub piece_part : {P T : Type 0} (seen : P → List T) (ps : List P) (i : ℕ) (p : P) (page : List T) → i < length ps → p ≡ get_or ps i p → IsPiece page (seen p) → IsPiece page (flat_map seen ps)
-piece_part seen ps i p page l e it =
-    let before = flat_map seen (take i ps) in
-    let after = flat_map seen (drop (i + 1) ps) in
+pub piece_part : {P T : Type 0} (view : P → List T) (ps : List P) (i : ℕ) (p : P) (page : List T) → i < length ps → p ≡ get_or ps i p → IsPiece page (view p) → IsPiece page (flat_map view ps)
+piece_part view ps i p page l e it =
+    let before = flat_map view (take i ps) in
+    let after = flat_map view (drop (i + 1) ps) in
     record {
       front = before ++ it.front;
       rest = it.rest ++ after;
-      is = seen_split seen ps i p l e ∙ ap (λ us. before ++ (us ++ after)) it.is ∙ ap (λ us. before ++ us) (append_assoc it.front (page ++ it.rest) after ∙ ap (λ us. it.front ++ us) (append_assoc page it.rest after))
+      is = view_split view ps i p l e ∙ ap (λ us. before ++ (us ++ after)) it.is ∙ ap (λ us. before ++ us) (append_assoc it.front (page ++ it.rest) after ∙ ap (λ us. it.front ++ us) (append_assoc page it.rest after))
           ∙ sym (append_assoc before it.front (page ++ (it.rest ++ after)));
     }
 

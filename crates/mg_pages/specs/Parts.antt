@@ -1,4 +1,4 @@
--- What pages and levels stand for. `seen` gives the elements of a part, `is_whole` says that a part is whole.
+-- What pages and levels stand for. `view` gives the elements of a part, `is_whole` says that a part is whole.
 use Rattle.mg_pages.specs.Order.{Ascends}
 use Rattle.mg_pages.specs.declared.child.Child.{Child}
 use Rattle.mg_pages.specs.declared.child.Node.{Node}
@@ -31,36 +31,36 @@ abbrev pub children : {T P : Type 0} → List (Child T P) → List (T × P)
 children cs = map child_value cs
 
 -- the elements of a child
-abbrev pub child_seen : {T P : Type 0} → (P → List T) → T × P → List T
-child_seen seen c = seen c.1
+abbrev pub child_view : {T P : Type 0} → (P → List T) → T × P → List T
+child_view view c = view c.1
 
 -- the part is whole, and ends with the element beside it
 abbrev pub child_whole : {T P : Type 0} → (P → Type 0) → (P → List T) → T × P → Type 0
-child_whole is_whole seen c = is_whole c.1 × IsLast c.0 (seen c.1)
+child_whole is_whole view c = is_whole c.1 × IsLast c.0 (view c.1)
 
-module _ {P T : Type 0} (is_whole : P → Type 0) (seen : P → List T) where
+module _ {P T : Type 0} (is_whole : P → Type 0) (view : P → List T) where
   -- q is whole, and has the elements of p
   pub record IsCopy (p q : P) : Type 0 where
     pub whole : is_whole q
-    pub same : seen q ≡ seen p
+    pub same : view q ≡ view p
 
   -- the halves are whole, and have the elements of p
   pub record AreHalves (p : P) (halves : P × P) : Type 0 where
     pub front : is_whole halves.0
     pub back : is_whole halves.1
-    pub same : seen halves.0 ++ seen halves.1 ≡ seen p
+    pub same : view halves.0 ++ view halves.1 ≡ view p
 
 -- the elements of a level
-abbrev pub level_seen : {P T : Type 0} → (P → List T) → Level T P → List T
-level_seen seen l = flat_map (child_seen seen) (children l.parts.items)
+abbrev pub level_view : {P T : Type 0} → (P → List T) → Level T P → List T
+level_view view l = flat_map (child_view view) (children l.parts.items)
 
 -- the level has at least one part, each part is whole and ends with the element beside it, and the count is the number of elements
 abbrev pub level_whole : {P T : Type 0} → (P → Type 0) → (P → List T) → Level T P → Type 0
-level_whole is_whole seen l = (0 < length l.parts.items) × (AreWhole (child_whole is_whole seen) (children l.parts.items) × (l.count ≡ length (level_seen seen l)))
+level_whole is_whole view l = (0 < length l.parts.items) × (AreWhole (child_whole is_whole view) (children l.parts.items) × (l.count ≡ length (level_view view l)))
 
 -- the elements of a page
-abbrev pub page_seen : {T : Type 0} → Page T → List T
-page_seen p = p.elements.items
+abbrev pub page_view : {T : Type 0} → Page T → List T
+page_view p = p.elements.items
 
 -- the page is not empty
 abbrev pub page_whole : {T : Type 0} → Page T → Type 0
@@ -75,20 +75,20 @@ abbrev pub Root : Type 0 → Type 0
 Root T = Level T (High T)
 
 -- the elements of a part of the root
-abbrev pub high_seen : {T : Type 0} → High T → List T
-high_seen = level_seen (level_seen page_seen)
+abbrev pub high_view : {T : Type 0} → High T → List T
+high_view = level_view (level_view page_view)
 
 -- the part of the root is whole
 abbrev pub high_whole : {T : Type 0} → High T → Type 0
-high_whole = level_whole (level_whole page_whole page_seen) (level_seen page_seen)
+high_whole = level_whole (level_whole page_whole page_view) (level_view page_view)
 
 -- the elements of a collection
-abbrev pub root_seen : {T : Type 0} → Root T → List T
-root_seen r = level_seen high_seen r
+abbrev pub root_view : {T : Type 0} → Root T → List T
+root_view r = level_view high_view r
 
 -- each part of the root is whole and ends with the element beside it, the elements ascend, and the root's count is their number; the root
 -- may have no parts
 pub record IsSound {T : Type 0} (order : T → T → Ordering) (r : Root T) : Type 0 where
-  pub whole : AreWhole (child_whole high_whole high_seen) (children r.parts.items)
-  pub sorted : Ascends order (root_seen r)
-  pub counted : r.count ≡ length (root_seen r)
+  pub whole : AreWhole (child_whole high_whole high_view) (children r.parts.items)
+  pub sorted : Ascends order (root_view r)
+  pub counted : r.count ≡ length (root_view r)

@@ -47,5 +47,5 @@ ended order xs [] = []
 ended order xs (x ∷ run) = below (order x) xs ++ x ∷ run
 
 -- the elements of slices that are lent, one slice after the other
-abbrev pub lent_elements : {T : Type 0} → List (Bor (List T)) → List T
-lent_elements runs = flat_map (λ run. run.now) runs
+abbrev pub elements_view : {T : Type 0} → List (Bor (List T)) → List T
+elements_view runs = flat_map (λ run. run.now) runs

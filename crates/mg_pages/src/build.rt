@@ -1,7 +1,7 @@
 //! Builds collections from elements that are in order already. Errors: those of `Subtree`.
 ghost use Rattle.std.specs.Prelude.{◌≡◌, ◌<◌, ◌^◌, length, IfOk};
 ghost use Rattle.std.specs.List.{flat_map};
-ghost use Rattle.mg_pages.specs.Parts.{children, child_seen, child_whole, page_seen, page_whole, level_seen, level_whole, AreWhole};
+ghost use Rattle.mg_pages.specs.Parts.{children, child_view, child_whole, page_view, page_whole, level_view, level_whole, AreWhole};
 
 use crate::child::{Child, child_of, copy_children};
 use crate::keyed::Keyed;
@@ -16,8 +16,8 @@ pub fn make_pages<T: Keyed>(
     alloc: Global,
     elements: &[T],
 ) -> Result<Vec<Child<T, Page<T>>>, AllocError>
-    ensures whole { IfOk result (λ v. AreWhole (child_whole page_whole page_seen) (children v.items)) }
-    ensures seen { IfOk result (λ v. flat_map (child_seen page_seen) (children v.items) ≡ elements.now) }
+    ensures whole { IfOk result (λ v. AreWhole (child_whole page_whole page_view) (children v.items)) }
+    ensures view { IfOk result (λ v. flat_map (child_view page_view) (children v.items) ≡ elements.now) }
 {
     let mut pages = Vec::new(alloc);
     let mut rest = elements;
@@ -36,13 +36,13 @@ pub fn group<T: Keyed, P: Subtree<T>>(
     alloc: Global,
     parts: &[Child<T, P>],
 ) -> Result<Vec<Child<T, Level<T, P>>>, AllocError>
-    requires whole { AreWhole (child_whole P.is_whole P.seen) (children parts.now) }
-    requires few { length (flat_map (child_seen P.seen) (children parts.now)) < 2 ^ 64 }
+    requires whole { AreWhole (child_whole P.is_whole P.view) (children parts.now) }
+    requires few { length (flat_map (child_view P.view) (children parts.now)) < 2 ^ 64 }
     ensures whole { IfOk result
-        (λ v. AreWhole (child_whole (level_whole P.is_whole P.seen) (level_seen P.seen)) (children v.items)) }
-    ensures seen { IfOk result
-        (λ v. flat_map (child_seen (level_seen P.seen)) (children v.items)
-        ≡ flat_map (child_seen P.seen) (children parts.now)) }
+        (λ v. AreWhole (child_whole (level_whole P.is_whole P.view) (level_view P.view)) (children v.items)) }
+    ensures view { IfOk result
+        (λ v. flat_map (child_view (level_view P.view)) (children v.items)
+        ≡ flat_map (child_view P.view) (children parts.now)) }
 {
     let mut levels = Vec::new(alloc);
     let mut rest = parts;

@@ -5,7 +5,7 @@
 ghost use Rattle.std.specs.Prelude.{◌≡◌, ◌<◌, [], true, false, is_some, length, List, IfOk, IsSome, OnOk, OnErr};
 ghost use Rattle.std.specs.Arc.{arc_value};
 ghost use Rattle.mg_pages.specs.Order.{Ascends, found, inserted, removed};
-ghost use Rattle.mg_pages.specs.Parts.{IsLast, node_value, child_value, child_seen, child_whole, children};
+ghost use Rattle.mg_pages.specs.Parts.{IsLast, node_value, child_value, child_view, child_whole, children};
 
 use crate::element::room_for;
 use crate::hint::hint_of;
@@ -31,8 +31,8 @@ pub struct Child<T, P> {
 // Makes a node of a part.
 fn node_of<T: Keyed, P: Subtree<T>>(part: P) -> Result<Node<T, P>, AllocError>
     requires { P.is_whole part }
-    ensures whole { IfOk result (λ n. child_whole P.is_whole P.seen (node_value n)) }
-    ensures seen { IfOk result (λ n. child_seen P.seen (node_value n) ≡ P.seen part) }
+    ensures whole { IfOk result (λ n. child_whole P.is_whole P.view (node_value n)) }
+    ensures view { IfOk result (λ n. child_view P.view (node_value n) ≡ P.view part) }
 {
     let last = part.last().again()?;
     Ok(Node { last, part })
@@ -41,8 +41,8 @@ fn node_of<T: Keyed, P: Subtree<T>>(part: P) -> Result<Node<T, P>, AllocError>
 /// Makes a child of a part.
 pub fn child_of<T: Keyed, P: Subtree<T>>(alloc: Global, part: P) -> Result<Child<T, P>, AllocError>
     requires { P.is_whole part }
-    ensures whole { IfOk result (λ c. child_whole P.is_whole P.seen (child_value c)) }
-    ensures seen { IfOk result (λ c. child_seen P.seen (child_value c) ≡ P.seen part) }
+    ensures whole { IfOk result (λ c. child_whole P.is_whole P.view (child_value c)) }
+    ensures view { IfOk result (λ c. child_view P.view (child_value c) ≡ P.view part) }
 {
     let own = node_of::<T, P>(part)?;
     let hint = hint_of(&own.last);
@@ -107,10 +107,10 @@ fn last_without<T: Keyed, P: Subtree<T>, Q: Probe<T>>(
     key: &Q,
 ) -> Result<T, AllocError>
     requires whole { P.is_whole part.now }
-    requires sorted { Ascends T.order (P.seen part.now) }
-    requires last { IsLast last.now (P.seen part.now) }
-    ensures { IfOk result (λ a. 0 < length (removed (Q.against key.now) (P.seen part.now))
-        → IsLast a (removed (Q.against key.now) (P.seen part.now))) }
+    requires sorted { Ascends T.order (P.view part.now) }
+    requires last { IsLast last.now (P.view part.now) }
+    ensures { IfOk result (λ a. 0 < length (removed (Q.against key.now) (P.view part.now))
+        → IsLast a (removed (Q.against key.now) (P.view part.now))) }
 {
     if key.against(last).is_lt() {
         let kept = last.again()?;
@@ -130,10 +130,10 @@ fn own_node<T: Keyed, P: Subtree<T>>(
     alloc: Global,
     node: &Node<T, P>,
 ) -> Result<Node<T, P>, AllocError>
-    requires { child_whole P.is_whole P.seen (node_value node.now) }
-    ensures whole { IfOk result (λ n. child_whole P.is_whole P.seen (node_value n)) }
-    ensures seen { IfOk result
-        (λ n. child_seen P.seen (node_value n) ≡ child_seen P.seen (node_value node.now)) }
+    requires { child_whole P.is_whole P.view (node_value node.now) }
+    ensures whole { IfOk result (λ n. child_whole P.is_whole P.view (node_value n)) }
+    ensures view { IfOk result
+        (λ n. child_view P.view (node_value n) ≡ child_view P.view (node_value node.now)) }
 {
     let part = node.part.copy(alloc)?;
     let last = node.last.again()?;
@@ -146,15 +146,15 @@ fn put_in_node<T: Keyed, P: Subtree<T>>(
     node: &mut Node<T, P>,
     element: T,
 ) -> Result<bool, AllocError>
-    requires whole { child_whole P.is_whole P.seen (node_value node.old) }
-    requires sorted { Ascends T.order (child_seen P.seen (node_value node.old)) }
-    ensures whole { child_whole P.is_whole P.seen (node_value node.new) }
+    requires whole { child_whole P.is_whole P.view (node_value node.old) }
+    requires sorted { Ascends T.order (child_view P.view (node_value node.old)) }
+    ensures whole { child_whole P.is_whole P.view (node_value node.new) }
     ensures had { IfOk result
-        (λ had. had ≡ is_some (found (T.order element) (child_seen P.seen (node_value node.old)))) }
-    ensures ok { OnOk result (child_seen P.seen (node_value node.new)
-        ≡ inserted T.order element (child_seen P.seen (node_value node.old))) }
-    ensures err { OnErr result (child_seen P.seen (node_value node.new)
-        ≡ child_seen P.seen (node_value node.old)) }
+        (λ had. had ≡ is_some (found (T.order element) (child_view P.view (node_value node.old)))) }
+    ensures ok { OnOk result (child_view P.view (node_value node.new)
+        ≡ inserted T.order element (child_view P.view (node_value node.old))) }
+    ensures err { OnErr result (child_view P.view (node_value node.new)
+        ≡ child_view P.view (node_value node.old)) }
 {
     let last = last_with(&node.last, &element)?;
     let had = node.part.put(alloc, element)?;
@@ -168,17 +168,17 @@ fn take_out_of_node<T: Keyed, P: Subtree<T>, Q: Probe<T>>(
     node: &mut Node<T, P>,
     key: &Q,
 ) -> Result<bool, AllocError>
-    requires whole { child_whole P.is_whole P.seen (node_value node.old) }
-    requires sorted { Ascends T.order (child_seen P.seen (node_value node.old)) }
-    requires there { IsSome (found (Q.against key.now) (child_seen P.seen (node_value node.old))) }
+    requires whole { child_whole P.is_whole P.view (node_value node.old) }
+    requires sorted { Ascends T.order (child_view P.view (node_value node.old)) }
+    requires there { IsSome (found (Q.against key.now) (child_view P.view (node_value node.old))) }
     ensures whole { IfOk result
-        (λ emptied. emptied ≡ false → child_whole P.is_whole P.seen (node_value node.new)) }
-    ensures emptied { IfOk result (λ emptied. emptied ≡ true → child_seen P.seen (node_value node.new) ≡ []) }
-    ensures ok { OnOk result (child_seen P.seen (node_value node.new)
-        ≡ removed (Q.against key.now) (child_seen P.seen (node_value node.old))) }
-    ensures err { OnErr result (child_seen P.seen (node_value node.new)
-        ≡ child_seen P.seen (node_value node.old)) }
-    ensures err_whole { OnErr result (child_whole P.is_whole P.seen (node_value node.new)) }
+        (λ emptied. emptied ≡ false → child_whole P.is_whole P.view (node_value node.new)) }
+    ensures emptied { IfOk result (λ emptied. emptied ≡ true → child_view P.view (node_value node.new) ≡ []) }
+    ensures ok { OnOk result (child_view P.view (node_value node.new)
+        ≡ removed (Q.against key.now) (child_view P.view (node_value node.old))) }
+    ensures err { OnErr result (child_view P.view (node_value node.new)
+        ≡ child_view P.view (node_value node.old)) }
+    ensures err_whole { OnErr result (child_whole P.is_whole P.view (node_value node.new)) }
 {
     let last = last_without::<T, P, Q>(&node.part, &node.last, key)?;
     let emptied = node.part.take_out(alloc, key)?;
@@ -192,16 +192,16 @@ fn put_shared<T: Keyed, P: Subtree<T>>(
     node: &mut Arc<Node<T, P>>,
     element: T,
 ) -> Result<bool, AllocError>
-    requires whole { child_whole P.is_whole P.seen (node_value (arc_value node.old)) }
-    requires sorted { Ascends T.order (child_seen P.seen (node_value (arc_value node.old))) }
-    ensures whole { child_whole P.is_whole P.seen (node_value (arc_value node.new)) }
+    requires whole { child_whole P.is_whole P.view (node_value (arc_value node.old)) }
+    requires sorted { Ascends T.order (child_view P.view (node_value (arc_value node.old))) }
+    ensures whole { child_whole P.is_whole P.view (node_value (arc_value node.new)) }
     ensures had { IfOk result
         (λ had. had ≡ is_some
-        (found (T.order element) (child_seen P.seen (node_value (arc_value node.old))))) }
-    ensures ok { OnOk result (child_seen P.seen (node_value (arc_value node.new))
-        ≡ inserted T.order element (child_seen P.seen (node_value (arc_value node.old)))) }
-    ensures err { OnErr result (child_seen P.seen (node_value (arc_value node.new))
-        ≡ child_seen P.seen (node_value (arc_value node.old))) }
+        (found (T.order element) (child_view P.view (node_value (arc_value node.old))))) }
+    ensures ok { OnOk result (child_view P.view (node_value (arc_value node.new))
+        ≡ inserted T.order element (child_view P.view (node_value (arc_value node.old)))) }
+    ensures err { OnErr result (child_view P.view (node_value (arc_value node.new))
+        ≡ child_view P.view (node_value (arc_value node.old))) }
 {
     if let Some(own) = Arc::get_mut(node) {
         return put_in_node::<T, P>(alloc, own, element);
@@ -218,19 +218,19 @@ fn take_out_shared<T: Keyed, P: Subtree<T>, Q: Probe<T>>(
     node: &mut Arc<Node<T, P>>,
     key: &Q,
 ) -> Result<bool, AllocError>
-    requires whole { child_whole P.is_whole P.seen (node_value (arc_value node.old)) }
-    requires sorted { Ascends T.order (child_seen P.seen (node_value (arc_value node.old))) }
+    requires whole { child_whole P.is_whole P.view (node_value (arc_value node.old)) }
+    requires sorted { Ascends T.order (child_view P.view (node_value (arc_value node.old))) }
     requires there { IsSome (found (Q.against key.now)
-        (child_seen P.seen (node_value (arc_value node.old)))) }
+        (child_view P.view (node_value (arc_value node.old)))) }
     ensures whole { IfOk result
-        (λ emptied. emptied ≡ false → child_whole P.is_whole P.seen (node_value (arc_value node.new))) }
+        (λ emptied. emptied ≡ false → child_whole P.is_whole P.view (node_value (arc_value node.new))) }
     ensures emptied { IfOk result
-        (λ emptied. emptied ≡ true → child_seen P.seen (node_value (arc_value node.new)) ≡ []) }
-    ensures ok { OnOk result (child_seen P.seen (node_value (arc_value node.new))
-        ≡ removed (Q.against key.now) (child_seen P.seen (node_value (arc_value node.old)))) }
-    ensures err { OnErr result (child_seen P.seen (node_value (arc_value node.new))
-        ≡ child_seen P.seen (node_value (arc_value node.old))) }
-    ensures err_whole { OnErr result (child_whole P.is_whole P.seen (node_value (arc_value node.new))) }
+        (λ emptied. emptied ≡ true → child_view P.view (node_value (arc_value node.new)) ≡ []) }
+    ensures ok { OnOk result (child_view P.view (node_value (arc_value node.new))
+        ≡ removed (Q.against key.now) (child_view P.view (node_value (arc_value node.old)))) }
+    ensures err { OnErr result (child_view P.view (node_value (arc_value node.new))
+        ≡ child_view P.view (node_value (arc_value node.old))) }
+    ensures err_whole { OnErr result (child_whole P.is_whole P.view (node_value (arc_value node.new))) }
 {
     if let Some(own) = Arc::get_mut(node) {
         return take_out_of_node::<T, P, Q>(alloc, own, key);
@@ -247,15 +247,15 @@ pub fn put_into<T: Keyed, P: Subtree<T>>(
     child: &mut Child<T, P>,
     element: T,
 ) -> Result<bool, AllocError>
-    requires whole { child_whole P.is_whole P.seen (child_value child.old) }
-    requires sorted { Ascends T.order (child_seen P.seen (child_value child.old)) }
-    ensures whole { child_whole P.is_whole P.seen (child_value child.new) }
+    requires whole { child_whole P.is_whole P.view (child_value child.old) }
+    requires sorted { Ascends T.order (child_view P.view (child_value child.old)) }
+    ensures whole { child_whole P.is_whole P.view (child_value child.new) }
     ensures had { IfOk result
-        (λ had. had ≡ is_some (found (T.order element) (child_seen P.seen (child_value child.old)))) }
-    ensures ok { OnOk result (child_seen P.seen (child_value child.new)
-        ≡ inserted T.order element (child_seen P.seen (child_value child.old))) }
-    ensures err { OnErr result (child_seen P.seen (child_value child.new)
-        ≡ child_seen P.seen (child_value child.old)) }
+        (λ had. had ≡ is_some (found (T.order element) (child_view P.view (child_value child.old)))) }
+    ensures ok { OnOk result (child_view P.view (child_value child.new)
+        ≡ inserted T.order element (child_view P.view (child_value child.old))) }
+    ensures err { OnErr result (child_view P.view (child_value child.new)
+        ≡ child_view P.view (child_value child.old)) }
 {
     let had = put_shared::<T, P>(alloc, &mut child.node, element)?;
     child.hint = hint_of(&child.node.last);
@@ -269,18 +269,18 @@ pub fn take_out_of<T: Keyed, P: Subtree<T>, Q: Probe<T>>(
     child: &mut Child<T, P>,
     key: &Q,
 ) -> Result<bool, AllocError>
-    requires whole { child_whole P.is_whole P.seen (child_value child.old) }
-    requires sorted { Ascends T.order (child_seen P.seen (child_value child.old)) }
-    requires there { IsSome (found (Q.against key.now) (child_seen P.seen (child_value child.old))) }
+    requires whole { child_whole P.is_whole P.view (child_value child.old) }
+    requires sorted { Ascends T.order (child_view P.view (child_value child.old)) }
+    requires there { IsSome (found (Q.against key.now) (child_view P.view (child_value child.old))) }
     ensures whole { IfOk result
-        (λ emptied. emptied ≡ false → child_whole P.is_whole P.seen (child_value child.new)) }
+        (λ emptied. emptied ≡ false → child_whole P.is_whole P.view (child_value child.new)) }
     ensures emptied { IfOk result
-        (λ emptied. emptied ≡ true → child_seen P.seen (child_value child.new) ≡ []) }
-    ensures ok { OnOk result (child_seen P.seen (child_value child.new)
-        ≡ removed (Q.against key.now) (child_seen P.seen (child_value child.old))) }
-    ensures err { OnErr result (child_seen P.seen (child_value child.new)
-        ≡ child_seen P.seen (child_value child.old)) }
-    ensures err_whole { OnErr result (child_whole P.is_whole P.seen (child_value child.new)) }
+        (λ emptied. emptied ≡ true → child_view P.view (child_value child.new) ≡ []) }
+    ensures ok { OnOk result (child_view P.view (child_value child.new)
+        ≡ removed (Q.against key.now) (child_view P.view (child_value child.old))) }
+    ensures err { OnErr result (child_view P.view (child_value child.new)
+        ≡ child_view P.view (child_value child.old)) }
+    ensures err_whole { OnErr result (child_whole P.is_whole P.view (child_value child.new)) }
 {
     let emptied = take_out_shared::<T, P, Q>(alloc, &mut child.node, key)?;
     child.hint = hint_of(&child.node.last);

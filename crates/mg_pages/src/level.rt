@@ -2,7 +2,7 @@
 ghost use Rattle.std.specs.Prelude.{◌≡◌, ◌<◌, ◌+◌, [], true, false, is_some, length, drop, IfOk, IsSome, OnOk, OnErr};
 ghost use Rattle.std.specs.List.{flat_map};
 ghost use Rattle.mg_pages.specs.Order.{Ascends, found, inserted, removed};
-ghost use Rattle.mg_pages.specs.Parts.{children, child_seen, level_whole};
+ghost use Rattle.mg_pages.specs.Parts.{children, child_view, level_whole};
 
 use crate::child::{Child, Node, copy_children, owners_of_nodes, put_into};
 use crate::keyed::{Keyed, Probe};
@@ -38,11 +38,11 @@ fn count_after_put(more: usize, had: bool) -> usize
 
 impl<T: Keyed, P: Subtree<T>> Subtree<T> for Level<T, P> {
     ghost use Rattle.std.specs.List.{flat_map};
-    ghost use Rattle.mg_pages.specs.Parts.{children, child_seen, level_whole};
+    ghost use Rattle.mg_pages.specs.Parts.{children, child_view, level_whole};
 
-    ghost seen = { λ l. flat_map (child_seen P.seen) (children l.parts.items) };
+    ghost view = { λ l. flat_map (child_view P.view) (children l.parts.items) };
 
-    ghost is_whole = { level_whole P.is_whole P.seen };
+    ghost is_whole = { level_whole P.is_whole P.view };
 
     fn count(&self) -> usize {
         self.count
@@ -143,16 +143,16 @@ impl<T: Keyed, P: Subtree<T>> Subtree<T> for Level<T, P> {
     }
 
     fn put(&mut self, alloc: Global, element: T) -> Result<bool, AllocError>
-        requires whole { level_whole P.is_whole P.seen self.old }
-        requires sorted { Ascends T.order (flat_map (child_seen P.seen) (children self.old.parts.items)) }
-        ensures whole { level_whole P.is_whole P.seen self.new }
+        requires whole { level_whole P.is_whole P.view self.old }
+        requires sorted { Ascends T.order (flat_map (child_view P.view) (children self.old.parts.items)) }
+        ensures whole { level_whole P.is_whole P.view self.new }
         ensures had { IfOk result
             (λ had. had ≡ is_some
-            (found (T.order element) (flat_map (child_seen P.seen) (children self.old.parts.items)))) }
-        ensures ok { OnOk result (flat_map (child_seen P.seen) (children self.new.parts.items)
-            ≡ inserted T.order element (flat_map (child_seen P.seen) (children self.old.parts.items))) }
-        ensures err { OnErr result (flat_map (child_seen P.seen) (children self.new.parts.items)
-            ≡ flat_map (child_seen P.seen) (children self.old.parts.items)) }
+            (found (T.order element) (flat_map (child_view P.view) (children self.old.parts.items)))) }
+        ensures ok { OnOk result (flat_map (child_view P.view) (children self.new.parts.items)
+            ≡ inserted T.order element (flat_map (child_view P.view) (children self.old.parts.items))) }
+        ensures err { OnErr result (flat_map (child_view P.view) (children self.new.parts.items)
+            ≡ flat_map (child_view P.view) (children self.old.parts.items)) }
     {
         let Some(more) = self.count.checked_add(1) else {
             return Err(AllocError);
@@ -164,21 +164,21 @@ impl<T: Keyed, P: Subtree<T>> Subtree<T> for Level<T, P> {
     }
 
     fn take_out<Q: Probe<T>>(&mut self, alloc: Global, key: &Q) -> Result<bool, AllocError>
-        requires whole { level_whole P.is_whole P.seen self.old }
-        requires sorted { Ascends T.order (flat_map (child_seen P.seen) (children self.old.parts.items)) }
+        requires whole { level_whole P.is_whole P.view self.old }
+        requires sorted { Ascends T.order (flat_map (child_view P.view) (children self.old.parts.items)) }
         requires there { IsSome (found (Q.against key.now)
-            (flat_map (child_seen P.seen) (children self.old.parts.items))) }
-        ensures whole { IfOk result (λ emptied. emptied ≡ false → level_whole P.is_whole P.seen self.new) }
+            (flat_map (child_view P.view) (children self.old.parts.items))) }
+        ensures whole { IfOk result (λ emptied. emptied ≡ false → level_whole P.is_whole P.view self.new) }
         ensures some { IfOk result
             (λ emptied. emptied ≡ false
-            → 0 < length (flat_map (child_seen P.seen) (children self.new.parts.items))) }
+            → 0 < length (flat_map (child_view P.view) (children self.new.parts.items))) }
         ensures emptied { IfOk result
-            (λ emptied. emptied ≡ true → flat_map (child_seen P.seen) (children self.new.parts.items) ≡ []) }
-        ensures ok { OnOk result (flat_map (child_seen P.seen) (children self.new.parts.items)
-            ≡ removed (Q.against key.now) (flat_map (child_seen P.seen) (children self.old.parts.items))) }
-        ensures err { OnErr result (flat_map (child_seen P.seen) (children self.new.parts.items)
-            ≡ flat_map (child_seen P.seen) (children self.old.parts.items)) }
-        ensures err_whole { OnErr result (level_whole P.is_whole P.seen self.new) }
+            (λ emptied. emptied ≡ true → flat_map (child_view P.view) (children self.new.parts.items) ≡ []) }
+        ensures ok { OnOk result (flat_map (child_view P.view) (children self.new.parts.items)
+            ≡ removed (Q.against key.now) (flat_map (child_view P.view) (children self.old.parts.items))) }
+        ensures err { OnErr result (flat_map (child_view P.view) (children self.new.parts.items)
+            ≡ flat_map (child_view P.view) (children self.old.parts.items)) }
+        ensures err_whole { OnErr result (level_whole P.is_whole P.view self.new) }
     {
         take_out_of_parts::<T, P, Q>(alloc, &mut self.parts, key)?;
         self.count -= 1;

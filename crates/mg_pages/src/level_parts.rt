@@ -4,7 +4,7 @@ ghost use Rattle.std.specs.List.{flat_map};
 ghost use Rattle.mg_pages.specs.Order.{Ascends, found, removed};
 ghost use Rattle.mg_pages.specs.Search.{AllBelow, AllAbove};
 ghost use Rattle.mg_pages.specs.Runs.{IsRun, IsEndRun, IsPageAt};
-ghost use Rattle.mg_pages.specs.Parts.{children, child_seen, child_value, child_whole, AreWhole};
+ghost use Rattle.mg_pages.specs.Parts.{children, child_view, child_value, child_whole, AreWhole};
 
 use crate::child::{Child, Node, child_of, take_out_of};
 use crate::hint::{STEP, next_guess};
@@ -47,13 +47,13 @@ fn guess_for<T: Keyed, P: Subtree<T>, Q: Probe<T>>(parts: &[Child<T, P>], key: &
 /// the guess, and at most eight more. No part is read.
 pub fn place<T: Keyed, P: Subtree<T>, Q: Probe<T>>(parts: &[Child<T, P>], key: &Q) -> usize
     requires some { 0 < length parts.now }
-    requires whole { AreWhole (child_whole P.is_whole P.seen) (children parts.now) }
-    requires sorted { Ascends T.order (flat_map (child_seen P.seen) (children parts.now)) }
+    requires whole { AreWhole (child_whole P.is_whole P.view) (children parts.now) }
+    requires sorted { Ascends T.order (flat_map (child_view P.view) (children parts.now)) }
     ensures within { result < length parts.now }
     ensures below { AllBelow (Q.against key.now)
-        (flat_map (child_seen P.seen) (take result (children parts.now))) }
+        (flat_map (child_view P.view) (take result (children parts.now))) }
     ensures above { AllAbove (Q.against key.now)
-        (flat_map (child_seen P.seen) (drop (result + 1) (children parts.now))) }
+        (flat_map (child_view P.view) (drop (result + 1) (children parts.now))) }
 {
     let mut low = 0;
     let mut high = parts.len() - 1;
@@ -73,9 +73,9 @@ pub fn place<T: Keyed, P: Subtree<T>, Q: Probe<T>>(parts: &[Child<T, P>], key: &
 
 /// Adds up how many elements the parts have. Cost: reads the count of each part.
 pub fn count_of<T: Keyed, P: Subtree<T>>(parts: &[Child<T, P>]) -> usize
-    requires whole { AreWhole (child_whole P.is_whole P.seen) (children parts.now) }
-    requires few { length (flat_map (child_seen P.seen) (children parts.now)) < 2 ^ 64 }
-    ensures { result ≡ length (flat_map (child_seen P.seen) (children parts.now)) }
+    requires whole { AreWhole (child_whole P.is_whole P.view) (children parts.now) }
+    requires few { length (flat_map (child_view P.view) (children parts.now)) < 2 ^ 64 }
+    ensures { result ≡ length (flat_map (child_view P.view) (children parts.now)) }
 {
     let mut count = 0;
     for child in parts {
@@ -87,8 +87,8 @@ pub fn count_of<T: Keyed, P: Subtree<T>>(parts: &[Child<T, P>]) -> usize
 
 /// Lends the first elements of the parts from index `i` on, up to the end of their page; empty if there is no such part.
 pub fn run_from<T: Keyed, P: Subtree<T>>(parts: &[Child<T, P>], i: usize) -> &[T]
-    requires { AreWhole (child_whole P.is_whole P.seen) (children parts.now) }
-    ensures run { IsRun result.now (flat_map (child_seen P.seen) (drop i (children parts.now))) }
+    requires { AreWhole (child_whole P.is_whole P.view) (children parts.now) }
+    ensures run { IsRun result.now (flat_map (child_view P.view) (drop i (children parts.now))) }
     ensures some { i < length parts.now → 0 < length result.now }
 {
     if i < parts.len() {
@@ -101,9 +101,9 @@ pub fn run_from<T: Keyed, P: Subtree<T>>(parts: &[Child<T, P>], i: usize) -> &[T
 
 /// Lends the last elements of the parts before index `i`, from the start of their page; empty if there is no such part.
 pub fn run_upto<T: Keyed, P: Subtree<T>>(parts: &[Child<T, P>], i: usize) -> &[T]
-    requires whole { AreWhole (child_whole P.is_whole P.seen) (children parts.now) }
+    requires whole { AreWhole (child_whole P.is_whole P.view) (children parts.now) }
     requires within { i ≤ length parts.now }
-    ensures run { IsEndRun result.now (flat_map (child_seen P.seen) (take i (children parts.now))) }
+    ensures run { IsEndRun result.now (flat_map (child_view P.view) (take i (children parts.now))) }
     ensures some { 0 < i → 0 < length result.now }
 {
     if i > 0 {
@@ -118,9 +118,9 @@ pub fn run_upto<T: Keyed, P: Subtree<T>>(parts: &[Child<T, P>], i: usize) -> &[T
 /// Finds the page that holds the element at a place, counted over all the parts, and the element's place in that page. Cost: on each level,
 /// reads the count of each part before the element's.
 pub fn page_among<T: Keyed, P: Subtree<T>>(parts: &[Child<T, P>], place: usize) -> (&[T], usize)
-    requires whole { AreWhole (child_whole P.is_whole P.seen) (children parts.now) }
-    requires within { place < length (flat_map (child_seen P.seen) (children parts.now)) }
-    ensures { IsPageAt result.0.now result.1 place (flat_map (child_seen P.seen) (children parts.now)) }
+    requires whole { AreWhole (child_whole P.is_whole P.view) (children parts.now) }
+    requires within { place < length (flat_map (child_view P.view) (children parts.now)) }
+    ensures { IsPageAt result.0.now result.1 place (flat_map (child_view P.view) (children parts.now)) }
 {
     let mut left = place;
     for child in parts {
@@ -144,15 +144,15 @@ pub fn take_out_of_parts<T: Keyed, P: Subtree<T>, Q: Probe<T>>(
     key: &Q,
 ) -> Result<(), AllocError>
     requires some { 0 < length parts.old.items }
-    requires whole { AreWhole (child_whole P.is_whole P.seen) (children parts.old.items) }
-    requires sorted { Ascends T.order (flat_map (child_seen P.seen) (children parts.old.items)) }
+    requires whole { AreWhole (child_whole P.is_whole P.view) (children parts.old.items) }
+    requires sorted { Ascends T.order (flat_map (child_view P.view) (children parts.old.items)) }
     requires there { IsSome (found (Q.against key.now)
-        (flat_map (child_seen P.seen) (children parts.old.items))) }
-    ensures whole { AreWhole (child_whole P.is_whole P.seen) (children parts.new.items) }
-    ensures ok { OnOk result (flat_map (child_seen P.seen) (children parts.new.items)
-        ≡ removed (Q.against key.now) (flat_map (child_seen P.seen) (children parts.old.items))) }
-    ensures err { OnErr result (flat_map (child_seen P.seen) (children parts.new.items)
-        ≡ flat_map (child_seen P.seen) (children parts.old.items)) }
+        (flat_map (child_view P.view) (children parts.old.items))) }
+    ensures whole { AreWhole (child_whole P.is_whole P.view) (children parts.new.items) }
+    ensures ok { OnOk result (flat_map (child_view P.view) (children parts.new.items)
+        ≡ removed (Q.against key.now) (flat_map (child_view P.view) (children parts.old.items))) }
+    ensures err { OnErr result (flat_map (child_view P.view) (children parts.new.items)
+        ≡ flat_map (child_view P.view) (children parts.old.items)) }
     ensures err_some { OnErr result (0 < length parts.new.items) }
 {
     let i = place::<T, P, Q>(parts, key);
@@ -190,12 +190,12 @@ fn make_room<T: Keyed, P: Subtree<T>>(
     element: &T,
 ) -> Result<bool, AllocError>
     requires within { i < length parts.old.items }
-    requires whole { AreWhole (child_whole P.is_whole P.seen) (children parts.old.items) }
-    requires sorted { Ascends T.order (flat_map (child_seen P.seen) (children parts.old.items)) }
+    requires whole { AreWhole (child_whole P.is_whole P.view) (children parts.old.items) }
+    requires sorted { Ascends T.order (flat_map (child_view P.view) (children parts.old.items)) }
     ensures some { 0 < length parts.new.items }
-    ensures whole { AreWhole (child_whole P.is_whole P.seen) (children parts.new.items) }
-    ensures seen { flat_map (child_seen P.seen) (children parts.new.items)
-        ≡ flat_map (child_seen P.seen) (children parts.old.items) }
+    ensures whole { AreWhole (child_whole P.is_whole P.view) (children parts.new.items) }
+    ensures view { flat_map (child_view P.view) (children parts.new.items)
+        ≡ flat_map (child_view P.view) (children parts.old.items) }
     ensures kept { IfOk result (λ split. split ≡ false → parts.new.items ≡ parts.old.items) }
 {
     let child = &parts[i];
@@ -221,19 +221,19 @@ pub fn with_room<T: Keyed, P: Subtree<T>>(
     element: &T,
 ) -> Result<usize, AllocError>
     requires some { 0 < length parts.old.items }
-    requires whole { AreWhole (child_whole P.is_whole P.seen) (children parts.old.items) }
-    requires sorted { Ascends T.order (flat_map (child_seen P.seen) (children parts.old.items)) }
+    requires whole { AreWhole (child_whole P.is_whole P.view) (children parts.old.items) }
+    requires sorted { Ascends T.order (flat_map (child_view P.view) (children parts.old.items)) }
     ensures some { 0 < length parts.new.items }
-    ensures whole { AreWhole (child_whole P.is_whole P.seen) (children parts.new.items) }
-    ensures seen { flat_map (child_seen P.seen) (children parts.new.items)
-        ≡ flat_map (child_seen P.seen) (children parts.old.items) }
+    ensures whole { AreWhole (child_whole P.is_whole P.view) (children parts.new.items) }
+    ensures view { flat_map (child_view P.view) (children parts.new.items)
+        ≡ flat_map (child_view P.view) (children parts.old.items) }
     ensures within { IfOk result (λ i. i < length parts.new.items) }
     ensures below { IfOk result
         (λ i. AllBelow (T.order element.now)
-        (flat_map (child_seen P.seen) (take i (children parts.new.items)))) }
+        (flat_map (child_view P.view) (take i (children parts.new.items)))) }
     ensures above { IfOk result
         (λ i. AllAbove (T.order element.now)
-        (flat_map (child_seen P.seen) (drop (i + 1) (children parts.new.items)))) }
+        (flat_map (child_view P.view) (drop (i + 1) (children parts.new.items)))) }
 {
     let i = place::<T, P, T>(parts, element);
     let split = make_room::<T, P>(alloc, parts, i, element)?;

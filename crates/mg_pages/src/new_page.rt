@@ -2,7 +2,7 @@
 ghost use Rattle.std.specs.Prelude.{◌≡◌, ◌<◌, ◌^◌, IfOk, List, length};
 ghost use Rattle.std.specs.List.{AllByRecursion, flat_map};
 ghost use Rattle.mg_pages.specs.Order.{Ascends};
-ghost use Rattle.mg_pages.specs.Parts.{AreWhole, child_seen, child_value, child_whole, children, page_seen, page_whole};
+ghost use Rattle.mg_pages.specs.Parts.{AreWhole, child_view, child_value, child_whole, children, page_view, page_whole};
 
 use crate::build::group;
 use crate::child::{Child, child_of};
@@ -30,9 +30,9 @@ impl<T: Keyed> Model for NewPage<T> {
 
     ghost Value = { List T };
 
-    ghost use Rattle.mg_pages.specs.Parts.{page_seen};
+    ghost use Rattle.mg_pages.specs.Parts.{page_view};
 
-    ghost view = { λ p. page_seen p.page };
+    ghost view = { λ p. page_view p.page };
 }
 
 impl<T: Keyed> NewPage<T> {
@@ -49,8 +49,8 @@ impl<T: Keyed> NewPage<T> {
     // Turns the page into a child of a level.
     fn child(self, alloc: Global) -> Result<Child<T, Page<T>>, AllocError>
         requires { 0 < length self }
-        ensures whole { IfOk result (λ c. child_whole page_whole page_seen (child_value c)) }
-        ensures seen { IfOk result (λ c. child_seen page_seen (child_value c) ≡ self) }
+        ensures whole { IfOk result (λ c. child_whole page_whole page_view (child_value c)) }
+        ensures view { IfOk result (λ c. child_view page_view (child_value c) ≡ self) }
     {
         let NewPage { page } = self;
         child_of::<T, Page<T>>(alloc, page)
@@ -63,9 +63,9 @@ fn parts_of<T: Keyed>(
     pages: Vec<NewPage<T>>,
 ) -> Result<Vec<Child<T, Page<T>>>, AllocError>
     requires { AllByRecursion (λ (p : List T). 0 < length p) pages.items }
-    ensures whole { IfOk result (λ v. AreWhole (child_whole page_whole page_seen) (children v.items)) }
-    ensures seen { IfOk result
-        (λ v. flat_map (child_seen page_seen) (children v.items) ≡ flat_map (λ p. p) pages.items) }
+    ensures whole { IfOk result (λ v. AreWhole (child_whole page_whole page_view) (children v.items)) }
+    ensures view { IfOk result
+        (λ v. flat_map (child_view page_view) (children v.items) ≡ flat_map (λ p. p) pages.items) }
 {
     let mut parts = Vec::with_capacity(alloc, pages.len())?;
     for page in pages {

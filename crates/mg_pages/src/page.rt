@@ -76,7 +76,7 @@ pub fn page_of<T: Keyed>(alloc: Global, elements: &[T]) -> Result<Page<T>, Alloc
 impl<T: Keyed> Subtree<T> for Page<T> {
     ghost use Rattle.std.specs.Prelude.{is_some, ◌<◌, length};
 
-    ghost seen = { λ p. p.elements.items };
+    ghost view = { λ p. p.elements.items };
 
     ghost is_whole = { λ p. 0 < length p.elements.items };
 

@@ -2,7 +2,7 @@
 ghost use Rattle.std.specs.Prelude.{◌≡◌, ◌↔◌, ◌-◌, [], None, Ok, Some, false, drop, length, take, IfOk, IfSome, IsTrue, OnOk, OnErr, is_some, option_map, reverse};
 ghost use Rattle.mg_pages.specs.Order.{Ascends, above, below, found, inserted, removed, upto};
 ghost use Rattle.mg_pages.specs.Runs.{IsRun, IsEndRun};
-ghost use Rattle.mg_pages.specs.Parts.{root_seen, IsSound};
+ghost use Rattle.mg_pages.specs.Parts.{root_view, IsSound};
 
 use crate::back::Back;
 use crate::build::{group, make_pages};
@@ -34,9 +34,9 @@ impl<T: Keyed> Model for Pages<T> {
 
     ghost Value = { List T };
 
-    ghost use Rattle.mg_pages.specs.Parts.{root_seen, IsSound};
+    ghost use Rattle.mg_pages.specs.Parts.{root_view, IsSound};
 
-    ghost view = { λ a. root_seen a.root };
+    ghost view = { λ a. root_view a.root };
 
     ghost invariant = { λ a. IsSound T.order a.root };
 }

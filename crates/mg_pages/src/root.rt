@@ -2,7 +2,7 @@
 ghost use Rattle.std.specs.Prelude.{◌≡◌, ◌-◌, [], ◌∷◌, None, Ok, Some, false, IfOk, IfSome, IsSome, OnOk, OnErr, is_some};
 ghost use Rattle.mg_pages.specs.Order.{above, below, found, inserted, removed};
 ghost use Rattle.mg_pages.specs.Runs.{IsRun, IsEndRun};
-ghost use Rattle.mg_pages.specs.Parts.{level_seen, level_whole, high_seen, high_whole, root_seen, IsSound};
+ghost use Rattle.mg_pages.specs.Parts.{level_view, level_whole, high_view, high_whole, root_view, IsSound};
 
 use crate::child::child_of;
 use crate::hint::{Hints, hint_of};
@@ -19,8 +19,8 @@ pub type Root<T> = Level<T, Level<T, Level<T, Page<T>>>>;
 // Makes a level of one part.
 fn level_of<T: Keyed, P: Subtree<T>>(alloc: Global, part: P) -> Result<Level<T, P>, AllocError>
     requires { P.is_whole part }
-    ensures whole { IfOk result (λ l. level_whole P.is_whole P.seen l) }
-    ensures seen { IfOk result (λ l. level_seen P.seen l ≡ P.seen part) }
+    ensures whole { IfOk result (λ l. level_whole P.is_whole P.view l) }
+    ensures view { IfOk result (λ l. level_view P.view l ≡ P.view part) }
 {
     let count = part.count();
     let child = child_of::<T, P>(alloc, part)?;
@@ -30,8 +30,8 @@ fn level_of<T: Keyed, P: Subtree<T>>(alloc: Global, part: P) -> Result<Level<T, 
 
 // Makes a root with one element.
 fn root_of<T: Keyed>(alloc: Global, element: T) -> Result<Root<T>, AllocError>
-    ensures whole { IfOk result (λ r. level_whole high_whole high_seen r) }
-    ensures seen { IfOk result (λ r. root_seen r ≡ element ∷ []) }
+    ensures whole { IfOk result (λ r. level_whole high_whole high_view r) }
+    ensures view { IfOk result (λ r. root_view r ≡ element ∷ []) }
 {
     let mut hints = Hints::with_room(alloc, 1)?;
     hints.push(hint_of(&element))?;
@@ -46,9 +46,9 @@ fn root_of<T: Keyed>(alloc: Global, element: T) -> Result<Root<T>, AllocError>
 pub fn put<T: Keyed>(alloc: Global, root: &mut Root<T>, element: T) -> Result<bool, AllocError>
     requires { IsSound T.order root.old }
     ensures sound { IsSound T.order root.new }
-    ensures had { IfOk result (λ had. had ≡ is_some (found (T.order element) (root_seen root.old))) }
-    ensures ok { OnOk result (root_seen root.new ≡ inserted T.order element (root_seen root.old)) }
-    ensures err { OnErr result (root_seen root.new ≡ root_seen root.old) }
+    ensures had { IfOk result (λ had. had ≡ is_some (found (T.order element) (root_view root.old))) }
+    ensures ok { OnOk result (root_view root.new ≡ inserted T.order element (root_view root.old)) }
+    ensures err { OnErr result (root_view root.new ≡ root_view root.old) }
 {
     if root.parts.is_empty() {
         *root = root_of(alloc, element)?;
@@ -65,10 +65,10 @@ pub fn take_out<T: Keyed, Q: Probe<T>>(
     key: &Q,
 ) -> Result<(), AllocError>
     requires sound { IsSound T.order root.old }
-    requires there { IsSome (found (Q.against key.now) (root_seen root.old)) }
+    requires there { IsSome (found (Q.against key.now) (root_view root.old)) }
     ensures sound { IsSound T.order root.new }
-    ensures ok { OnOk result (root_seen root.new ≡ removed (Q.against key.now) (root_seen root.old)) }
-    ensures err { OnErr result (root_seen root.new ≡ root_seen root.old) }
+    ensures ok { OnOk result (root_view root.new ≡ removed (Q.against key.now) (root_view root.old)) }
+    ensures err { OnErr result (root_view root.new ≡ root_view root.old) }
 {
     if root.parts.is_empty() {
         return Ok(());
@@ -83,7 +83,7 @@ pub fn take_out<T: Keyed, Q: Probe<T>>(
 #[inline(always)]
 pub fn find_tie<'a, T: Keyed, Q: Probe<T>>(root: &'a Root<T>, key: &Q) -> Option<&'a T>
     requires { IsSound T.order root.now }
-    ensures { IfSome result (λ t. found (Q.against key.now) (root_seen root.now) ≡ Some t.now) }
+    ensures { IfSome result (λ t. found (Q.against key.now) (root_view root.now) ≡ Some t.now) }
 {
     if root.parts.is_empty() {
         return None;
@@ -103,7 +103,7 @@ pub fn find_tie<'a, T: Keyed, Q: Probe<T>>(root: &'a Root<T>, key: &Q) -> Option
 /// hints on each level and in the page.
 pub fn guessed_run_after<'a, T: Keyed, Q: Probe<T>>(root: &'a Root<T>, key: &Q) -> Option<&'a [T]>
     requires { IsSound T.order root.now }
-    ensures { IfSome result (λ run. IsRun run.now (above (Q.against key.now) (root_seen root.now))) }
+    ensures { IfSome result (λ run. IsRun run.now (above (Q.against key.now) (root_view root.now))) }
 {
     if root.parts.is_empty() {
         return None;
@@ -117,7 +117,7 @@ pub fn guessed_run_after<'a, T: Keyed, Q: Probe<T>>(root: &'a Root<T>, key: &Q) 
 /// sides of the key, none of which ties with it. Cost: that of `guessed_run_after`.
 pub fn guessed_run_before<'a, T: Keyed, Q: Probe<T>>(root: &'a Root<T>, key: &Q) -> Option<&'a [T]>
     requires { IsSound T.order root.now }
-    ensures { IfSome result (λ run. IsEndRun run.now (below (Q.against key.now) (root_seen root.now))) }
+    ensures { IfSome result (λ run. IsEndRun run.now (below (Q.against key.now) (root_view root.now))) }
 {
     if root.parts.is_empty() {
         return None;

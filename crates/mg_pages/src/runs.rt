@@ -1,8 +1,8 @@
 //! The elements of a collection page by page.
 ghost use Rattle.std.specs.Prelude.{◌≡◌, ◌++◌, IfOk, OnOk};
 ghost use Rattle.std.specs.List.{flat_map};
-ghost use Rattle.mg_pages.specs.Parts.{child_seen, children, high_seen, level_seen, page_seen};
-ghost use Rattle.mg_pages.specs.Runs.{lent_elements};
+ghost use Rattle.mg_pages.specs.Parts.{child_view, children, high_view, level_view, page_view};
+ghost use Rattle.mg_pages.specs.Runs.{elements_view};
 
 use crate::child::{Child, Node};
 use crate::keyed::Keyed;
@@ -18,8 +18,8 @@ fn add_pages<'a, T: Keyed>(
     runs: &mut Vec<&'a [T]>,
     pages: &'a [Child<T, Page<T>>],
 ) -> Result<(), AllocError>
-    ensures { OnOk result (lent_elements runs.new.items
-        ≡ lent_elements runs.old.items ++ flat_map (child_seen page_seen) (children pages.now)) }
+    ensures { OnOk result (elements_view runs.new.items
+        ≡ elements_view runs.old.items ++ flat_map (child_view page_view) (children pages.now)) }
 {
     for child in pages {
         let node: &Node<T, Page<T>> = &child.node;
@@ -33,8 +33,8 @@ fn add_lows<'a, T: Keyed>(
     runs: &mut Vec<&'a [T]>,
     lows: &'a [Child<T, Level<T, Page<T>>>],
 ) -> Result<(), AllocError>
-    ensures { OnOk result (lent_elements runs.new.items
-        ≡ lent_elements runs.old.items ++ flat_map (child_seen (level_seen page_seen)) (children lows.now)) }
+    ensures { OnOk result (elements_view runs.new.items
+        ≡ elements_view runs.old.items ++ flat_map (child_view (level_view page_view)) (children lows.now)) }
 {
     for child in lows {
         let node: &Node<T, Level<T, Page<T>>> = &child.node;
@@ -48,8 +48,8 @@ fn add_highs<'a, T: Keyed>(
     runs: &mut Vec<&'a [T]>,
     highs: &'a [Child<T, Level<T, Level<T, Page<T>>>>],
 ) -> Result<(), AllocError>
-    ensures { OnOk result (lent_elements runs.new.items
-        ≡ lent_elements runs.old.items ++ flat_map (child_seen high_seen) (children highs.now)) }
+    ensures { OnOk result (elements_view runs.new.items
+        ≡ elements_view runs.old.items ++ flat_map (child_view high_view) (children highs.now)) }
 {
     for child in highs {
         let node: &Node<T, Level<T, Level<T, Page<T>>>> = &child.node;
@@ -63,7 +63,7 @@ impl<T: Keyed> Pages<T> {
     ///
     /// Errors: `NoMemory` if an allocation fails. Cost: a step for each page.
     pub fn runs(&self, alloc: Global) -> Result<Vec<&[T]>, NoMemory>
-        ensures { IfOk result (λ v. lent_elements v.items ≡ self.now) }
+        ensures { IfOk result (λ v. elements_view v.items ≡ self.now) }
     {
         let mut runs = Vec::new(alloc);
         add_highs(&mut runs, &self.root.parts)?;

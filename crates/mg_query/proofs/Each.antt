@@ -2,7 +2,7 @@
 use Rattle.std.proofs.Common.{◌≡◌, List, [], ◌∷◌, ◌++◌, Option, Some, None, option_map, Ok, refl, sym, ap, append_assoc}
 use Rattle.std.specs.Prelude.{ok_or}
 use Rattle.mg_index.specs.Reading.{each_of}
-use Rattle.mg_query.specs.Seen.{Fails}
+use Rattle.mg_query.specs.View.{Fails}
 use Rattle.mg_query.specs.declared.error.QueryError.{QueryError}
 use Rattle.mg_query.specs.declared.error.QueryError.TheVariants.{Shape, InvalidOperator, BadArg, BadBookmark, MixedSort, NoMemory}
 

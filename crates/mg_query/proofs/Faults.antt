@@ -11,7 +11,7 @@ use Rattle.mg_index.specs.Reading.{each_of, field_direction}
 use Rattle.mg_selector.specs.Reading.{reading}
 use Rattle.mg_query.specs.Given.{Given, fault_given, given, gives_path, gives_sort, parsed, with_parts}
 use Rattle.mg_query.specs.Query.{Shaped, early_fault, path_of, query_of, query_with, selector_or_fault, shaped, sort_path}
-use Rattle.mg_query.specs.Seen.{Fails, ReadsAs, query_seen}
+use Rattle.mg_query.specs.View.{Fails, ReadsAs, query_view}
 use Rattle.mg_query.specs.declared.error.QueryError.{QueryError}
 use Rattle.mg_query.specs.declared.error.QueryError.TheVariants.{Shape, InvalidOperator, BadArg, BadBookmark, MixedSort, NoMemory}
 use Rattle.mg_query.proofs.Shapes.{members_given}
@@ -99,13 +99,13 @@ fails BadBookmark r h = h
 fails MixedSort r h = h
 fails NoMemory r h = tt
 
-fault_or : {X Y : Type 0} (seen : X → Y) (o : Option QueryError) (met : QueryError) (r : Result Y QueryError) → ((e : QueryError) → o ≡ Some e → r ≡ Err e) → Fails met r → ReadsAs seen (Err (unwrap_or o met)) r
-fault_or seen None met r h f = f
-fault_or seen (Some e) met r h f = fails e r (h e refl)
+fault_or : {X Y : Type 0} (item_view : X → Y) (o : Option QueryError) (met : QueryError) (r : Result Y QueryError) → ((e : QueryError) → o ≡ Some e → r ≡ Err e) → Fails met r → ReadsAs item_view (Err (unwrap_or o met)) r
+fault_or item_view None met r h f = f
+fault_or item_view (Some e) met r h f = fails e r (h e refl)
 
 -- that fault, or the one that was met, is what a reading may return
-pub first_fault : (v : Value) (met : QueryError) → Fails met (query_of v) → ReadsAs query_seen (Err (unwrap_or (early_fault v) met)) (query_of v)
-first_fault v met f = fault_or query_seen (early_fault v) met (query_of v) (early_first v) f
+pub first_fault : (v : Value) (met : QueryError) → Fails met (query_of v) → ReadsAs query_view (Err (unwrap_or (early_fault v) met)) (query_of v)
+first_fault v met f = fault_or query_view (early_fault v) met (query_of v) (early_first v) f
 
 -- a query that was read has no fault
 pub no_fault : {X : Type 0} (r : Result X QueryError) (x : X) (e : QueryError) → r ≡ Ok x → r ≡ Err e → ⊥

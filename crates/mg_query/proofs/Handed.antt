@@ -40,7 +40,7 @@ use Rattle.mg_query.specs.Page.{candidates_of, source_columns, page_candidates, 
 use Rattle.mg_query.specs.Paged.{IsWorkWithin}
 use Rattle.mg_query.specs.Lent.{row_at, shard_rows}
 use Rattle.mg_query.specs.Query.{Query}
-use Rattle.mg_query.specs.Served.{HaveIdsAndRevs, IsInCatalog, source_seen}
+use Rattle.mg_query.specs.Served.{HaveIdsAndRevs, IsInCatalog, source_view}
 use Rattle.mg_query.specs.declared.found.Plan.{Plan}
 use Rattle.mg_query.proofs.Answered.{is_wanted_by, rows_of_answer}
 use Rattle.mg_query.proofs.Gathered.{listed_rows, listed_sorted, lists_in_order, rows_asked}
@@ -79,39 +79,39 @@ pub merged_same : (direction : Direction) (hits : List Hit) (m n : ℕ) (lists o
 merged_same direction hits m n lists others e f g = e ∙ ap₂ (λ k ls. merged_by hit_row direction k (contents_of ls)) f g
 
 -- what the query's search finds in a shard that has the columns of its target
-found_at : (q : Query) (a : Plan) (search : Search) → IsPlanOf q a → IsSearchOf q a search → (s : ShardView) → target_columns search.target s.definitions ≡ Some (source_columns (source_seen a.source)) → found_by search s ≡ rows_asked_of q a s
+found_at : (q : Query) (a : Plan) (search : Search) → IsPlanOf q a → IsSearchOf q a search → (s : ShardView) → target_columns search.target s.definitions ≡ Some (source_columns (source_view a.source)) → found_by search s ≡ rows_asked_of q a s
 found_at q a search asks is s e =
-    let columns = source_columns (source_seen a.source) in
+    let columns = source_columns (source_view a.source) in
     let documents = docs_of s.documents in
     ap (λ o. option_map_or (λ cs. first_matches (search_input search cs) documents) o []) e
     ∙ ap₂ (λ normal range. first_matches (input_of_parts normal range (after_of search) search.take search.direction columns) documents) is.normal (is.range ∙ asks.range)
     ∙ ap₂ (λ after count. first_matches (input_of_parts a.normal (range_of a.normal.atoms columns) after count search.direction columns) documents) (is.after ∙ asks.after) is.take
     ∙ ap (λ direction. first_matches (input_of_parts a.normal (range_of a.normal.atoms columns) (option_map row_at q.bookmark) (q.skip + q.limit) direction columns) documents) is.direction
 
-found_each : (q : Query) (a : Plan) (search : Search) → IsPlanOf q a → IsSearchOf q a search → (shards : List ShardView) → AllByRecursion (λ s. IsInCatalog s.definitions (source_seen a.source)) shards
+found_each : (q : Query) (a : Plan) (search : Search) → IsPlanOf q a → IsSearchOf q a search → (shards : List ShardView) → AllByRecursion (λ s. IsInCatalog s.definitions (source_view a.source)) shards
     → map (found_by search) shards ≡ map (rows_asked_of q a) shards
 found_each q a search asks is [] h = refl
 found_each q a search asks is (s ∷ shards) h = ap₂ (λ x xs. x ∷ xs) (found_at q a search asks is s (is.target s.definitions h.0)) (found_each q a search asks is shards h.1)
 
 -- what the search finds in shards that have the index
-pub found_rows : (q : Query) (a : Plan) (search : Search) → IsPlanOf q a → IsSearchOf q a search → (shards : List ShardView) → All (λ s. IsInCatalog s.definitions (source_seen a.source)) shards
+pub found_rows : (q : Query) (a : Plan) (search : Search) → IsPlanOf q a → IsSearchOf q a search → (shards : List ShardView) → All (λ s. IsInCatalog s.definitions (source_view a.source)) shards
     → map (found_by search) shards ≡ map (rows_asked_of q a) shards
-found_rows q a search asks is shards listed = found_each q a search asks is shards (recursion_from_All (λ s. IsInCatalog s.definitions (source_seen a.source)) shards listed)
+found_rows q a search asks is shards listed = found_each q a search asks is shards (recursion_from_All (λ s. IsInCatalog s.definitions (source_view a.source)) shards listed)
 
 -- the first rows of what the search finds in these shards
-pub found_first : (q : Query) (a : Plan) (search : Search) → IsPlanOf q a → IsSearchOf q a search → (shards : List ShardView) → All (λ s. IsInCatalog s.definitions (source_seen a.source)) shards
+pub found_first : (q : Query) (a : Plan) (search : Search) → IsPlanOf q a → IsSearchOf q a search → (shards : List ShardView) → All (λ s. IsInCatalog s.definitions (source_view a.source)) shards
     → merged search.direction search.take (map (found_by search) shards) ≡ merged q.direction (q.skip + q.limit) (map (rows_asked_of q a) shards)
 found_first q a search asks is shards listed =
     ap₂ (λ direction count. merged direction count (map (found_by search) shards)) is.direction is.take
     ∙ ap (merged q.direction (q.skip + q.limit)) (found_rows q a search asks is shards listed)
 
 -- if the range decides, it decides in each shard
-pub decided_in : (q : Query) (a : Plan) (search : Search) → IsPlanOf q a → IsSearchOf q a search → a.is_decided ≡ true → (shards : List ShardView) → All (λ s. IsInCatalog s.definitions (source_seen a.source)) shards
+pub decided_in : (q : Query) (a : Plan) (search : Search) → IsPlanOf q a → IsSearchOf q a search → a.is_decided ≡ true → (shards : List ShardView) → All (λ s. IsInCatalog s.definitions (source_view a.source)) shards
     → All (IsDecidedIn search.target search.normal.now search.range.now) shards
 decided_in q a search asks is decides shards listed =
-    let columns = source_columns (source_seen a.source) in
+    let columns = source_columns (source_view a.source) in
     let decided = asks.decided decides in
-    All-weaker (λ s. IsInCatalog s.definitions (source_seen a.source)) (IsDecidedIn search.target search.normal.now search.range.now)
+    All-weaker (λ s. IsInCatalog s.definitions (source_view a.source)) (IsDecidedIn search.target search.normal.now search.range.now)
     (λ s there. record {
       columns = columns;
       there = is.target s.definitions there;

@@ -81,20 +81,20 @@ fault_given g = result_err (ok_or (parsed g) wrong_shape >>= (λ m. selector_or_
 -- ---- what the code's members stand for
 
 -- the hint that the code's `GivenHint` stands for
-abbrev pub hint_seen : code_hint.GivenHint → Hint
-hint_seen code_hint.TheVariants.None = no_hint
-hint_seen (code_hint.TheVariants.Ddoc ddoc) = in_document (design_document ddoc.now)
-hint_seen (code_hint.TheVariants.Both ddoc name) = exactly (design_document ddoc.now) name.now
+abbrev pub hint_view : code_hint.GivenHint → Hint
+hint_view code_hint.TheVariants.None = no_hint
+hint_view (code_hint.TheVariants.Ddoc ddoc) = in_document (design_document ddoc.now)
+hint_view (code_hint.TheVariants.Both ddoc name) = exactly (design_document ddoc.now) name.now
 
 -- the members that the code's `Members` stands for
-abbrev pub given_seen : code.Members → Given
-given_seen g = record {
+abbrev pub given_view : code.Members → Given
+given_view g = record {
   selector = view g.selector.now;
   fields = map view g.fields.now;
   limit = g.limit;
   skip = g.skip;
   sort = map view g.sort.now;
-  hint = hint_seen g.hint;
+  hint = hint_view g.hint;
   bookmark = g.bookmark.now;
   conflicts = g.conflicts;
 }

@@ -1,6 +1,6 @@
 pub mod Query
 pub mod Page
-pub mod Seen
+pub mod View
 pub mod Given
 pub mod Served
 pub mod Explain

@@ -12,8 +12,8 @@ use Rattle.mg_query.specs.Query.{Query}
 use Rattle.mg_query.specs.declared.shown.Page as code
 
 -- the page that the code's `Page` stands for
-abbrev pub page_seen : code.Page → Page
-page_seen p = record { docs = map view p.docs.items; bookmark = string_bytes p.bookmark }
+abbrev pub page_view : code.Page → Page
+page_view p = record { docs = map view p.docs.items; bookmark = string_bytes p.bookmark }
 
 -- the compact text of the answer's page, or why there is none
 abbrev pub text_of : Result Page Unanswered → Result (List ℕ) Unanswered

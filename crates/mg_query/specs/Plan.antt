@@ -11,12 +11,12 @@ use Rattle.mg_scan.specs.Hit.{AreHitsIn, hit_rows}
 use Rattle.mg_scan.specs.Search.{after_of}
 use Rattle.mg_scan.specs.declared.hit.Hit.{Hit}
 use Rattle.mg_scan.specs.declared.search.Search.{Search}
-use Rattle.mg_shard.specs.Shard.{ShardView, shards_seen}
+use Rattle.mg_shard.specs.Shard.{ShardView, shards_view}
 use Rattle.mg_query.specs.Lent.{row_at, shard_rows}
 use Rattle.mg_query.specs.Page.{source_columns}
 use Rattle.mg_query.specs.Query.{Query}
-use Rattle.mg_query.specs.Served.{IsInCatalog, source_seen}
-use Rattle.mg_query.specs.Seen.{query_seen}
+use Rattle.mg_query.specs.Served.{IsInCatalog, source_view}
+use Rattle.mg_query.specs.View.{query_view}
 use Rattle.mg_query.specs.declared.found.Plan.{Plan}
 use Rattle.mg_query.specs.declared.page_search.PageSearch.{PageSearch}
 
@@ -28,19 +28,19 @@ IsDecidedBy columns normal = (is_some normal.rest ≡ false) × (decides_of norm
 -- bookmark; `is_decided` is true only if that range decides the whole selector
 pub record IsPlanOf (q : Query) (a : Plan) : Type 0 where
   pub normal : IsNormalOf q.selector a.normal
-  pub range : a.range ≡ range_of a.normal.atoms (source_columns (source_seen a.source))
+  pub range : a.range ≡ range_of a.normal.atoms (source_columns (source_view a.source))
   pub after : a.after ≡ option_map row_at q.bookmark
-  pub decided : a.is_decided ≡ true → IsDecidedBy (source_columns (source_seen a.source)) a.normal
+  pub decided : a.is_decided ≡ true → IsDecidedBy (source_columns (source_view a.source)) a.normal
 
 -- the search has the query's plan and the plan's range, and each shard has the plan's index
 pub record IsPlanned (s : PageSearch) : Type 0 where
-  pub plan : IsPlanOf (query_seen s.query.now) s.plan.now
+  pub plan : IsPlanOf (query_view s.query.now) s.plan.now
   pub range : s.range.now ≡ s.plan.now.range
-  pub listed : All (λ x. IsInCatalog x.definitions (source_seen s.plan.now.source)) (shards_seen s.shards.now)
+  pub listed : All (λ x. IsInCatalog x.definitions (source_view s.plan.now.source)) (shards_view s.shards.now)
 
 -- the search has the plan's index, normal form, range and row to begin after, and takes as many rows as the page skips and shows
 pub record IsSearchOf (q : Query) (a : Plan) (s : Search) : Type 0 where
-  pub target : (ds : List IndexDefinition) → IsInCatalog ds (source_seen a.source) → target_columns s.target ds ≡ Some (source_columns (source_seen a.source))
+  pub target : (ds : List IndexDefinition) → IsInCatalog ds (source_view a.source) → target_columns s.target ds ≡ Some (source_columns (source_view a.source))
   pub normal : s.normal.now ≡ a.normal
   pub range : s.range.now ≡ a.range
   pub after : after_of s ≡ a.after
@@ -49,7 +49,7 @@ pub record IsSearchOf (q : Query) (a : Plan) (s : Search) : Type 0 where
 
 -- the rows that a shard hands over for the query, by its plan
 abbrev pub rows_asked_of : Query → Plan → ShardView → List RowValue
-rows_asked_of q a = shard_rows a.normal (source_columns (source_seen a.source)) q
+rows_asked_of q a = shard_rows a.normal (source_columns (source_view a.source)) q
 
 -- the hits are the first of all shards together, at most skip + limit; each is of a document of one of the shards
 pub record AreFirst (q : Query) (a : Plan) (shards : List ShardView) (found : List Hit) : Type 0 where

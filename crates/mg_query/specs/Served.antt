@@ -16,15 +16,15 @@ FailsAs NoUsableIndex r = r ≡ Err no_usable_index
 FailsAs BadBookmark r = r ≡ Err bad_bookmark
 FailsAs NoMemory r = Unit {0}
 
--- the call returned what the definition gives, or its fault, unless an allocation failed; `seen` gives what a value of the code stands for
+-- the call returned what the definition gives, or its fault, unless an allocation failed; `item_view` gives what a value of the code stands for
 abbrev pub PageAnswers : {X Y : Type 0} → (X → Y) → Result X PageError → Result Y Unanswered → Type 0
-PageAnswers seen (Ok x) r = r ≡ Ok (seen x)
-PageAnswers seen (Err e) r = FailsAs e r
+PageAnswers item_view (Ok x) r = r ≡ Ok (item_view x)
+PageAnswers item_view (Err e) r = FailsAs e r
 
 -- the index that the code's `Source` stands for
-abbrev pub source_seen : code.Source → Source
-source_seen code.TheVariants.AllDocs = all_docs
-source_seen (code.TheVariants.Defined d) = defined d.now
+abbrev pub source_view : code.Source → Source
+source_view code.TheVariants.AllDocs = all_docs
+source_view (code.TheVariants.Defined d) = defined d.now
 
 -- the catalog of these definitions has the index under its design document and name; every catalog has the index of all documents
 abbrev pub IsInCatalog : List IndexDefinition → Source → Type 0
@@ -33,7 +33,7 @@ IsInCatalog ds (defined d) = definition_at d.ddoc d.name ds ≡ Some d
 
 -- for private clauses: the call returned the chosen index, or `NoUsableIndex` if there is none
 abbrev pub IsSourceChosen : Result code.Source PageError → Option Source → Type 0
-IsSourceChosen (Ok s) r = r ≡ Some (source_seen s)
+IsSourceChosen (Ok s) r = r ≡ Some (source_view s)
 IsSourceChosen (Err NoUsableIndex) r = r ≡ None
 IsSourceChosen (Err BadBookmark) r = ⊥
 IsSourceChosen (Err NoMemory) r = ⊥

@@ -5,14 +5,14 @@ ghost use Rattle.mg_value.specs.View.{view};
 ghost use Rattle.mg_bookmark.specs.Bookmark.{spelled};
 ghost use Rattle.mg_index.specs.Definition.{Steps};
 ghost use Rattle.mg_scan.specs.Hit.{hit_row};
-ghost use Rattle.mg_shard.specs.Shard.{HaveIndexes, shards_seen};
+ghost use Rattle.mg_shard.specs.Shard.{HaveIndexes, shards_view};
 ghost use Rattle.mg_shard.specs.Dealt.{Placing, ShardsStandFor};
 ghost use Rattle.mg_shard.specs.Histories.{Histories};
 ghost use Rattle.mg_query.specs.Page.{Candidate, answer_of, bookmark_after, candidates_of, source_columns, ddoc_of, name_of, page_of, page_value, shown_of};
-ghost use Rattle.mg_query.specs.Paged.{IsWorkWithin, handed_of, page_seen, text_of};
+ghost use Rattle.mg_query.specs.Paged.{IsWorkWithin, handed_of, page_view, text_of};
 ghost use Rattle.mg_query.specs.Lent.{LendEach};
-ghost use Rattle.mg_query.specs.Seen.{query_seen};
-ghost use Rattle.mg_query.specs.Served.{PageAnswers, HaveIdsAndRevs, source_seen};
+ghost use Rattle.mg_query.specs.View.{query_view};
+ghost use Rattle.mg_query.specs.Served.{PageAnswers, HaveIdsAndRevs, source_view};
 
 use crate::error::PageError;
 use crate::found::{after_skip, find, find_page};
@@ -51,17 +51,17 @@ pub fn page<R: Threads + Sync, G: Gate + Sync>(
     gate: &G,
 ) -> Result<(Page, Work), PageError>
     requires workers { (0 < workers) × (workers ≤ 32) }
-    requires indexes { HaveIndexes catalog.now (shards_seen shards.now) }
+    requires indexes { HaveIndexes catalog.now (shards_view shards.now) }
     ensures answers { (place : Placing) (hs : Histories)
-        → ShardsStandFor place (shards_seen shards.now) hs → HaveIdsAndRevs (candidates_of hs)
-        → PageAnswers (λ r. page_seen r.0) result
-        (answer_of catalog.now (query_seen query.now) (candidates_of hs)) }
+        → ShardsStandFor place (shards_view shards.now) hs → HaveIdsAndRevs (candidates_of hs)
+        → PageAnswers (λ r. page_view r.0) result
+        (answer_of catalog.now (query_view query.now) (candidates_of hs)) }
     ensures work { IfOk result
         (λ r. IsWorkWithin (length shards.now) (query.now.skip + query.now.limit) r.1) }
     ensures handed { (place : Placing) (hs : Histories)
-        → ShardsStandFor place (shards_seen shards.now) hs → HaveIdsAndRevs (candidates_of hs)
+        → ShardsStandFor place (shards_view shards.now) hs → HaveIdsAndRevs (candidates_of hs)
         → PageAnswers (λ r. r.1.handed) result
-        (handed_of catalog.now (query_seen query.now) place (length shards.now) hs) }
+        (handed_of catalog.now (query_view query.now) place (length shards.now) hs) }
 {
     let found = find(
         rt,
@@ -96,11 +96,11 @@ pub fn page_text<R: Threads + Sync, G: Gate + Sync>(
     workers: Workers,
     gate: &G,
 ) -> Result<Vec<u8>, PageError>
-    requires indexes { HaveIndexes catalog.now (shards_seen shards.now) }
+    requires indexes { HaveIndexes catalog.now (shards_view shards.now) }
     ensures answers { (place : Placing) (hs : Histories)
-        → ShardsStandFor place (shards_seen shards.now) hs → HaveIdsAndRevs (candidates_of hs)
+        → ShardsStandFor place (shards_view shards.now) hs → HaveIdsAndRevs (candidates_of hs)
         → PageAnswers (λ text. text.items) result
-        (text_of (answer_of catalog.now (query_seen query.now) (candidates_of hs))) }
+        (text_of (answer_of catalog.now (query_view query.now) (candidates_of hs))) }
 {
     let found = find_page(rt, alloc, query, catalog, shards, workers, gate)?;
     let hits = after_skip(&found.hits, found.skip);
@@ -115,8 +115,8 @@ fn write_page(
     hits: &[Hit<'_>],
 ) -> Result<Vec<u8>, NoMemory>
     ensures { IfOk result (λ text. (cs : List Candidate)
-        → LendEach (source_columns (source_seen source.entry)) hits.now cs
-        → text.items ≡ compact (page_value (page_of (source_seen source.entry) (query_seen query.now) cs))) }
+        → LendEach (source_columns (source_view source.entry)) hits.now cs
+        → text.items ≡ compact (page_value (page_of (source_view source.entry) (query_view query.now) cs))) }
 {
     let bookmark = last_bookmark(alloc, query, source, hits)?;
     text_with(alloc, query, &bookmark, hits)
@@ -125,7 +125,7 @@ fn write_page(
 // Makes what the page shows of the documents of these hits. Errors: `NoMemory` if an allocation fails.
 fn show_all(alloc: Global, query: &Query<'_>, hits: &[Hit<'_>]) -> Result<Vec<Json>, NoMemory>
     ensures { IfOk result (λ v. (columns : List Steps) (cs : List Candidate) → LendEach columns hits.now cs
-        → map view v.items ≡ map (shown_of (query_seen query.now)) cs) }
+        → map view v.items ≡ map (shown_of (query_view query.now)) cs) }
 {
     let mut docs = Vec::with_capacity(alloc, hits.len())?;
     for hit in hits {
@@ -143,8 +143,8 @@ fn last_bookmark(
     hits: &[Hit<'_>],
 ) -> Result<String, NoMemory>
     ensures { IfOk result
-        (λ t. (cs : List Candidate) → LendEach (source_columns (source_seen source.entry)) hits.now cs
-        → string_bytes t ≡ bookmark_after (source_seen source.entry) (query_seen query.now) cs) }
+        (λ t. (cs : List Candidate) → LendEach (source_columns (source_view source.entry)) hits.now cs
+        → string_bytes t ≡ bookmark_after (source_view source.entry) (query_view query.now) cs) }
 {
     match hits.last() {
         Some(hit) => bookmark_at(alloc, source, query.sort.direction, hit),
@@ -160,8 +160,8 @@ fn bookmark_at(
     hit: &Hit<'_>,
 ) -> Result<String, NoMemory>
     ensures { IfOk result (λ t. string_bytes t ≡ spelled (record {
-      ddoc = ddoc_of (source_seen source.entry);
-      name = name_of (source_seen source.entry);
+      ddoc = ddoc_of (source_view source.entry);
+      name = name_of (source_view source.entry);
       direction = direction;
       key = (hit_row hit.now).0;
       id = (hit_row hit.now).1;

@@ -3,7 +3,7 @@ ghost use Rattle.mg_value.specs.Value.{list};
 ghost use Rattle.mg_value.specs.View.{view, items_view};
 ghost use Rattle.mg_query.specs.Explain.{explanation_of, explanation_with};
 ghost use Rattle.mg_query.specs.Query.{rendered_fields_of};
-ghost use Rattle.mg_query.specs.Seen.{lent, query_seen};
+ghost use Rattle.mg_query.specs.View.{optional_view, query_view};
 ghost use Rattle.mg_query.specs.Served.{PageAnswers};
 
 use crate::error::PageError;
@@ -27,7 +27,7 @@ pub fn explain(
     query: &Query<'_>,
     catalog: &Catalog,
 ) -> Result<Json, PageError>
-    ensures { PageAnswers view result (explanation_of db.now catalog.now (query_seen query.now)) }
+    ensures { PageAnswers view result (explanation_of db.now catalog.now (query_view query.now)) }
 {
     let normal = Normal::of(alloc, &query.selector)?;
     let source = served_by(query, &normal, catalog)?;
@@ -46,7 +46,7 @@ fn render_explanation(
     range: Json,
 ) -> Result<Json, NoMemory>
     ensures { IfOk result
-        (λ v. view v ≡ explanation_with db.now (query_seen query.now) (view index) (view range)) }
+        (λ v. view v ≡ explanation_with db.now (query_view query.now) (view index) (view range)) }
 {
     let fields = render_fields(alloc, query.given_fields)?;
     let db = Json::Text(String::from_str(alloc, db)?);
@@ -64,7 +64,7 @@ fn render_explanation(
 
 // Copies the fields as they were given; makes `"all_fields"` if they are absent or empty. Errors: `NoMemory` if an allocation fails.
 fn render_fields(alloc: Global, fields: Option<&Json>) -> Result<Json, NoMemory>
-    ensures { IfOk result (λ v. view v ≡ rendered_fields_of (lent fields.entry)) }
+    ensures { IfOk result (λ v. view v ≡ rendered_fields_of (optional_view fields.entry)) }
 {
     match fields {
         Some(fields) => render_given(alloc, fields),

@@ -4,7 +4,7 @@ ghost use Rattle.std.specs.List.{list_all};
 ghost use Rattle.std.specs.Result.{result_err};
 ghost use Rattle.mg_value.specs.View.{view};
 ghost use Rattle.mg_selector.specs.Reading.{reading};
-ghost use Rattle.mg_query.specs.Given.{fault_given, given_seen, gives_path, gives_sort, parsed};
+ghost use Rattle.mg_query.specs.Given.{fault_given, given_view, gives_path, gives_sort, parsed};
 ghost use Rattle.mg_query.specs.Query.{early_fault, selector_or_fault};
 
 use crate::error::QueryError;
@@ -25,7 +25,7 @@ pub(crate) fn fault_of(body: &Json) -> Option<QueryError>
 }
 
 fn members_fault(members: Members<'_>) -> Option<QueryError>
-    ensures { result ≡ fault_given (given_seen members.entry) }
+    ensures { result ≡ fault_given (given_view members.entry) }
 {
     if are_shaped(members) {
         selector_fault(members.selector)
@@ -36,7 +36,7 @@ fn members_fault(members: Members<'_>) -> Option<QueryError>
 
 // Whether each item of `fields` gives a path, and each item of `sort` a path and a direction.
 fn are_shaped(members: Members<'_>) -> bool
-    ensures { result ≡ is_some (parsed (given_seen members.entry)) }
+    ensures { result ≡ is_some (parsed (given_view members.entry)) }
 {
     are_paths(members.fields) && are_sort_fields(members.sort)
 }

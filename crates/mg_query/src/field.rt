@@ -3,7 +3,7 @@ ghost use Rattle.std.specs.Prelude.{map, ok_or};
 ghost use Rattle.mg_value.specs.View.{view};
 ghost use Rattle.mg_index.specs.Reading.{each_of, field_direction};
 ghost use Rattle.mg_query.specs.Query.{one_direction, path_of, sort_path};
-ghost use Rattle.mg_query.specs.Seen.{ReadsAs};
+ghost use Rattle.mg_query.specs.View.{ReadsAs};
 
 use crate::error::QueryError;
 use mg_collate::Direction;

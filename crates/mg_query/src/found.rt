@@ -1,14 +1,14 @@
 //! What a query finds for its page: the first hits of all shards together; `find_page` may leave out those that the page skips.
 ghost use Rattle.std.specs.Prelude.{◌≡◌, ◌+◌, IfOk, drop, length, option_map};
-ghost use Rattle.mg_shard.specs.Shard.{HaveIndexes, shards_seen};
+ghost use Rattle.mg_shard.specs.Shard.{HaveIndexes, shards_view};
 ghost use Rattle.mg_shard.specs.Dealt.{Placing, ShardsStandFor};
 ghost use Rattle.mg_shard.specs.Histories.{Histories};
 ghost use Rattle.mg_query.specs.Plan.{IsPlanOf};
 ghost use Rattle.mg_query.specs.Page.{candidates_of, source_columns, page_candidates, served_by};
 ghost use Rattle.mg_query.specs.Paged.{IsWorkWithin, counts_handed};
 ghost use Rattle.mg_query.specs.Lent.{LendEach, row_at};
-ghost use Rattle.mg_query.specs.Seen.{query_seen};
-ghost use Rattle.mg_query.specs.Served.{PageAnswers, HaveIdsAndRevs, IsInCatalog, source_seen};
+ghost use Rattle.mg_query.specs.View.{query_view};
+ghost use Rattle.mg_query.specs.Served.{PageAnswers, HaveIdsAndRevs, IsInCatalog, source_view};
 
 use crate::error::PageError;
 use crate::page_search::PageSearch;
@@ -68,18 +68,18 @@ pub(crate) fn find<'a, R: Threads + Sync, G: Gate + Sync>(
     workers: Workers,
     gate: &G,
 ) -> Result<Found<'a>, PageError>
-    requires indexes { HaveIndexes catalog.now (shards_seen shards.now) }
-    ensures source { PageAnswers (λ f. source_seen f.source) result
-        (served_by catalog.now (query_seen query.now)) }
+    requires indexes { HaveIndexes catalog.now (shards_view shards.now) }
+    ensures source { PageAnswers (λ f. source_view f.source) result
+        (served_by catalog.now (query_view query.now)) }
     ensures hits { IfOk result (λ f. (place : Placing) (hs : Histories)
-        → ShardsStandFor place (shards_seen shards.now) hs → HaveIdsAndRevs (candidates_of hs)
-        → LendEach (source_columns (source_seen f.source)) (drop query.now.skip f.hits.items)
-        (page_candidates (source_columns (source_seen f.source)) (query_seen query.now) (candidates_of hs))) }
+        → ShardsStandFor place (shards_view shards.now) hs → HaveIdsAndRevs (candidates_of hs)
+        → LendEach (source_columns (source_view f.source)) (drop query.now.skip f.hits.items)
+        (page_candidates (source_columns (source_view f.source)) (query_view query.now) (candidates_of hs))) }
     ensures work { IfOk result
         (λ f. IsWorkWithin (length shards.now) (query.now.skip + query.now.limit) f.work) }
     ensures handed { IfOk result (λ f. (place : Placing) (hs : Histories)
-        → ShardsStandFor place (shards_seen shards.now) hs → HaveIdsAndRevs (candidates_of hs)
-        → f.work.handed ≡ counts_handed (source_columns (source_seen f.source)) (query_seen query.now)
+        → ShardsStandFor place (shards_view shards.now) hs → HaveIdsAndRevs (candidates_of hs)
+        → f.work.handed ≡ counts_handed (source_columns (source_view f.source)) (query_view query.now)
         place (length shards.now) hs) }
 {
     ranges_are_complete();
@@ -113,13 +113,13 @@ pub(crate) fn find_page<'a, R: Threads + Sync, G: Gate + Sync>(
     workers: Workers,
     gate: &G,
 ) -> Result<PageHits<'a>, PageError>
-    requires indexes { HaveIndexes catalog.now (shards_seen shards.now) }
-    ensures source { PageAnswers (λ f. source_seen f.source) result
-        (served_by catalog.now (query_seen query.now)) }
+    requires indexes { HaveIndexes catalog.now (shards_view shards.now) }
+    ensures source { PageAnswers (λ f. source_view f.source) result
+        (served_by catalog.now (query_view query.now)) }
     ensures hits { IfOk result (λ f. (place : Placing) (hs : Histories)
-        → ShardsStandFor place (shards_seen shards.now) hs → HaveIdsAndRevs (candidates_of hs)
-        → LendEach (source_columns (source_seen f.source)) (drop f.skip f.hits.items)
-        (page_candidates (source_columns (source_seen f.source)) (query_seen query.now) (candidates_of hs))) }
+        → ShardsStandFor place (shards_view shards.now) hs → HaveIdsAndRevs (candidates_of hs)
+        → LendEach (source_columns (source_view f.source)) (drop f.skip f.hits.items)
+        (page_candidates (source_columns (source_view f.source)) (query_view query.now) (candidates_of hs))) }
 {
     ranges_are_complete();
     definitions_are_catalogs(shards);
@@ -145,10 +145,10 @@ fn plan_of<'a>(
     query: &Query<'_>,
     catalog: &'a Catalog,
 ) -> Result<Plan<'a>, PageError>
-    ensures answers { PageAnswers (λ a. source_seen a.source) result
-        (served_by catalog.now (query_seen query.now)) }
-    ensures listed { IfOk result (λ a. IsInCatalog catalog.now (source_seen a.source)) }
-    ensures plan { IfOk result (λ a. IsPlanOf (query_seen query.now) a) }
+    ensures answers { PageAnswers (λ a. source_view a.source) result
+        (served_by catalog.now (query_view query.now)) }
+    ensures listed { IfOk result (λ a. IsInCatalog catalog.now (source_view a.source)) }
+    ensures plan { IfOk result (λ a. IsPlanOf (query_view query.now) a) }
 {
     let normal = Normal::of(alloc, &query.selector)?;
     let source = served_by(query, &normal, catalog)?;
@@ -166,7 +166,7 @@ fn plan_of<'a>(
 
 // Makes the bytes of the row after which the page begins; `None` without a bookmark. Errors: `NoMemory` if an allocation fails.
 fn after_row(alloc: Global, query: &Query<'_>) -> Result<Option<RowBytes>, NoMemory>
-    ensures { IfOk result (λ after. after ≡ option_map row_at (query_seen query.now).bookmark) }
+    ensures { IfOk result (λ after. after ≡ option_map row_at (query_view query.now).bookmark) }
 {
     match &query.bookmark {
         Some(bookmark) => Ok(Some(RowBytes::of(alloc, &bookmark.key, &bookmark.id)?)),

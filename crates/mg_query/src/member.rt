@@ -2,9 +2,9 @@
 ghost use Rattle.std.specs.Prelude.{◌≡◌, Some, map, option_map};
 ghost use Rattle.mg_value.specs.Value.{item, list, no_items, whole};
 ghost use Rattle.mg_value.specs.View.{view, items_view};
-ghost use Rattle.mg_query.specs.Given.{given, given_seen, hint_seen};
+ghost use Rattle.mg_query.specs.Given.{given, given_view, hint_view};
 ghost use Rattle.mg_query.specs.Query.{bookmark_given, conflicts_of, count_of, hint_given, selector_given, items_given};
-ghost use Rattle.mg_query.specs.Seen.{lent};
+ghost use Rattle.mg_query.specs.View.{optional_view};
 
 use mg_index::{Hint, design_document};
 use mg_value::{Json, NoMemory};
@@ -40,7 +40,7 @@ pub(crate) enum GivenHint<'a> {
 
 // Returns the members of a body; `None` if the body is not an object, `selector` is missing, or a member has a wrong shape.
 pub(crate) fn members_in(body: &Json) -> Option<Members<'_>>
-    ensures { option_map given_seen result ≡ given (view body.now) }
+    ensures { option_map given_view result ≡ given (view body.now) }
 {
     let selector = selector_given(body.member("selector"))?;
     let fields = array_given(body.member("fields"))?;
@@ -64,7 +64,7 @@ pub(crate) fn members_in(body: &Json) -> Option<Members<'_>>
 
 // Returns `selector`; `None` if it is missing, or is not an object.
 fn selector_given<'a>(value: Option<&'a Json>) -> Option<&'a Json>
-    ensures { option_map (λ v. view v.now) result ≡ selector_given (lent value.entry) }
+    ensures { option_map (λ v. view v.now) result ≡ selector_given (optional_view value.entry) }
 {
     match value {
         Some(selector) => object_in(selector),
@@ -83,7 +83,7 @@ fn object_in(value: &Json) -> Option<&Json>
 
 // Returns the items of a member that is an array; no items if it is absent, and `None` if it is anything else.
 fn array_given<'a>(value: Option<&'a Json>) -> Option<&'a [Json]>
-    ensures { option_map (λ items. map view items.now) result ≡ items_given (lent value.entry) }
+    ensures { option_map (λ items. map view items.now) result ≡ items_given (optional_view value.entry) }
 {
     match value {
         None => Some(&[]),
@@ -109,7 +109,7 @@ fn some_items(items: &[Json]) -> Option<&[Json]>
 
 // Returns `limit` or `skip`, a whole number from 0 to `GREATEST_COUNT`; `otherwise` if it is absent, and `None` if it is anything else.
 fn count_given(otherwise: u32, value: Option<&Json>) -> Option<u32>
-    ensures { result ≡ count_of otherwise (lent value.entry) }
+    ensures { result ≡ count_of otherwise (optional_view value.entry) }
 {
     match value {
         None => Some(otherwise),
@@ -131,7 +131,7 @@ fn count_in(_otherwise: u32, count: i64) -> Option<u32>
 // Returns `use_index`: a design document, or an array: `[]`, `[ddoc]` or `[ddoc, name]`; no hint if it is absent, and `None` if it is
 // anything else.
 fn hint_given<'a>(value: Option<&'a Json>) -> Option<GivenHint<'a>>
-    ensures { option_map hint_seen result ≡ hint_given (lent value.entry) }
+    ensures { option_map hint_view result ≡ hint_given (optional_view value.entry) }
 {
     match value {
         None => Some(GivenHint::None),
@@ -142,7 +142,7 @@ fn hint_given<'a>(value: Option<&'a Json>) -> Option<GivenHint<'a>>
 }
 
 fn hint_in(parts: &[Json]) -> Option<GivenHint<'_>>
-    ensures { option_map hint_seen result ≡ hint_given (Some (list (items_view parts.now))) }
+    ensures { option_map hint_view result ≡ hint_given (Some (list (items_view parts.now))) }
 {
     match parts {
         [] => Some(GivenHint::None),
@@ -153,7 +153,7 @@ fn hint_in(parts: &[Json]) -> Option<GivenHint<'_>>
 }
 
 fn hint_by_ddoc(ddoc: &Json) -> Option<GivenHint<'_>>
-    ensures { option_map hint_seen result ≡ hint_given (Some (list (item (view ddoc.now) no_items))) }
+    ensures { option_map hint_view result ≡ hint_given (Some (list (item (view ddoc.now) no_items))) }
 {
     match ddoc {
         Json::Text(ddoc) => Some(GivenHint::Ddoc(ddoc.as_str())),
@@ -162,7 +162,7 @@ fn hint_by_ddoc(ddoc: &Json) -> Option<GivenHint<'_>>
 }
 
 fn hint_by_both<'a>(ddoc: &'a Json, name: &'a Json) -> Option<GivenHint<'a>>
-    ensures { option_map hint_seen result
+    ensures { option_map hint_view result
         ≡ hint_given (Some (list (item (view ddoc.now) (item (view name.now) no_items)))) }
 {
     match (ddoc, name) {
@@ -175,7 +175,7 @@ fn hint_by_both<'a>(ddoc: &'a Json, name: &'a Json) -> Option<GivenHint<'a>>
 
 // Returns `bookmark`, a text; `nil` if it is null or absent, and `None` if it is anything else.
 fn bookmark_given<'a>(value: Option<&'a Json>) -> Option<&'a str>
-    ensures { option_map (λ t. t.now) result ≡ bookmark_given (lent value.entry) }
+    ensures { option_map (λ t. t.now) result ≡ bookmark_given (optional_view value.entry) }
 {
     match value {
         None => Some(NO_BOOKMARK),
@@ -187,7 +187,7 @@ fn bookmark_given<'a>(value: Option<&'a Json>) -> Option<&'a str>
 
 // Returns `conflicts`, true or false; false if it is absent, and `None` if it is anything else.
 fn conflicts_given(value: Option<&Json>) -> Option<bool>
-    ensures { result ≡ conflicts_of (lent value.entry) }
+    ensures { result ≡ conflicts_of (optional_view value.entry) }
 {
     match value {
         None => Some(false),
@@ -202,7 +202,7 @@ impl GivenHint<'_> {
 
     // Copies the hint, with `_design/` put before a design document that does not begin with it. Errors: `NoMemory` if an allocation fails.
     pub(crate) fn to_hint(self, alloc: Global) -> Result<Hint, NoMemory>
-        ensures { IfOk result (λ hint. hint_of hint ≡ hint_seen self.entry) }
+        ensures { IfOk result (λ hint. hint_of hint ≡ hint_view self.entry) }
     {
         match self {
             GivenHint::None => Ok(Hint::None),

@@ -1,11 +1,11 @@
 //! Searches for the hits of a page, by workers or on the caller's thread.
 ghost use Rattle.std.specs.Prelude.{◌≡◌, ◌+◌, true, IfOk, length, map};
 ghost use Rattle.std.specs.List.{AllZip};
-ghost use Rattle.mg_shard.specs.Shard.{shards_seen};
+ghost use Rattle.mg_shard.specs.Shard.{shards_view};
 ghost use Rattle.mg_scan.specs.Hit.{AreHitsOf, hit_rows};
 ghost use Rattle.mg_query.specs.Plan.{AreFirst, AreOfPage, IsPlanned, IsSearchOf, rows_asked_of};
 ghost use Rattle.mg_query.specs.Paged.{IsWorkWithin};
-ghost use Rattle.mg_query.specs.Seen.{query_seen};
+ghost use Rattle.mg_query.specs.View.{query_view};
 
 use crate::found::Plan;
 use crate::query::Query;
@@ -50,7 +50,7 @@ impl<'a, 'b> PageSearch<'a, 'b> {
     // Makes the search in each shard, for the rows that the page skips and shows.
     fn in_each_shard(&self) -> Search<'b>
         requires { IsPlanned self.now }
-        ensures { IsSearchOf (query_seen self.now.query.now) self.now.plan.now result }
+        ensures { IsSearchOf (query_view self.now.query.now) self.now.plan.now result }
     {
         Search {
             target: self.plan.source.target(),
@@ -73,8 +73,8 @@ impl<'a, 'b> PageSearch<'a, 'b> {
         gate: &G,
     ) -> Result<(Vec<Hit<'a>>, u32), NoMemory>
         requires { IsPlanned self.now }
-        ensures { IfOk result (λ made. AreOfPage (query_seen self.now.query.now) self.now.plan.now
-            (shards_seen self.now.shards.now) made.1 made.0.items) }
+        ensures { IfOk result (λ made. AreOfPage (query_view self.now.query.now) self.now.plan.now
+            (shards_view self.now.shards.now) made.1 made.0.items) }
     {
         let has_one_thread = workers.count() < 2 || self.shards.len() < 2;
         if workers.is_alone(has_one_thread || self.is_small()) {
@@ -88,8 +88,8 @@ impl<'a, 'b> PageSearch<'a, 'b> {
     // that is skipped, and the returned number is 0. Errors: `NoMemory` if an allocation fails.
     fn find_alone(&self, alloc: Global) -> Result<(Vec<Hit<'a>>, u32), NoMemory>
         requires { IsPlanned self.now }
-        ensures { IfOk result (λ made. AreOfPage (query_seen self.now.query.now) self.now.plan.now
-            (shards_seen self.now.shards.now) made.1 made.0.items) }
+        ensures { IfOk result (λ made. AreOfPage (query_view self.now.query.now) self.now.plan.now
+            (shards_view self.now.shards.now) made.1 made.0.items) }
     {
         if self.plan.is_decided {
             let hits = self.pull_page(alloc)?;
@@ -103,8 +103,8 @@ impl<'a, 'b> PageSearch<'a, 'b> {
     fn pull_page(&self, alloc: Global) -> Result<Vec<Hit<'a>>, NoMemory>
         requires decided { self.now.plan.now.is_decided ≡ true }
         requires planned { IsPlanned self.now }
-        ensures { IfOk result (λ hits. AreOfPage (query_seen self.now.query.now) self.now.plan.now
-            (shards_seen self.now.shards.now) 0 hits.items) }
+        ensures { IfOk result (λ hits. AreOfPage (query_view self.now.query.now) self.now.plan.now
+            (shards_view self.now.shards.now) 0 hits.items) }
     {
         let search = self.in_each_shard();
         let (hits, _) = pull_rows(alloc, self.shards, search, self.query.skip as usize)?;
@@ -115,8 +115,8 @@ impl<'a, 'b> PageSearch<'a, 'b> {
     // `NoMemory`.
     fn pull_hits(&self, alloc: Global) -> Result<Vec<Hit<'a>>, NoMemory>
         requires { IsPlanned self.now }
-        ensures { IfOk result (λ hits. AreFirst (query_seen self.now.query.now) self.now.plan.now
-            (shards_seen self.now.shards.now) hits.items) }
+        ensures { IfOk result (λ hits. AreFirst (query_view self.now.query.now) self.now.plan.now
+            (shards_view self.now.shards.now) hits.items) }
     {
         let (hits, _) = pull_lent(alloc, self.shards, self.in_each_shard())?;
         Ok(hits)
@@ -132,13 +132,13 @@ impl<'a, 'b> PageSearch<'a, 'b> {
         gate: &G,
     ) -> Result<(Vec<Hit<'a>>, Work), NoMemory>
         requires { IsPlanned self.now }
-        ensures hits { IfOk result (λ made. AreFirst (query_seen self.now.query.now) self.now.plan.now
-            (shards_seen self.now.shards.now) made.0.items) }
+        ensures hits { IfOk result (λ made. AreFirst (query_view self.now.query.now) self.now.plan.now
+            (shards_view self.now.shards.now) made.0.items) }
         ensures work { IfOk result (λ made. IsWorkWithin (length self.now.shards.now)
             (self.now.query.now.skip + self.now.query.now.limit) made.1) }
         ensures handed { IfOk result (λ made. made.1.handed
-            ≡ map (λ s. length (rows_asked_of (query_seen self.now.query.now) self.now.plan.now s))
-            (shards_seen self.now.shards.now)) }
+            ≡ map (λ s. length (rows_asked_of (query_view self.now.query.now) self.now.plan.now s))
+            (shards_view self.now.shards.now)) }
     {
         let lists = self.lists(rt, alloc, workers, gate)?;
         let direction = self.query.sort.direction;
@@ -156,10 +156,10 @@ impl<'a, 'b> PageSearch<'a, 'b> {
     ) -> Result<Vec<Vec<Hit<'a>>>, NoMemory>
         requires { IsPlanned self.now }
         ensures rows { IfOk result (λ lists. map (λ hits. hit_rows hits.items) lists.items
-            ≡ map (rows_asked_of (query_seen self.now.query.now) self.now.plan.now)
-            (shards_seen self.now.shards.now)) }
+            ≡ map (rows_asked_of (query_view self.now.query.now) self.now.plan.now)
+            (shards_view self.now.shards.now)) }
         ensures hits { IfOk result (λ lists. AllZip (λ s hits. AreHitsOf s.documents hits.items)
-            (shards_seen self.now.shards.now) lists.items) }
+            (shards_view self.now.shards.now) lists.items) }
     {
         let search = self.in_each_shard();
         scan_lent(rt, alloc, self.shards, search, workers, gate)

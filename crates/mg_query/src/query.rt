@@ -1,10 +1,10 @@
 ghost use Rattle.std.specs.Prelude.{◌≡◌, Err, Some, option_map, unwrap_or, ok_or};
 ghost use Rattle.mg_value.specs.View.{view};
-ghost use Rattle.mg_query.specs.Given.{given_seen, query_given};
+ghost use Rattle.mg_query.specs.Given.{given_view, query_given};
 ghost use Rattle.mg_query.specs.Query.{early_fault, query_of};
 ghost use Rattle.mg_bookmark.specs.Reading.{bookmark_read};
-ghost use Rattle.mg_bookmark.specs.Seen.{bookmark_place};
-ghost use Rattle.mg_query.specs.Seen.{ReadsAs, lent, query_seen};
+ghost use Rattle.mg_bookmark.specs.View.{bookmark_place};
+ghost use Rattle.mg_query.specs.View.{ReadsAs, optional_view, query_view};
 
 use crate::error::QueryError;
 use crate::fault::fault_of;
@@ -63,7 +63,7 @@ impl<'a> Query<'a> {
     /// an allocation fails, and never in place of a wrong shape or of the selector's fault. Cost: the size of the selector, the sort, the
     /// fields and the bookmark. Source: `_find` of CouchDB's API reference.
     pub fn read(alloc: Global, body: &'a Json) -> Result<Query<'a>, QueryError>
-        ensures query { ReadsAs query_seen result (query_of (view body.now)) }
+        ensures query { ReadsAs query_view result (query_of (view body.now)) }
         ensures refused { (e : QueryError) → early_fault (view body.now) ≡ Some e → result ≡ Err e }
     {
         match query_in(alloc, body) {
@@ -83,7 +83,7 @@ fn first_fault(body: &Json, met: QueryError) -> QueryError
 // Reads the query in a body. Errors: those of `Query::read`, but if an allocation fails, `NoMemory` may be returned although the body has a
 // fault.
 fn query_in(alloc: Global, body: &Json) -> Result<Query<'_>, QueryError>
-    ensures { ReadsAs query_seen result (query_of (view body.now)) }
+    ensures { ReadsAs query_view result (query_of (view body.now)) }
 {
     match members_in(body) {
         Some(members) => query_with(alloc, members, body.member("fields")),
@@ -97,7 +97,7 @@ fn query_with<'a>(
     members: Members<'a>,
     given_fields: Option<&'a Json>,
 ) -> Result<Query<'a>, QueryError>
-    ensures { ReadsAs query_seen result (query_given (lent given_fields.entry) (given_seen members.entry)) }
+    ensures { ReadsAs query_view result (query_given (optional_view given_fields.entry) (given_view members.entry)) }
 {
     let fields = read_paths(alloc, members.fields)?;
     let paths = read_sort_paths(alloc, members.sort)?;

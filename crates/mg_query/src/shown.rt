@@ -5,8 +5,8 @@ ghost use Rattle.mg_revtree.specs.History.{Paths};
 ghost use Rattle.mg_revtree.specs.Tree.{StandsFor};
 ghost use Rattle.mg_bookmark.specs.Bookmark.{spelled};
 ghost use Rattle.mg_query.specs.Page.{ddoc_of, name_of, projected, shown_of};
-ghost use Rattle.mg_query.specs.Seen.{query_seen};
-ghost use Rattle.mg_query.specs.Served.{source_seen};
+ghost use Rattle.mg_query.specs.View.{query_view};
+ghost use Rattle.mg_query.specs.Served.{source_view};
 
 use crate::query::Query;
 use crate::source::Source;
@@ -35,7 +35,7 @@ pub(crate) fn show(
     tree: &RevTree,
 ) -> Result<Json, NoMemory>
     ensures { IfOk result (λ v. (id : List ℕ) (h : Paths) → StandsFor tree.now h
-        → view v ≡ shown_of (query_seen query.now) (record { id = id; form = form.entry; history = h })) }
+        → view v ≡ shown_of (query_view query.now) (record { id = id; form = form.entry; history = h })) }
 {
     if query.conflicts {
         let whole = with_conflicts(alloc, form.to_json(alloc)?, tree)?;
@@ -76,8 +76,8 @@ pub(crate) fn bookmark_of(
     id: &str,
 ) -> Result<String, NoMemory>
     ensures { IfOk result (λ t. string_bytes t ≡ spelled (record {
-      ddoc = ddoc_of (source_seen source.entry);
-      name = name_of (source_seen source.entry);
+      ddoc = ddoc_of (source_view source.entry);
+      name = name_of (source_view source.entry);
       direction = direction;
       key = items_view key.now;
       id = id.now;

@@ -2,7 +2,7 @@
 ghost use Rattle.std.specs.Prelude.{◌≡◌, List, Some, true, IfOk, length, option_map};
 ghost use Rattle.mg_value.specs.View.{view, items_view};
 ghost use Rattle.mg_value.specs.Value.{item_list};
-ghost use Rattle.mg_bookmark.specs.Seen.{bookmark_place};
+ghost use Rattle.mg_bookmark.specs.View.{bookmark_place};
 ghost use Rattle.mg_index.specs.Choice.{all_docs, choice_of, id_path};
 ghost use Rattle.mg_index.specs.Definition.{IndexDefinition};
 ghost use Rattle.mg_range.specs.Range.{range_of};
@@ -12,8 +12,8 @@ ghost use Rattle.mg_selector.specs.View.{selector_of};
 ghost use Rattle.mg_query.specs.Plan.{IsDecidedBy};
 ghost use Rattle.mg_query.specs.Explain.{listed_source};
 ghost use Rattle.mg_query.specs.Page.{source_columns, ddoc_of, accepts_bookmark, is_same_ddoc, fits_source, name_of, served_by};
-ghost use Rattle.mg_query.specs.Seen.{query_seen};
-ghost use Rattle.mg_query.specs.Served.{PageAnswers, IsSourceChosen, IsInCatalog, source_seen};
+ghost use Rattle.mg_query.specs.View.{query_view};
+ghost use Rattle.mg_query.specs.Served.{PageAnswers, IsSourceChosen, IsInCatalog, source_view};
 
 use crate::error::PageError;
 use crate::query::Query;
@@ -47,8 +47,8 @@ pub(crate) fn served_by<'a>(
     catalog: &'a Catalog,
 ) -> Result<Source<'a>, PageError>
     requires { IsNormalOf (selector_of query.now.selector) normal.now }
-    ensures answers { PageAnswers source_seen result (served_by catalog.now (query_seen query.now)) }
-    ensures listed { IfOk result (λ s. IsInCatalog catalog.now (source_seen s)) }
+    ensures answers { PageAnswers source_view result (served_by catalog.now (query_view query.now)) }
+    ensures listed { IfOk result (λ s. IsInCatalog catalog.now (source_view s)) }
 {
     let source = choose_source(query, normal, catalog)?;
     if accepts_bookmark(source, query) {
@@ -64,8 +64,8 @@ fn choose_source<'a>(
     catalog: &'a Catalog,
 ) -> Result<Source<'a>, PageError>
     ensures chosen { IsSourceChosen result (choice_of catalog.now normal.now.atoms
-        (query_seen query.now).sort (query_seen query.now).hint) }
-    ensures listed { IfOk result (λ s. IsInCatalog catalog.now (source_seen s)) }
+        (query_view query.now).sort (query_view query.now).hint) }
+    ensures listed { IfOk result (λ s. IsInCatalog catalog.now (source_view s)) }
 {
     match choose(catalog, normal, &query.sort, &query.hint) {
         Ok(Choice::AllDocs) => Ok(Source::AllDocs),
@@ -76,7 +76,7 @@ fn choose_source<'a>(
 
 // Whether the query's bookmark belongs to the index, read in the query's direction; true without a bookmark.
 fn accepts_bookmark(source: Source<'_>, query: &Query<'_>) -> bool
-    ensures { result ≡ accepts_bookmark (source_seen source.entry) (query_seen query.now) }
+    ensures { result ≡ accepts_bookmark (source_view source.entry) (query_view query.now) }
 {
     match &query.bookmark {
         Some(bookmark) => fits_source(source, query, bookmark),
@@ -85,7 +85,7 @@ fn accepts_bookmark(source: Source<'_>, query: &Query<'_>) -> bool
 }
 
 fn fits_source(source: Source<'_>, query: &Query<'_>, bookmark: &Bookmark) -> bool
-    ensures { result ≡ fits_source (source_seen source.entry) (query_seen query.now)
+    ensures { result ≡ fits_source (source_view source.entry) (query_view query.now)
         (bookmark_place bookmark.now) }
 {
     is_same_ddoc(bookmark.ddoc.as_deref(), source.ddoc())
@@ -114,7 +114,7 @@ fn is_same_ddoc(a: Option<&str>, b: Option<&str>) -> bool
 impl<'a> Source<'a> {
     // Returns the design document of the index; `None` for the index of all documents.
     pub(crate) fn ddoc(self) -> Option<&'a str>
-        ensures { option_map (λ t. t.now) result ≡ ddoc_of (source_seen self.entry) }
+        ensures { option_map (λ t. t.now) result ≡ ddoc_of (source_view self.entry) }
     {
         match self {
             Source::AllDocs => None,
@@ -123,7 +123,7 @@ impl<'a> Source<'a> {
     }
 
     pub(crate) fn name(self) -> &'a str
-        ensures { result.now ≡ name_of (source_seen self.entry) }
+        ensures { result.now ≡ name_of (source_view self.entry) }
     {
         match self {
             Source::AllDocs => ALL_DOCS,
@@ -133,7 +133,7 @@ impl<'a> Source<'a> {
 
     // How many columns the index has.
     pub(crate) fn width(self) -> usize
-        ensures { result ≡ length (source_columns (source_seen self.entry)) }
+        ensures { result ≡ length (source_columns (source_view self.entry)) }
     {
         match self {
             Source::AllDocs => 1,
@@ -143,8 +143,8 @@ impl<'a> Source<'a> {
 
     // Returns the target of a search in this index, for each shard that has the index.
     pub(crate) fn target(self) -> Target<'a>
-        ensures { (ds : List IndexDefinition) → IsInCatalog ds (source_seen self.entry)
-            → target_columns result ds ≡ Some (source_columns (source_seen self.entry)) }
+        ensures { (ds : List IndexDefinition) → IsInCatalog ds (source_view self.entry)
+            → target_columns result ds ≡ Some (source_columns (source_view self.entry)) }
     {
         match self {
             Source::AllDocs => Target::AllDocs,
@@ -158,7 +158,7 @@ impl<'a> Source<'a> {
     // Makes the range of keys that a query with this selector has to read in this index. Errors: `NoMemory` if an allocation fails.
     pub(crate) fn range(self, alloc: Global, normal: &Normal) -> Result<KeyRange, NoMemory>
         ensures { IfOk result
-            (λ r. r ≡ range_of normal.now.atoms (source_columns (source_seen self.entry))) }
+            (λ r. r ≡ range_of normal.now.atoms (source_columns (source_view self.entry))) }
     {
         match self {
             Source::AllDocs => id_range(alloc, normal),
@@ -169,7 +169,7 @@ impl<'a> Source<'a> {
     // Whether the range of keys in this index decides the whole selector, so that no document has to be tested. Always false for the index
     // of all documents: its rows are the documents themselves.
     pub(crate) fn is_decided(self, normal: &Normal) -> bool
-        ensures { result ≡ true → IsDecidedBy (source_columns (source_seen self.entry)) normal.now }
+        ensures { result ≡ true → IsDecidedBy (source_columns (source_view self.entry)) normal.now }
     {
         match self {
             Source::AllDocs => false,
@@ -181,7 +181,7 @@ impl<'a> Source<'a> {
 
     // Renders the index as it is listed. Errors: `NoMemory` if an allocation fails.
     pub(crate) fn listed(self, alloc: Global) -> Result<Json, NoMemory>
-        ensures { IfOk result (λ v. view v ≡ listed_source (source_seen self.entry)) }
+        ensures { IfOk result (λ v. view v ≡ listed_source (source_view self.entry)) }
     {
         match self {
             Source::AllDocs => all_docs_listed(alloc),

@@ -9,7 +9,7 @@ ghost use Rattle.mg_index.specs.Definition.{Steps};
 ghost use Rattle.mg_scan.specs.Hit.{hit_text};
 ghost use Rattle.mg_query.specs.Page.{Candidate, page_value, shown_of};
 ghost use Rattle.mg_query.specs.Lent.{LendEach, Lends, shows_whole};
-ghost use Rattle.mg_query.specs.Seen.{query_seen};
+ghost use Rattle.mg_query.specs.View.{query_view};
 
 use crate::query::Query;
 use crate::shown::show;
@@ -30,7 +30,7 @@ pub(crate) fn text_with(
 ) -> Result<Vec<u8>, NoMemory>
     ensures { IfOk result (λ t. (columns : List Steps) (cs : List Candidate) → LendEach columns hits.now cs
         → t.items ≡ compact (page_value (record {
-          docs = map (shown_of (query_seen query.now)) cs;
+          docs = map (shown_of (query_view query.now)) cs;
           bookmark = bookmark.now;
         }))) }
 {
@@ -59,7 +59,7 @@ fn with_documents(
     hits: &[Hit<'_>],
 ) -> Result<Vec<u8>, NoMemory>
     ensures { IfOk result (λ b. (columns : List Steps) (cs : List Candidate) → LendEach columns hits.now cs
-        → b.items ≡ out.items ++ compact (list (items_of (map (shown_of (query_seen query.now)) cs)))) }
+        → b.items ≡ out.items ++ compact (list (items_of (map (shown_of (query_view query.now)) cs)))) }
 {
     out.push(b'[')?;
     for (place, hit) in hits.iter().enumerate() {
@@ -88,7 +88,7 @@ fn with_document(
     hit: &Hit<'_>,
 ) -> Result<Vec<u8>, NoMemory>
     ensures { IfOk result (λ b. (columns : List Steps) (c : Candidate) → Lends columns hit.now c
-        → b.items ≡ out.items ++ compact (shown_of (query_seen query.now) c)) }
+        → b.items ≡ out.items ++ compact (shown_of (query_view query.now) c)) }
 {
     if is_shown_whole(query) {
         with_kept(out, hit)
@@ -113,7 +113,7 @@ fn with_shown(
     hit: &Hit<'_>,
 ) -> Result<Vec<u8>, NoMemory>
     ensures { IfOk result (λ b. (columns : List Steps) (c : Candidate) → Lends columns hit.now c
-        → b.items ≡ out.items ++ compact (shown_of (query_seen query.now) c)) }
+        → b.items ≡ out.items ++ compact (shown_of (query_view query.now) c)) }
 {
     let doc = show(alloc, query, hit.form(), hit.document().tree())?;
     let text = write(alloc, &doc)?;
@@ -123,7 +123,7 @@ fn with_shown(
 
 // Whether the query shows documents as they are served.
 fn is_shown_whole(query: &Query<'_>) -> bool
-    ensures { result ≡ shows_whole (query_seen query.now) }
+    ensures { result ≡ shows_whole (query_view query.now) }
 {
     !query.conflicts && query.fields.is_empty()
 }

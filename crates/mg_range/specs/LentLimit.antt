@@ -7,8 +7,8 @@ use Rattle.mg_range.specs.Range.{Limit, limit_at, order_from}
 use Rattle.mg_range.specs.declared.lent_limit.LentLimit.{LentLimit}
 
 -- the limit that a `LentLimit` of the code stands for
-abbrev pub lent_limit_seen : LentLimit → Limit
-lent_limit_seen e = limit_at (view e.value.now) e.inclusive
+abbrev pub lent_limit_view : LentLimit → Limit
+lent_limit_view e = limit_at (view e.value.now) e.inclusive
 
 -- the tighter of two limits from below (`Asc`) or from above (`Desc`); of two limits with equal values, an exclusive one is the tighter
 abbrev pub tighter : Direction → Limit → Limit → Limit

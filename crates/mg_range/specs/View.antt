@@ -7,12 +7,12 @@ use Rattle.mg_range.specs.declared.span.Limit as limit
 use Rattle.mg_range.specs.declared.span.Span as span
 
 -- the limit that a `Limit` of the code stands for
-abbrev pub limit_seen : limit.Limit → Limit
-limit_seen l = limit_at (view l.value) l.inclusive
+abbrev pub limit_view : limit.Limit → Limit
+limit_view l = limit_at (view l.value) l.inclusive
 
 -- the span that a `Span` of the code stands for
-abbrev pub span_seen : span.Span → Span
-span_seen s = span_of (map view s.equal.items) (option_map limit_seen s.lower) (option_map limit_seen s.upper)
+abbrev pub span_view : span.Span → Span
+span_view s = span_of (map view s.equal.items) (option_map limit_view s.lower) (option_map limit_view s.upper)
 
 -- for private clauses: the range with these fixed values in front of its own; an empty range stays empty
 abbrev pub with_equals : List Value → Range → Range

@@ -3,7 +3,7 @@ ghost use Rattle.std.specs.Prelude.{◌≡◌, IfOk, None, Some, map, option_map
 ghost use Rattle.mg_value.specs.Value.{list};
 ghost use Rattle.mg_value.specs.View.{view, items_view, items_of};
 ghost use Rattle.mg_range.specs.Explained.{limit_value, range_value};
-ghost use Rattle.mg_range.specs.View.{limit_seen, span_seen};
+ghost use Rattle.mg_range.specs.View.{limit_view, span_view};
 
 use crate::span::{Limit, Span};
 use mg_value::{Json, NoMemory, copy_items};
@@ -20,7 +20,7 @@ pub(crate) fn empty_json(alloc: Global) -> Result<Json, NoMemory>
 
 // Makes the JSON of a span: `{"equal":[..],"lower":..,"upper":..}`. Errors: `NoMemory` if an allocation fails.
 pub(crate) fn span_json(alloc: Global, span: &Span) -> Result<Json, NoMemory>
-    ensures { IfOk result (λ v. view v ≡ range_value (Some (span_seen span.now))) }
+    ensures { IfOk result (λ v. view v ≡ range_value (Some (span_view span.now))) }
 {
     let equal = Json::List(copy_items(alloc, &span.equal)?);
     let lower = limit_json(alloc, span.lower.as_ref())?;
@@ -34,7 +34,7 @@ pub(crate) fn span_json(alloc: Global, span: &Span) -> Result<Json, NoMemory>
 
 fn limit_json(alloc: Global, limit: Option<&Limit>) -> Result<Json, NoMemory>
     ensures { IfOk result
-        (λ v. view v ≡ limit_value (option_map (λ l. limit_seen l.now) limit.entry)) }
+        (λ v. view v ≡ limit_value (option_map (λ l. limit_view l.now) limit.entry)) }
 {
     let Some(limit) = limit else {
         return Ok(Json::Null);

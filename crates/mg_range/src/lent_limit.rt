@@ -5,7 +5,7 @@ ghost use Rattle.mg_value.specs.View.{view};
 ghost use Rattle.mg_normal.specs.View.{atom_view, atoms_view};
 ghost use Rattle.mg_index.specs.Bound.{Bound as BoundValue, bound_on, bounds_on, meets_all};
 ghost use Rattle.mg_range.specs.Range.{inclusive_from, limit_by, limit_of, tightest};
-ghost use Rattle.mg_range.specs.LentLimit.{lent_limit_seen, tightened, tighter};
+ghost use Rattle.mg_range.specs.LentLimit.{lent_limit_view, tightened, tighter};
 
 use mg_collate::{Direction, compare};
 use mg_index::{Bound, Comparison};
@@ -23,7 +23,7 @@ pub(crate) struct LentLimit<'a> {
 
 // Finds the limit that the bound gives from below (`Asc`) or from above (`Desc`); `None` if the bound gives none.
 fn find_limit(direction: Direction, bound: Bound<'_>) -> Option<LentLimit<'_>>
-    ensures { option_map lent_limit_seen result
+    ensures { option_map lent_limit_view result
         ≡ limit_by direction bound.entry.comparison (view bound.entry.value.now) }
 {
     let inclusive = inclusive_from(direction, bound.comparison)?;
@@ -59,8 +59,8 @@ fn inclusive_from(direction: Direction, comparison: Comparison) -> Option<bool>
 // Returns the tighter of two limits from below (`Asc`) or from above (`Desc`). Of two limits with equal values, an
 // exclusive one is the tighter.
 fn tighter<'a>(direction: Direction, a: LentLimit<'a>, b: LentLimit<'a>) -> LentLimit<'a>
-    ensures { lent_limit_seen result
-        ≡ tighter direction (lent_limit_seen a.entry) (lent_limit_seen b.entry) }
+    ensures { lent_limit_view result
+        ≡ tighter direction (lent_limit_view a.entry) (lent_limit_view b.entry) }
 {
     match direction.apply(compare(a.value, b.value)) {
         Ordering::Less => b,
@@ -77,9 +77,9 @@ fn tighten<'a>(
     atom: &'a Atom,
 ) -> Option<LentLimit<'a>>
     ensures { (rest : List BoundValue)
-        → fold (tightened direction) (option_map lent_limit_seen result)
+        → fold (tightened direction) (option_map lent_limit_view result)
         (filter_map (limit_of direction) rest)
-        ≡ fold (tightened direction) (option_map lent_limit_seen best.entry)
+        ≡ fold (tightened direction) (option_map lent_limit_view best.entry)
         (filter_map (limit_of direction) (cons_option (bound_on column.now (atom_view atom.now)) rest)) }
 {
     let Some(bound) = Bound::on(column, atom) else {
@@ -101,7 +101,7 @@ pub(crate) fn tightest<'a>(
     column: &Path,
     atoms: &'a [Atom],
 ) -> Option<LentLimit<'a>>
-    ensures { option_map lent_limit_seen result
+    ensures { option_map lent_limit_view result
         ≡ tightest direction (bounds_on (atoms_view atoms.now) column.now) }
 {
     let mut best = None;

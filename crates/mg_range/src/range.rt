@@ -33,11 +33,11 @@ impl Model for KeyRange {
     ghost coded = { range_code };
 
     ghost use Rattle.mg_range.specs.SpanEnds.{IsUncrossed};
-    ghost use Rattle.mg_range.specs.View.{span_seen};
+    ghost use Rattle.mg_range.specs.View.{span_view};
 
-    ghost view = { λ r. option_map span_seen r.span };
+    ghost view = { λ r. option_map span_view r.span };
 
-    ghost invariant = { λ r. IsUncrossed (option_map span_seen r.span) };
+    ghost invariant = { λ r. IsUncrossed (option_map span_view r.span) };
 }
 
 impl KeyRange {

@@ -8,7 +8,7 @@ ghost use Rattle.mg_rows.specs.Laws.{joined_items};
 ghost use Rattle.mg_range.specs.SpanEnds.{end_values, high_edge, low_edge};
 ghost use Rattle.mg_range.specs.InRows.{ends_at, ends_of};
 ghost use Rattle.mg_range.specs.RangeSide.{is_early, is_late, is_side_before, is_side_past, side_of};
-ghost use Rattle.mg_range.specs.View.{limit_seen, span_seen};
+ghost use Rattle.mg_range.specs.View.{limit_view, span_view};
 
 use crate::range::KeyRange;
 use crate::span::{Limit, Span};
@@ -162,7 +162,7 @@ fn is_past(ends: &SpanEnds, row: &RowBytes) -> bool
 // Makes the ends of a span, if there is one. Errors: `NoMemory` if an allocation fails.
 fn ends_if(alloc: Global, span: &Option<Span>) -> Result<Option<SpanEnds>, NoMemory>
     ensures { IfOk result (λ ends. option_map ends_at ends
-        ≡ option_map (λ s. ends_of (span_seen s)) span.now) }
+        ≡ option_map (λ s. ends_of (span_view s)) span.now) }
 {
     match span {
         Some(span) => Ok(Some(ends_of(alloc, span)?)),
@@ -171,7 +171,7 @@ fn ends_if(alloc: Global, span: &Option<Span>) -> Result<Option<SpanEnds>, NoMem
 }
 
 fn ends_of(alloc: Global, span: &Span) -> Result<SpanEnds, NoMemory>
-    ensures { IfOk result (λ ends. ends_at ends ≡ ends_of (span_seen span.now)) }
+    ensures { IfOk result (λ ends. ends_at ends ≡ ends_of (span_view span.now)) }
 {
     let lower = span.lower.as_ref();
     let upper = span.upper.as_ref();
@@ -189,7 +189,7 @@ fn end_at(
     edge: Edge,
 ) -> Result<RowBound, NoMemory>
     ensures { IfOk result (λ bound. bound
-        ≡ (edge, end_values (map json_view equal.now) (option_map (λ l. limit_seen l.now) limit.entry))) }
+        ≡ (edge, end_values (map json_view equal.now) (option_map (λ l. limit_view l.now) limit.entry))) }
 {
     let mut key = KeyBytes::new(alloc);
     push_all(&mut key, equal)?;
@@ -211,7 +211,7 @@ fn push_all(key: &mut KeyBytes, values: &[Json]) -> Result<(), NoMemory>
 // is empty.
 fn push_limit(key: &mut KeyBytes, limit: Option<&Limit>) -> Result<(), NoMemory>
     ensures { OnOk result (key.new
-        ≡ joined_items key.old (end_values [] (option_map (λ l. limit_seen l.now) limit.entry))) }
+        ≡ joined_items key.old (end_values [] (option_map (λ l. limit_view l.now) limit.entry))) }
 {
     match limit {
         Some(limit) => {
@@ -225,7 +225,7 @@ fn push_limit(key: &mut KeyBytes, limit: Option<&Limit>) -> Result<(), NoMemory>
 // Returns the edge of the low end: before the rows with its values if the limit includes them or there is no limit,
 // otherwise after them.
 fn low_edge(limit: Option<&Limit>) -> Edge
-    ensures { result ≡ low_edge (option_map (λ l. limit_seen l.now) limit.entry) }
+    ensures { result ≡ low_edge (option_map (λ l. limit_view l.now) limit.entry) }
 {
     match limit {
         Some(limit) => if limit.inclusive {
@@ -240,7 +240,7 @@ fn low_edge(limit: Option<&Limit>) -> Edge
 // Returns the edge of the high end: after the rows with its values if the limit includes them or there is no limit,
 // otherwise before them.
 fn high_edge(limit: Option<&Limit>) -> Edge
-    ensures { result ≡ high_edge (option_map (λ l. limit_seen l.now) limit.entry) }
+    ensures { result ≡ high_edge (option_map (λ l. limit_view l.now) limit.entry) }
 {
     match limit {
         Some(limit) => if limit.inclusive {

@@ -3,10 +3,10 @@ ghost use Rattle.std.specs.Prelude.{◌≡◌, List, [], Some, IfOk, map, not, o
 ghost use Rattle.mg_value.specs.View.{view};
 ghost use Rattle.mg_normal.specs.View.{atoms_view};
 ghost use Rattle.mg_collate.specs.declared.direction.Direction.TheVariants.{Asc, Desc};
-ghost use Rattle.mg_range.specs.LentLimit.{lent_limit_seen};
+ghost use Rattle.mg_range.specs.LentLimit.{lent_limit_view};
 ghost use Rattle.mg_range.specs.Range.{range_of, between, are_crossed, is_crossed};
 ghost use Rattle.mg_range.specs.RangeSide.{admits, side_from, is_before, is_past, is_within};
-ghost use Rattle.mg_range.specs.View.{limit_seen, span_seen, with_equals};
+ghost use Rattle.mg_range.specs.View.{limit_view, span_view, with_equals};
 
 use crate::lent_limit::{LentLimit, meets_all, tightest};
 use crate::side::RangeSide;
@@ -40,7 +40,7 @@ pub(crate) fn span_of(
     columns: &[Path],
     atoms: &[Atom],
 ) -> Result<Option<Span>, NoMemory>
-    ensures { IfOk result (λ s. option_map span_seen s ≡ range_of (atoms_view atoms.now) columns.now) }
+    ensures { IfOk result (λ s. option_map span_view s ≡ range_of (atoms_view atoms.now) columns.now) }
 {
     let mut equal = Vec::new(alloc);
     for column in columns {
@@ -68,8 +68,8 @@ fn span_between(
     lower: Option<LentLimit<'_>>,
     upper: Option<LentLimit<'_>>,
 ) -> Result<Option<Span>, NoMemory>
-    ensures { IfOk result (λ s. option_map span_seen s ≡ with_equals (map view equal.items)
-        (between (option_map lent_limit_seen lower.entry) (option_map lent_limit_seen upper.entry))) }
+    ensures { IfOk result (λ s. option_map span_view s ≡ with_equals (map view equal.items)
+        (between (option_map lent_limit_view lower.entry) (option_map lent_limit_view upper.entry))) }
 {
     if is_crossed(lower, upper) {
         return Ok(None);
@@ -84,8 +84,8 @@ fn span_between(
 // Whether both limits are there and cross: the lower is above the upper, or equal to it while one of them is
 // exclusive.
 fn is_crossed(lower: Option<LentLimit<'_>>, upper: Option<LentLimit<'_>>) -> bool
-    ensures { result ≡ is_crossed (option_map lent_limit_seen lower.entry)
-        (option_map lent_limit_seen upper.entry) }
+    ensures { result ≡ is_crossed (option_map lent_limit_view lower.entry)
+        (option_map lent_limit_view upper.entry) }
 {
     match (lower, upper) {
         (Some(lower), Some(upper)) => are_crossed(lower, upper),
@@ -94,7 +94,7 @@ fn is_crossed(lower: Option<LentLimit<'_>>, upper: Option<LentLimit<'_>>) -> boo
 }
 
 fn are_crossed(lower: LentLimit<'_>, upper: LentLimit<'_>) -> bool
-    ensures { result ≡ are_crossed (lent_limit_seen lower.entry) (lent_limit_seen upper.entry) }
+    ensures { result ≡ are_crossed (lent_limit_view lower.entry) (lent_limit_view upper.entry) }
 {
     match compare(lower.value, upper.value) {
         Ordering::Less => false,
@@ -105,7 +105,7 @@ fn are_crossed(lower: LentLimit<'_>, upper: LentLimit<'_>) -> bool
 
 // Copies the value of a limit, if there is one, into a limit that owns it. Errors: `NoMemory` if an allocation fails.
 fn keep_limit(alloc: Global, limit: Option<LentLimit<'_>>) -> Result<Option<Limit>, NoMemory>
-    ensures { IfOk result (λ l. option_map limit_seen l ≡ option_map lent_limit_seen limit.entry) }
+    ensures { IfOk result (λ l. option_map limit_view l ≡ option_map lent_limit_view limit.entry) }
 {
     match limit {
         None => Ok(None),
@@ -119,8 +119,8 @@ fn keep_limit(alloc: Global, limit: Option<LentLimit<'_>>) -> Result<Option<Limi
 // Whether the key is before, within or past the span. A key whose values all equal their fixed values, and that has
 // fewer values than there are fixed ones, is before the span.
 pub(crate) fn side_in(span: &Span, key: &[Json]) -> RangeSide
-    ensures { result ≡ side_from (map view span.now.equal.items) (option_map limit_seen span.now.lower)
-        (option_map limit_seen span.now.upper) (map view key.now) }
+    ensures { result ≡ side_from (map view span.now.equal.items) (option_map limit_view span.now.lower)
+        (option_map limit_view span.now.upper) (map view key.now) }
 {
     for (place, fixed) in span.equal.iter().enumerate() {
         let Some(value) = key.get(place) else {
@@ -142,7 +142,7 @@ pub(crate) fn side_at_limits(
     upper: &Option<Limit>,
     rest: &[Json],
 ) -> RangeSide
-    ensures { result ≡ side_from [] (option_map limit_seen lower.now) (option_map limit_seen upper.now)
+    ensures { result ≡ side_from [] (option_map limit_view lower.now) (option_map limit_view upper.now)
         (map view rest.now) }
 {
     if is_before(lower, rest) {
@@ -155,7 +155,7 @@ pub(crate) fn side_at_limits(
 }
 
 fn is_before(lower: &Option<Limit>, rest: &[Json]) -> bool
-    ensures { result ≡ is_before [] (option_map limit_seen lower.now) (map view rest.now) }
+    ensures { result ≡ is_before [] (option_map limit_view lower.now) (map view rest.now) }
 {
     let Some(lower) = lower else {
         return false;
@@ -167,7 +167,7 @@ fn is_before(lower: &Option<Limit>, rest: &[Json]) -> bool
 }
 
 fn is_past(upper: &Option<Limit>, rest: &[Json]) -> bool
-    ensures { result ≡ is_past [] (option_map limit_seen upper.now) (map view rest.now) }
+    ensures { result ≡ is_past [] (option_map limit_view upper.now) (map view rest.now) }
 {
     let Some(upper) = upper else {
         return false;
@@ -180,7 +180,7 @@ fn is_past(upper: &Option<Limit>, rest: &[Json]) -> bool
 
 // Whether the value is within the limit, a lower one (`Asc`) or an upper one (`Desc`).
 fn is_within(direction: Direction, limit: &Limit, value: &Json) -> bool
-    ensures { result ≡ is_within direction (limit_seen limit.now) (view value.now) }
+    ensures { result ≡ is_within direction (limit_view limit.now) (view value.now) }
 {
     admits(limit, direction.apply(compare(value, &limit.value)))
 }

@@ -3,7 +3,7 @@ ghost use Rattle.std.specs.Prelude.{◌≡◌, [], ◌∷◌, map, option_map};
 ghost use Rattle.mg_value.specs.Value.{text as string};
 ghost use Rattle.mg_value.specs.View.{view};
 ghost use Rattle.mg_range.specs.RangeSide.{side_from, is_before, is_past, is_within};
-ghost use Rattle.mg_range.specs.View.{limit_seen};
+ghost use Rattle.mg_range.specs.View.{limit_view};
 
 use crate::side::RangeSide;
 use crate::span::{Limit, Span, admits, side_at_limits};
@@ -13,8 +13,8 @@ use std::cmp::Ordering;
 
 // Whether the key whose only value is this text is before, within or past the span.
 pub(crate) fn side_in(span: &Span, text: &str) -> RangeSide
-    ensures { result ≡ side_from (map view span.now.equal.items) (option_map limit_seen span.now.lower)
-        (option_map limit_seen span.now.upper) (string text.now ∷ []) }
+    ensures { result ≡ side_from (map view span.now.equal.items) (option_map limit_view span.now.lower)
+        (option_map limit_view span.now.upper) (string text.now ∷ []) }
 {
     let Some((fixed, others)) = span.equal.split_first() else {
         return side_of_text(&span.lower, &span.upper, text);
@@ -29,8 +29,8 @@ pub(crate) fn side_in(span: &Span, text: &str) -> RangeSide
 // Whether a key that ends after the first fixed value is before, within or past the span, where `equal` has the
 // other fixed values.
 fn side_of_ended(equal: &[Json], lower: &Option<Limit>, upper: &Option<Limit>) -> RangeSide
-    ensures { result ≡ side_from (map view equal.now) (option_map limit_seen lower.now)
-        (option_map limit_seen upper.now) [] }
+    ensures { result ≡ side_from (map view equal.now) (option_map limit_view lower.now)
+        (option_map limit_view upper.now) [] }
 {
     match equal.split_first() {
         Some(_) => RangeSide::Before,
@@ -40,7 +40,7 @@ fn side_of_ended(equal: &[Json], lower: &Option<Limit>, upper: &Option<Limit>) -
 
 // Whether the key whose only value is this text is before, within or past the limits.
 fn side_of_text(lower: &Option<Limit>, upper: &Option<Limit>, text: &str) -> RangeSide
-    ensures { result ≡ side_from [] (option_map limit_seen lower.now) (option_map limit_seen upper.now)
+    ensures { result ≡ side_from [] (option_map limit_view lower.now) (option_map limit_view upper.now)
         (string text.now ∷ []) }
 {
     if is_before(lower, text) {
@@ -53,7 +53,7 @@ fn side_of_text(lower: &Option<Limit>, upper: &Option<Limit>, text: &str) -> Ran
 }
 
 fn is_before(lower: &Option<Limit>, text: &str) -> bool
-    ensures { result ≡ is_before [] (option_map limit_seen lower.now) (string text.now ∷ []) }
+    ensures { result ≡ is_before [] (option_map limit_view lower.now) (string text.now ∷ []) }
 {
     match lower {
         Some(lower) => !is_within(Direction::Asc, lower, text),
@@ -62,7 +62,7 @@ fn is_before(lower: &Option<Limit>, text: &str) -> bool
 }
 
 fn is_past(upper: &Option<Limit>, text: &str) -> bool
-    ensures { result ≡ is_past [] (option_map limit_seen upper.now) (string text.now ∷ []) }
+    ensures { result ≡ is_past [] (option_map limit_view upper.now) (string text.now ∷ []) }
 {
     match upper {
         Some(upper) => !is_within(Direction::Desc, upper, text),
@@ -72,7 +72,7 @@ fn is_past(upper: &Option<Limit>, text: &str) -> bool
 
 // Whether the text is within the limit, a lower one (`Asc`) or an upper one (`Desc`).
 fn is_within(direction: Direction, limit: &Limit, text: &str) -> bool
-    ensures { result ≡ is_within direction (limit_seen limit.now) (string text.now) }
+    ensures { result ≡ is_within direction (limit_view limit.now) (string text.now) }
 {
     admits(limit, direction.apply(compare_text(text, &limit.value)))
 }

@@ -33,7 +33,7 @@ use Rattle.mg_scan.proofs.Entries.{all_forms}
 use Rattle.mg_scan.proofs.Leads.{lead_rests}
 use Rattle.mg_scan.proofs.Sources.{InOneOf, all_given, found_in_order, found_merged}
 use Rattle.mg_scan.proofs.Walking.{LateLast, late_rows}
-use Rattle.mg_shard.specs.Shard.{ShardView, shards_seen}
+use Rattle.mg_shard.specs.Shard.{ShardView, shards_view}
 
 -- ---- lists without their first items
 
@@ -104,7 +104,7 @@ led_left_after at s shard n unread.Nothing m b e lead lent = begun_led at s shar
 
 -- ---- one shard
 
-pub one_seen : (shards : List (Arc ShardView Global)) (a : Arc ShardView Global) (shard : ShardView) → length shards ≡ 1 → a ≡ get_or shards 0 a → shard ≡ arc_value a → shards_seen shards ≡ shard ∷ []
+pub one_seen : (shards : List (Arc ShardView Global)) (a : Arc ShardView Global) (shard : ShardView) → length shards ≡ 1 → a ≡ get_or shards 0 a → shard ≡ arc_value a → shards_view shards ≡ shard ∷ []
 one_seen [] a shard one is e = absurd (omega (arith, one))
 one_seen (x ∷ []) a shard one is e = ap (λ y. arc_value y ∷ []) (sym is) ∙ ap (λ y. y ∷ []) (sym e)
 one_seen (x ∷ y ∷ shards) a shard one is e = absurd (omega (arith, one))

@@ -7,7 +7,7 @@ use Rattle.mg_collate.specs.Row.{RowValue}
 use Rattle.mg_index.specs.Definition.{IndexDefinition}
 use Rattle.mg_scan.specs.Built.{with_index}
 use Rattle.mg_scan.specs.Building.{AreRowsAt, AreRowsFrom, HasRowsAt}
-use Rattle.mg_shard.specs.Shard.{shards_seen, ShardView}
+use Rattle.mg_shard.specs.Shard.{shards_view, ShardView}
 use Rattle.mg_scan.proofs.Maps.{get-map, get-set, some_is}
 use Rattle.mg_shard.specs.Documents.{docs_of}
 use Rattle.mg_shard.specs.Rows.{rows_of}
@@ -17,11 +17,11 @@ abbrev Extracted : Type 0
 Extracted = Result (List RowValue) NoMemory
 
 -- the shard at a place
-pub shard_at : (shards : List (Arc ShardView Global)) (i : ℕ) (a : Arc ShardView Global) (s : ShardView) → i < length shards → a ≡ get_or shards i a → s ≡ arc_value a → slice_get (shards_seen shards) i ≡ Some s
+pub shard_at : (shards : List (Arc ShardView Global)) (i : ℕ) (a : Arc ShardView Global) (s : ShardView) → i < length shards → a ≡ get_or shards i a → s ≡ arc_value a → slice_get (shards_view shards) i ≡ Some s
 shard_at shards i a s less is same = get-map arc_value shards i a less is ∙ ap Some (sym same)
 
-pub rows_there : (d : IndexDefinition) (shards : List (Arc ShardView Global)) (i : ℕ) (s : ShardView) (v : List RowValue) → slice_get (shards_seen shards) i ≡ Some s → v ≡ rows_of d.columns (docs_of s.documents)
-    → (t : ShardView) → slice_get (shards_seen shards) i ≡ Some t → v ≡ rows_of d.columns (docs_of t.documents)
+pub rows_there : (d : IndexDefinition) (shards : List (Arc ShardView Global)) (i : ℕ) (s : ShardView) (v : List RowValue) → slice_get (shards_view shards) i ≡ Some s → v ≡ rows_of d.columns (docs_of s.documents)
+    → (t : ShardView) → slice_get (shards_view shards) i ≡ Some t → v ≡ rows_of d.columns (docs_of t.documents)
 rows_there d shards i s v at is = λ t e. is ∙ ap (λ (x : ShardView). rows_of d.columns (docs_of x.documents)) (some_is s t (sym at ∙ e))
 
 pub rows-set : (d : IndexDefinition) (shards : List ShardView) (rs : List Extracted) (at : ℕ) (r : Extracted) → AreRowsAt d shards rs → HasRowsAt d shards at r → AreRowsAt d shards (set rs at r)
@@ -73,5 +73,5 @@ map_at d [] i s e = absurd cc
 map_at d (x ∷ shards) zero s e = ap (λ y. Some (with_index d y)) (some_is x s e)
 map_at d (x ∷ shards) (suc i) s e = map_at d shards i s e
 
-pub built_at : (d : IndexDefinition) (shards : List (Arc ShardView Global)) (i : ℕ) (s t : ShardView) → slice_get (shards_seen shards) i ≡ Some s → t ≡ with_index d s → slice_get (map (with_index d) (shards_seen shards)) i ≡ Some t
-built_at d shards i s t at is = map_at d (shards_seen shards) i s at ∙ ap Some (sym is)
+pub built_at : (d : IndexDefinition) (shards : List (Arc ShardView Global)) (i : ℕ) (s t : ShardView) → slice_get (shards_view shards) i ≡ Some s → t ≡ with_index d s → slice_get (map (with_index d) (shards_view shards)) i ≡ Some t
+built_at d shards i s t at is = map_at d (shards_view shards) i s at ∙ ap Some (sym is)

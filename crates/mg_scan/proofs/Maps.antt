@@ -5,7 +5,7 @@ use Rattle.std.specs.List.{AllZip}
 use Rattle.std.specs.declared.sync.Arc.{Arc}
 use Rattle.std.specs.declared.vec.Vec.{Vec}
 use Rattle.std.specs.declared.alloc.Global.{Global}
-use Rattle.mg_shard.specs.Shard.{shards_seen, ShardView}
+use Rattle.mg_shard.specs.Shard.{shards_view, ShardView}
 use Rattle.mg_scan.specs.Hit.{AreHitsOf, hit_rows}
 use Rattle.mg_scan.specs.Search.{found_by}
 use Rattle.mg_scan.specs.Worked.{AllSlots, AreHitsFoundAt, AreHitsFound}
@@ -22,7 +22,7 @@ some_is x y e = cc
 
 -- the hits that are found in the shard at place i are those of the i-th shard
 pub answers : (search : Search) (shards : List (Arc ShardView Global)) (i : ℕ) (a : Arc ShardView Global) (s : ShardView) (hits : List Hit) → i < length shards → a ≡ get_or shards i a → s ≡ arc_value a
-    → AreHitsFound search s hits → AreHitsFoundAt search (shards_seen shards) i hits
+    → AreHitsFound search s hits → AreHitsFoundAt search (shards_view shards) i hits
 answers search shards i a s hits less is same given =
     record { gives = λ t e. subst (λ (x : ShardView). AreHitsFound search x hits) (same ∙ some_is (arc_value a) t (sym (get-map arc_value shards i a less is) ∙ e)) given }
 
@@ -59,9 +59,9 @@ slots-snoc search shards slots h i w e = h i w (snoc_none slots i w e)
 
 -- ---- lists with one item per shard
 
-pub length-seen : (shards : List (Arc ShardView Global)) → length (shards_seen shards) ≡ length shards
-length-seen [] = refl
-length-seen (s ∷ shards) = ap (λ n. suc n) (length-seen shards)
+pub length-view : (shards : List (Arc ShardView Global)) → length (shards_view shards) ≡ length shards
+length-view [] = refl
+length-view (s ∷ shards) = ap (λ n. suc n) (length-view shards)
 
 pub zip_more : {A B : Type 0} (R : A → B → Type 0) (xs : List A) (ys : List B) (i : ℕ) (y : B) → i < length xs → AllZip R (take i xs) ys → ((x : A) → slice_get xs i ≡ Some x → R x y)
     → AllZip R (take (suc i) xs) (ys ++ y ∷ [])
@@ -73,10 +73,10 @@ zip_more R (x ∷ xs) (z ∷ ys) (suc i) y less h here = (h.0, zip_more R xs ys 
 
 -- the lists so far, and the list of one more shard
 pub lists-more : (search : Search) (shards : List (Arc ShardView Global)) (all : List (Vec Hit Global)) (i : ℕ) (v : Vec Hit Global) → i < length shards
-    → AllZip (λ s w. AreHitsFound search s w.items) (take i (shards_seen shards)) all → AreHitsFoundAt search (shards_seen shards) i v.items
-    → AllZip (λ s w. AreHitsFound search s w.items) (take (i + 1) (shards_seen shards)) (all ++ v ∷ [])
+    → AllZip (λ s w. AreHitsFound search s w.items) (take i (shards_view shards)) all → AreHitsFoundAt search (shards_view shards) i v.items
+    → AllZip (λ s w. AreHitsFound search s w.items) (take (i + 1) (shards_view shards)) (all ++ v ∷ [])
 lists-more search shards all i v less so here =
-    rw add-one (zip_more (λ s (w : Vec Hit Global). AreHitsFound search s w.items) (shards_seen shards) all i v (omega (arith, less, length-seen shards)) so here.gives)
+    rw add-one (zip_more (λ s (w : Vec Hit Global). AreHitsFound search s w.items) (shards_view shards) all i v (omega (arith, less, length-view shards)) so here.gives)
 
 take_all : {A : Type 0} (xs : List A) (n : ℕ) → n ≡ length xs → take n xs ≡ xs
 take_all [] zero e = refl
@@ -86,8 +86,8 @@ take_all (x ∷ xs) (suc n) e = ap (λ ys. x ∷ ys) (take_all xs n (omega (arit
 
 -- the lists of all shards
 pub lists-all : (search : Search) (shards : List (Arc ShardView Global)) (all : List (Vec Hit Global)) (i : ℕ) → i ≡ length shards
-    → AllZip (λ s w. AreHitsFound search s w.items) (take i (shards_seen shards)) all → AllZip (λ s w. AreHitsFound search s w.items) (shards_seen shards) all
-lists-all search shards all i e h = subst (λ xs. AllZip (λ s (w : Vec Hit Global). AreHitsFound search s w.items) xs all) (take_all (shards_seen shards) i (e ∙ sym (length-seen shards))) h
+    → AllZip (λ s w. AreHitsFound search s w.items) (take i (shards_view shards)) all → AllZip (λ s w. AreHitsFound search s w.items) (shards_view shards) all
+lists-all search shards all i e h = subst (λ xs. AllZip (λ s (w : Vec Hit Global). AreHitsFound search s w.items) xs all) (take_all (shards_view shards) i (e ∙ sym (length-view shards))) h
 
 pub zip_rows : (search : Search) (shards : List ShardView) (all : List (Vec Hit Global)) → AllZip (λ s w. AreHitsFound search s w.items) shards all → map (λ w. hit_rows w.items) all ≡ map (found_by search) shards
 zip_rows search [] [] h = refl

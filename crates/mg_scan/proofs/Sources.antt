@@ -27,14 +27,14 @@ use Rattle.mg_scan.specs.declared.hit.Hit.{Hit}
 use Rattle.mg_scan.specs.declared.search.Search.{Search}
 use Rattle.mg_scan.specs.declared.source.HitSource.{HitSource}
 use Rattle.mg_scan.proofs.Entries.{Entry, all_forms, all_rows, own_rows, rows-beyond}
-use Rattle.mg_scan.proofs.Maps.{get-map, length-seen, some_is, zip_more}
+use Rattle.mg_scan.proofs.Maps.{get-map, length-view, some_is, zip_more}
 use Rattle.mg_scan.proofs.Steps.{holds_of, if_none, if_some, row_lent}
 use Rattle.mg_scan.proofs.Walking.{all_found_rows, named_id}
 use Rattle.mg_shard.proofs.Rows.{rises_where}
 use Rattle.mg_shard.specs.Documents.{KeptDocuments, docs_of, form_at, form_of, id_bytes, kept_entry, kept_of}
 use Rattle.mg_shard.specs.Own.{HasOwnId, id_columns}
 use Rattle.mg_shard.specs.Rows.{row_key, row_of, rows_of}
-use Rattle.mg_shard.specs.Shard.{ShardView, shards_seen}
+use Rattle.mg_shard.specs.Shard.{ShardView, shards_view}
 use Rattle.mg_shard.specs.Walk.{beyond}
 use Rattle.mg_shard.specs.declared.document.Document.{Document}
 use Rattle.mg_value.specs.Value.{Items, Value}
@@ -168,9 +168,9 @@ module _ {X : Type 0} (s : Search) (Is : ShardView → X → Type 0) (rows : X �
 module _ {X : Type 0} (Is : ShardView → X → Type 0) where
   -- the sources so far, and the source of one more shard
   pub sources_more : (shards : List (Arc ShardView Global)) (sources : List X) (i : ℕ) (a : Arc ShardView Global) (shard : ShardView) (x : X) → i < length shards → a ≡ get_or shards i a → shard ≡ arc_value a
-      → AllZip Is (take i (shards_seen shards)) sources → Is shard x → AllZip Is (take (i + 1) (shards_seen shards)) (sources ++ x ∷ [])
+      → AllZip Is (take i (shards_view shards)) sources → Is shard x → AllZip Is (take (i + 1) (shards_view shards)) (sources ++ x ∷ [])
   sources_more shards sources i a shard x less is same so here =
-      rw add-one (zip_more Is (shards_seen shards) sources i x (omega (arith, less, length-seen shards)) so
+      rw add-one (zip_more Is (shards_view shards) sources i x (omega (arith, less, length-view shards)) so
       (λ t e. subst (λ (y : ShardView). Is y x) (same ∙ some_is (arc_value a) t (sym (get-map arc_value shards i a less is) ∙ e)) here))
 
   -- the k-th source is that of the k-th shard

@@ -4,7 +4,7 @@ ghost use Rattle.std.specs.Arc.{arc_value};
 ghost use Rattle.mg_scan.specs.Built.{with_index};
 ghost use Rattle.mg_scan.specs.Building.{AreRowsAt, AreRowsFrom, HasRowsAt};
 ghost use Rattle.mg_index.specs.Definition.{IndexDefinition};
-ghost use Rattle.mg_shard.specs.Shard.{ShardView, shards_seen};
+ghost use Rattle.mg_shard.specs.Shard.{ShardView, shards_view};
 ghost use Rattle.std.specs.Thread.{IsSync};
 
 use crate::gate::{Gate, Place};
@@ -31,7 +31,7 @@ fn extract_at<R: Threads + Sync, G: Gate>(
     gate: &G,
 ) -> Result<Pages<RowBytes>, NoMemory>
     requires { i < length shards.now }
-    ensures { HasRowsAt definition.now (shards_seen shards.now) i result }
+    ensures { HasRowsAt definition.now (shards_view shards.now) i result }
 {
     gate.at(Place::ShardBegun(i));
     let shard: &Shard = &shards[i];
@@ -50,7 +50,7 @@ fn extract_in_turn<R: Threads + Sync, G: Gate>(
     workers: usize,
     gate: &G,
 ) -> Result<Vec<Result<Pages<RowBytes>, NoMemory>>, NoMemory>
-    ensures rows { IfOk result (λ v. AreRowsAt definition.now (shards_seen shards.now) v.items) }
+    ensures rows { IfOk result (λ v. AreRowsAt definition.now (shards_view shards.now) v.items) }
     ensures len { IfOk result (λ v. vec_len v ≡ length shards.now) }
 {
     let mut all = Vec::new(alloc);
@@ -76,7 +76,7 @@ fn extract_at_once<R: Threads + Sync, G: Gate + Sync>(
     gate: &G,
 ) -> Result<Vec<Result<Pages<RowBytes>, NoMemory>>, AllocError>
     requires { from + count ≤ length shards.now }
-    ensures rows { IfOk result (λ v. AreRowsFrom definition.now (shards_seen shards.now) from v.items) }
+    ensures rows { IfOk result (λ v. AreRowsFrom definition.now (shards_view shards.now) from v.items) }
     ensures len { IfOk result (λ v. vec_len v ≡ count) }
 {
     let rows = map_from_one_thread(
@@ -85,7 +85,7 @@ fn extract_at_once<R: Threads + Sync, G: Gate + Sync>(
         count,
         &|k: usize| -> Result<Pages<RowBytes>, NoMemory>
             requires { IsSync R.row × (from + k < length shards.now) × (from + k < 2 ^ 64) }
-            ensures { HasRowsAt definition.entry.now (shards_seen shards.entry.now) (from + k) result }
+            ensures { HasRowsAt definition.entry.now (shards_view shards.entry.now) (from + k) result }
         { extract_at(rt, alloc, shards, definition, from + k, workers, gate) },
     )?;
     Ok(rows)
@@ -103,7 +103,7 @@ fn extract_by_threads<R: Threads + Sync, G: Gate + Sync>(
     gate: &G,
 ) -> Result<Vec<Result<Pages<RowBytes>, NoMemory>>, NoMemory>
     requires { 0 < workers }
-    ensures rows { IfOk result (λ v. AreRowsAt definition.now (shards_seen shards.now) v.items) }
+    ensures rows { IfOk result (λ v. AreRowsAt definition.now (shards_view shards.now) v.items) }
     ensures len { IfOk result (λ v. vec_len v ≡ length shards.now) }
 {
     let mut all = Vec::new(alloc);
@@ -127,7 +127,7 @@ fn extract<R: Threads + Sync, G: Gate + Sync>(
     workers: usize,
     gate: &G,
 ) -> Result<Vec<Result<Pages<RowBytes>, NoMemory>>, NoMemory>
-    ensures rows { IfOk result (λ v. AreRowsAt definition.now (shards_seen shards.now) v.items) }
+    ensures rows { IfOk result (λ v. AreRowsAt definition.now (shards_view shards.now) v.items) }
     ensures len { IfOk result (λ v. vec_len v ≡ length shards.now) }
 {
     if workers < 2 || shards.len() < 2 {
@@ -146,9 +146,9 @@ fn index_shard(
     rows: Result<Pages<RowBytes>, NoMemory>,
 ) -> Result<Shard, NoMemory>
     requires inside { i < length shards.now }
-    requires rows { HasRowsAt (arc_value definition.now) (shards_seen shards.now) i rows }
+    requires rows { HasRowsAt (arc_value definition.now) (shards_view shards.now) i rows }
     ensures { IfOk result
-        (λ s. slice_get (map (with_index (arc_value definition.now)) (shards_seen shards.now)) i ≡ Some s) }
+        (λ s. slice_get (map (with_index (arc_value definition.now)) (shards_view shards.now)) i ≡ Some s) }
 {
     let shard: &Shard = &shards[i];
     Ok(shard.with_rows(alloc, definition, rows?)?)
@@ -177,10 +177,10 @@ fn index_shards(
     definition: &Arc<IndexDef>,
     given: Vec<Result<Pages<RowBytes>, NoMemory>>,
 ) -> Result<Vec<Shard>, NoMemory>
-    requires rows { AreRowsAt (arc_value definition.now) (shards_seen shards.now) given.items }
+    requires rows { AreRowsAt (arc_value definition.now) (shards_view shards.now) given.items }
     requires len { vec_len given ≡ length shards.now }
     ensures { IfOk result
-        (λ v. v.items ≡ map (with_index (arc_value definition.now)) (shards_seen shards.now)) }
+        (λ v. v.items ≡ map (with_index (arc_value definition.now)) (shards_view shards.now)) }
 {
     let mut built = Vec::new(alloc);
     let mut given = given;
@@ -209,7 +209,7 @@ pub fn build<R: Threads + Sync, G: Gate + Sync>(
     gate: &G,
 ) -> Result<Vec<Shard>, NoMemory>
     requires { (0 < workers) × (workers ≤ 32) }
-    ensures { IfOk result (λ v. v.items ≡ map (with_index definition.now) (shards_seen shards.now)) }
+    ensures { IfOk result (λ v. v.items ≡ map (with_index definition.now) (shards_view shards.now)) }
 {
     let given = extract(rt, alloc, shards, definition, workers, gate)?;
     let shared = Arc::new(alloc, definition.copy(alloc)?)?;

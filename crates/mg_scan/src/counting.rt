@@ -2,7 +2,7 @@
 ghost use Rattle.std.specs.Prelude.{◌≡◌, length, nat_le};
 ghost use Rattle.std.specs.List.{sum_by};
 ghost use Rattle.std.specs.Option.{option_map_or};
-ghost use Rattle.mg_shard.specs.Shard.{rows_at, shards_seen};
+ghost use Rattle.mg_shard.specs.Shard.{rows_at, shards_view};
 ghost use Rattle.mg_shard.specs.Walk.{beyond};
 ghost use Rattle.mg_scan.specs.Search.{after_of};
 ghost use Rattle.mg_scan.specs.Upcoming.{count_upcoming};
@@ -25,7 +25,7 @@ pub fn reads_at_most(shards: &[Arc<Shard>], search: Search<'_>, most: usize) -> 
         ≡ nat_le (sum_by
         (count_upcoming search.entry.target search.entry.range.now
         (after_of search.entry) search.entry.direction)
-        (shards_seen shards.now)) most }
+        (shards_view shards.now)) most }
 {
     let mut left = most;
     for i in 0..shards.len() {

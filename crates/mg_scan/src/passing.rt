@@ -1,6 +1,6 @@
 //! A long skip on several shards: of the rows that a page skips, most are counted, and are not read.
 ghost use Rattle.std.specs.Prelude.{◌≡◌, ◌<◌, IfOk, IfSome};
-ghost use Rattle.mg_shard.specs.Shard.{shards_seen};
+ghost use Rattle.mg_shard.specs.Shard.{shards_view};
 ghost use Rattle.mg_scan.specs.Passed.{HasPageOf, IsIndex, IsWithin, beyond_row, count_all_upcoming};
 
 use crate::begin::Begin;
@@ -38,7 +38,7 @@ pub(crate) fn pass_over<'a>(
     search: Search<'a>,
     skip: usize,
 ) -> Result<(Search<'a>, usize), NoMemory>
-    ensures { IfOk result (λ r. HasPageOf (shards_seen shards.now) search.entry skip r.0 r.1) }
+    ensures { IfOk result (λ r. HasPageOf (shards_view shards.now) search.entry skip r.0 r.1) }
 {
     if first_stride(skip, shards.len()) < 2 {
         return Ok((search, skip));
@@ -64,7 +64,7 @@ fn pass_rows<'a>(
     name: &str,
 ) -> Result<(Search<'a>, usize), NoMemory>
     requires { IsIndex search.target }
-    ensures { IfOk result (λ r. HasPageOf (shards_seen shards.now) search.entry skip r.0 r.1) }
+    ensures { IfOk result (λ r. HasPageOf (shards_view shards.now) search.entry skip r.0 r.1) }
 {
     match count_all(shards, search) {
         None => Ok((search, skip)),
@@ -89,8 +89,8 @@ fn pass_rounds<'a>(
     name: &str,
 ) -> Result<LongSkip<'a>, NoMemory>
     requires index { IsIndex all.search.target }
-    requires upcoming { all.upcoming ≡ count_all_upcoming (shards_seen shards.now) all.search }
-    ensures { IfOk result (λ r. HasPageOf (shards_seen shards.now) all.entry.search all.entry.skip
+    requires upcoming { all.upcoming ≡ count_all_upcoming (shards_view shards.now) all.search }
+    ensures { IfOk result (λ r. HasPageOf (shards_view shards.now) all.entry.search all.entry.skip
         r.search r.skip) }
 {
     let mut passed = all;
@@ -114,11 +114,11 @@ fn pass_round<'a>(
     stride: usize,
 ) -> Result<LongSkip<'a>, NoMemory>
     requires index { IsIndex passed.search.target }
-    requires upcoming { passed.upcoming ≡ count_all_upcoming (shards_seen shards.now) passed.search }
+    requires upcoming { passed.upcoming ≡ count_all_upcoming (shards_view shards.now) passed.search }
     requires stride { 0 < stride }
-    ensures page { IfOk result (λ r. HasPageOf (shards_seen shards.now) passed.entry.search passed.entry.skip
+    ensures page { IfOk result (λ r. HasPageOf (shards_view shards.now) passed.entry.search passed.entry.skip
         r.search r.skip) }
-    ensures upcoming { IfOk result (λ r. r.upcoming ≡ count_all_upcoming (shards_seen shards.now) r.search) }
+    ensures upcoming { IfOk result (λ r. r.upcoming ≡ count_all_upcoming (shards_view shards.now) r.search) }
 {
     match row_near(alloc, shards, passed, ddoc, name, stride)? {
         None => Ok(passed),
@@ -128,7 +128,7 @@ fn pass_round<'a>(
 
 // How many rows of all shards come after the place where a search begins; `None` if the sum is too large for a `usize`.
 fn count_all(shards: &[Arc<Shard>], search: Search<'_>) -> Option<usize>
-    ensures { IfSome result (λ n. n ≡ count_all_upcoming (shards_seen shards.now) search.entry) }
+    ensures { IfSome result (λ n. n ≡ count_all_upcoming (shards_view shards.now) search.entry) }
 {
     let mut all = 0usize;
     for i in 0..shards.len() {
@@ -146,10 +146,10 @@ fn count_all(shards: &[Arc<Shard>], search: Search<'_>) -> Option<usize>
 // the page skips all these rows; otherwise passes over nothing.
 fn pass_to<'a>(shards: &[Arc<Shard>], passed: LongSkip<'a>, row: &'a RowBytes) -> LongSkip<'a>
     requires index { IsIndex passed.search.target }
-    requires upcoming { passed.upcoming ≡ count_all_upcoming (shards_seen shards.now) passed.search }
-    ensures page { HasPageOf (shards_seen shards.now) passed.entry.search passed.entry.skip
+    requires upcoming { passed.upcoming ≡ count_all_upcoming (shards_view shards.now) passed.search }
+    ensures page { HasPageOf (shards_view shards.now) passed.entry.search passed.entry.skip
         result.search result.skip }
-    ensures upcoming { result.upcoming ≡ count_all_upcoming (shards_seen shards.now) result.search }
+    ensures upcoming { result.upcoming ≡ count_all_upcoming (shards_view shards.now) result.search }
 {
     if is_reached(passed.search, row) && !is_late_row(passed.search, row) {
         pass_counted(shards, passed, row)
@@ -161,11 +161,11 @@ fn pass_to<'a>(shards: &[Arc<Shard>], passed: LongSkip<'a>, row: &'a RowBytes) -
 // Does what `pass_to` does, for a row that is in the range and at or after the place where the search begins.
 fn pass_counted<'a>(shards: &[Arc<Shard>], passed: LongSkip<'a>, row: &'a RowBytes) -> LongSkip<'a>
     requires index { IsIndex passed.search.target }
-    requires upcoming { passed.upcoming ≡ count_all_upcoming (shards_seen shards.now) passed.search }
+    requires upcoming { passed.upcoming ≡ count_all_upcoming (shards_view shards.now) passed.search }
     requires within { IsWithin passed.search row.now }
-    ensures page { HasPageOf (shards_seen shards.now) passed.entry.search passed.entry.skip
+    ensures page { HasPageOf (shards_view shards.now) passed.entry.search passed.entry.skip
         result.search result.skip }
-    ensures upcoming { result.upcoming ≡ count_all_upcoming (shards_seen shards.now) result.search }
+    ensures upcoming { result.upcoming ≡ count_all_upcoming (shards_view shards.now) result.search }
 {
     let beyond = search_after(passed.search, row, 0);
     match count_all(shards, beyond) {

@@ -2,7 +2,7 @@
 ghost use Rattle.std.specs.Prelude.{◌≡◌, ◌+◌, ◌≤◌, drop, length, map, All, IfOk};
 ghost use Rattle.std.specs.List.{AllZip};
 ghost use Rattle.mg_merge.specs.Merged.{merged};
-ghost use Rattle.mg_shard.specs.Shard.{shards_seen};
+ghost use Rattle.mg_shard.specs.Shard.{shards_view};
 ghost use Rattle.mg_scan.specs.Decided.{IsDecidedIn};
 ghost use Rattle.mg_scan.specs.Hit.{AreHitsIn, hit_rows};
 ghost use Rattle.mg_scan.specs.Lead.{IsLeadSourceOf};
@@ -36,8 +36,8 @@ pub fn pull_lent<'a>(
 ) -> Result<(Vec<Hit<'a>>, u64), NoMemory>
     ensures rows { IfOk result
         (λ made. hit_rows made.0.items ≡ merged search.entry.direction search.entry.take
-        (map (found_by search.entry) (shards_seen shards.now))) }
-    ensures hits { IfOk result (λ made. AreHitsIn (shards_seen shards.now) made.0.items) }
+        (map (found_by search.entry) (shards_view shards.now))) }
+    ensures hits { IfOk result (λ made. AreHitsIn (shards_view shards.now) made.0.items) }
     ensures pulled { IfOk result (λ made. made.1 ≤ search.entry.take + length shards.now) }
 {
     let mut sources = sources_of(alloc, shards, search)?;
@@ -62,11 +62,11 @@ pub fn pull_rows<'a>(
     skip: usize,
 ) -> Result<(Vec<Hit<'a>>, u64), NoMemory>
     requires decided { All (IsDecidedIn search.target search.normal.now search.range.now)
-        (shards_seen shards.now) }
+        (shards_view shards.now) }
     ensures rows { IfOk result (λ made. hit_rows made.0.items ≡ drop skip
         (merged search.entry.direction search.entry.take
-        (map (found_by search.entry) (shards_seen shards.now)))) }
-    ensures hits { IfOk result (λ made. AreHitsIn (shards_seen shards.now) made.0.items) }
+        (map (found_by search.entry) (shards_view shards.now)))) }
+    ensures hits { IfOk result (λ made. AreHitsIn (shards_view shards.now) made.0.items) }
     ensures pulled { IfOk result (λ made. made.1 ≤ search.entry.take + length shards.now) }
 {
     if shards.len() == 1 {
@@ -84,11 +84,11 @@ fn pull_rows_of_several<'a>(
     skip: usize,
 ) -> Result<(Vec<Hit<'a>>, u64), NoMemory>
     requires decided { All (IsDecidedIn search.target search.normal.now search.range.now)
-        (shards_seen shards.now) }
+        (shards_view shards.now) }
     ensures rows { IfOk result (λ made. hit_rows made.0.items ≡ drop skip
         (merged search.entry.direction search.entry.take
-        (map (found_by search.entry) (shards_seen shards.now)))) }
-    ensures hits { IfOk result (λ made. AreHitsIn (shards_seen shards.now) made.0.items) }
+        (map (found_by search.entry) (shards_view shards.now)))) }
+    ensures hits { IfOk result (λ made. AreHitsIn (shards_view shards.now) made.0.items) }
     ensures pulled { IfOk result (λ made. made.1 ≤ search.entry.take + length shards.now) }
 {
     let (rest, left) = pass_over(alloc, shards, search, skip)?;
@@ -104,11 +104,11 @@ fn pull_then_skip<'a>(
     skip: usize,
 ) -> Result<(Vec<Hit<'a>>, u64), NoMemory>
     requires decided { All (IsDecidedIn search.target search.normal.now search.range.now)
-        (shards_seen shards.now) }
+        (shards_view shards.now) }
     ensures rows { IfOk result (λ made. hit_rows made.0.items ≡ drop skip
         (merged search.entry.direction search.entry.take
-        (map (found_by search.entry) (shards_seen shards.now)))) }
-    ensures hits { IfOk result (λ made. AreHitsIn (shards_seen shards.now) made.0.items) }
+        (map (found_by search.entry) (shards_view shards.now)))) }
+    ensures hits { IfOk result (λ made. AreHitsIn (shards_view shards.now) made.0.items) }
     ensures pulled { IfOk result (λ made. made.1 ≤ search.entry.take + length shards.now) }
 {
     let mut sources = lead_sources_of(alloc, shards, search)?;
@@ -126,11 +126,11 @@ fn pull_rows_of_one<'a>(
 ) -> Result<(Vec<Hit<'a>>, u64), NoMemory>
     requires one { length shards.now ≡ 1 }
     requires decided { All (IsDecidedIn search.target search.normal.now search.range.now)
-        (shards_seen shards.now) }
+        (shards_view shards.now) }
     ensures rows { IfOk result (λ made. hit_rows made.0.items ≡ drop skip
         (merged search.entry.direction search.entry.take
-        (map (found_by search.entry) (shards_seen shards.now)))) }
-    ensures hits { IfOk result (λ made. AreHitsIn (shards_seen shards.now) made.0.items) }
+        (map (found_by search.entry) (shards_view shards.now)))) }
+    ensures hits { IfOk result (λ made. AreHitsIn (shards_view shards.now) made.0.items) }
     ensures pulled { IfOk result (λ made. made.1 ≤ search.entry.take + length shards.now) }
 {
     let shard: &Shard = &shards[0];
@@ -150,7 +150,7 @@ fn sources_of<'a, 'b>(
     search: Search<'b>,
 ) -> Result<Vec<HitSource<'a, 'b>>, NoMemory>
     ensures { IfOk result
-        (λ sources. AllZip (IsSourceOf search.entry) (shards_seen shards.now) sources.items) }
+        (λ sources. AllZip (IsSourceOf search.entry) (shards_view shards.now) sources.items) }
 {
     let mut sources = Vec::with_capacity(alloc, shards.len())?;
     for i in 0..shards.len() {
@@ -167,7 +167,7 @@ fn lead_sources_of<'a, 'b>(
     search: Search<'b>,
 ) -> Result<Vec<LeadSource<'a, 'b>>, NoMemory>
     ensures { IfOk result
-        (λ sources. AllZip (IsLeadSourceOf search.entry) (shards_seen shards.now) sources.items) }
+        (λ sources. AllZip (IsLeadSourceOf search.entry) (shards_view shards.now) sources.items) }
 {
     let mut sources = Vec::with_capacity(alloc, shards.len())?;
     for i in 0..shards.len() {

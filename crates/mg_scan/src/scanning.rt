@@ -4,7 +4,7 @@ ghost use Rattle.std.specs.List.{AllZip};
 ghost use Rattle.mg_collate.specs.Row.{row_view, rows_view};
 ghost use Rattle.mg_scan.specs.Found.{input_of_parts, found_in};
 ghost use Rattle.mg_scan.specs.Search.{found_by};
-ghost use Rattle.mg_shard.specs.Shard.{shards_seen};
+ghost use Rattle.mg_shard.specs.Shard.{shards_view};
 ghost use Rattle.mg_scan.specs.Hit.{AreHitsOf, hit_rows};
 
 use crate::gate::Gate;
@@ -42,9 +42,9 @@ pub fn scan_lent<'a, R: Threads + Sync, G: Gate + Sync>(
     gate: &G,
 ) -> Result<Vec<Vec<Hit<'a>>>, NoMemory>
     ensures rows { IfOk result (λ lists. map (λ hits. hit_rows hits.items) lists.items
-        ≡ map (found_by search.entry) (shards_seen shards.now)) }
+        ≡ map (found_by search.entry) (shards_view shards.now)) }
     ensures hits { IfOk result
-        (λ lists. AllZip (λ s hits. AreHitsOf s.documents hits.items) (shards_seen shards.now) lists.items) }
+        (λ lists. AllZip (λ s hits. AreHitsOf s.documents hits.items) (shards_view shards.now) lists.items) }
 {
     let next = AtomicU64::new(0);
     let given = map_from_one_thread(
@@ -79,7 +79,7 @@ pub fn scan<R: Threads + Sync, G: Gate + Sync>(
     ensures { IfOk result (λ lists. map (λ rows. rows_view rows.items) lists.items
         ≡ map (found_in target.entry
         (input_of_parts normal.now range.now (option_map (λ r. row_view r.now) after.entry) take direction))
-        (shards_seen shards.now)) }
+        (shards_view shards.now)) }
 {
     let row_range = range.in_rows(alloc)?;
     let after_row = bytes_of(alloc, after)?;

@@ -1,7 +1,7 @@
 //! Workers claim shards and search them. What they find does not depend on which worker claims which shard.
 ghost use Rattle.std.specs.Prelude.{◌≡◌, ◌<◌, List, length, vec_len, All, IfOk, IfSome};
 ghost use Rattle.std.specs.List.{AllZip};
-ghost use Rattle.mg_shard.specs.Shard.{ShardView, shards_seen};
+ghost use Rattle.mg_shard.specs.Shard.{ShardView, shards_view};
 ghost use Rattle.mg_scan.specs.Worked.{AllShardHits, AllSlots, AreHitsFoundAt, AreHitsFound};
 
 use crate::gate::{Gate, Place};
@@ -31,7 +31,7 @@ fn search_shard<'a, G: Gate>(
     gate: &G,
 ) -> Result<Vec<Hit<'a>>, NoMemory>
     requires { i < length shards.now }
-    ensures { IfOk result (λ v. AreHitsFoundAt search.entry (shards_seen shards.now) i v.items) }
+    ensures { IfOk result (λ v. AreHitsFoundAt search.entry (shards_view shards.now) i v.items) }
 {
     gate.at(Place::ShardBegun(i));
     let shard: &Shard = &shards[i];
@@ -50,7 +50,7 @@ pub(crate) fn search_claimed<'a, G: Gate>(
     next: &AtomicU64,
     gate: &G,
 ) -> Result<Vec<ShardHits<'a>>, NoMemory>
-    ensures { IfOk result (λ v. AllShardHits search.entry (shards_seen shards.now) v.items) }
+    ensures { IfOk result (λ v. AllShardHits search.entry (shards_view shards.now) v.items) }
 {
     let mut all = Vec::new(alloc);
     for _turn in 0..shards.len() {
@@ -100,8 +100,8 @@ pub(crate) fn fill_slots<'a>(
     shards: &[Arc<Shard>],
     search: Search<'_>,
 ) -> Result<Vec<Option<Vec<Hit<'a>>>>, NoMemory>
-    requires { All (λ r. IfOk r (λ v. AllShardHits search (shards_seen shards.now) v.items)) given.items }
-    ensures slots { IfOk result (λ v. AllSlots search.entry (shards_seen shards.now) v.items) }
+    requires { All (λ r. IfOk r (λ v. AllShardHits search (shards_view shards.now) v.items)) given.items }
+    ensures slots { IfOk result (λ v. AllSlots search.entry (shards_view shards.now) v.items) }
     ensures len { IfOk result (λ v. vec_len v ≡ length shards.now) }
 {
     let mut slots = empty_slots(alloc, shards.len())?;
@@ -134,8 +134,8 @@ fn hits_or_search<'a, G: Gate>(
     gate: &G,
 ) -> Result<Vec<Hit<'a>>, NoMemory>
     requires inside { i < length shards.now }
-    requires found { IfSome found (λ v. AreHitsFoundAt search (shards_seen shards.now) i v.items) }
-    ensures { IfOk result (λ v. AreHitsFoundAt search.entry (shards_seen shards.now) i v.items) }
+    requires found { IfSome found (λ v. AreHitsFoundAt search (shards_view shards.now) i v.items) }
+    ensures { IfOk result (λ v. AreHitsFoundAt search.entry (shards_view shards.now) i v.items) }
 {
     match found {
         Some(hits) => Ok(hits),
@@ -152,10 +152,10 @@ pub(crate) fn hits_in_order<'a, G: Gate>(
     search: Search<'_>,
     gate: &G,
 ) -> Result<Vec<Vec<Hit<'a>>>, NoMemory>
-    requires slots { AllSlots search (shards_seen shards.now) slots.items }
+    requires slots { AllSlots search (shards_view shards.now) slots.items }
     requires len { vec_len slots ≡ length shards.now }
     ensures { IfOk result
-        (λ lists. AllZip (λ s v. AreHitsFound search.entry s v.items) (shards_seen shards.now) lists.items) }
+        (λ lists. AllZip (λ s v. AreHitsFound search.entry s v.items) (shards_view shards.now) lists.items) }
 {
     let mut slots = slots;
     let mut all = Vec::new(alloc);

@@ -25,12 +25,12 @@ fault_here (Ok s) rest fault is some = absurd cc
 fault_here (Err e) rest fault is some = is
 
 -- a reading may return the fault of its value, or `NoMemory` if the value has none
-pub fault_or_no_memory : {A B : Type 0} (seen : A → B) (r : Result B SelError) → ReadsAs seen (Err (unwrap_or (result_err r) NoMemory)) r
-fault_or_no_memory seen (Ok x) = tt
-fault_or_no_memory seen (Err InvalidOperator) = refl
-fault_or_no_memory seen (Err BadArg) = refl
-fault_or_no_memory seen (Err Shape) = refl
-fault_or_no_memory seen (Err NoMemory) = tt
+pub fault_or_no_memory : {A B : Type 0} (item_view : A → B) (r : Result B SelError) → ReadsAs item_view (Err (unwrap_or (result_err r) NoMemory)) r
+fault_or_no_memory item_view (Ok x) = tt
+fault_or_no_memory item_view (Err InvalidOperator) = refl
+fault_or_no_memory item_view (Err BadArg) = refl
+fault_or_no_memory item_view (Err Shape) = refl
+fault_or_no_memory item_view (Err NoMemory) = tt
 
 -- an option that is not `Some` is `None`
 pub none_unless_some : {A : Type 0} (o : Option A) → is_some o ≡ false → o ≡ None

@@ -21,11 +21,11 @@ Fails InvalidOperator r = r ≡ Err InvalidOperator
 Fails BadArg r = r ≡ Err BadArg
 Fails Shape r = r ≡ Err Shape
 
--- a call returned what the definition gives, where `seen` is what a value of the code stands for; after `NoMemory`, the definition may
+-- a call returned what the definition gives, where `item_view` is what a value of the code stands for; after `NoMemory`, the definition may
 -- give anything
 abbrev pub ReadsAs : {X Y : Type 0} → (X → Y) → Result X SelError → Result Y SelError → Type 0
-ReadsAs seen (Ok x) r = r ≡ Ok (seen x)
-ReadsAs seen (Err e) r = Fails e r
+ReadsAs item_view (Ok x) r = r ≡ Ok (item_view x)
+ReadsAs item_view (Err e) r = Fails e r
 
 -- the argument of a path, where `inner` is its reading as a selector: an object with members is a selector; any other value is the
 -- argument of `$eq`

@@ -11,7 +11,7 @@ use Rattle.rayon.proofs.ToStd.{chunks_of-concat, slice-AllZip}
 use Rattle.rayon.specs.Lists.{chunks_from, chunks_of}
 use Rattle.mg_collate.specs.Row.{RowValue}
 use Rattle.mg_index.specs.Definition.{Steps}
-use Rattle.mg_pages.specs.Runs.{lent_elements}
+use Rattle.mg_pages.specs.Runs.{elements_view}
 use Rattle.mg_shard.specs.Documents.{doc_entry, kept_entry, docs_in}
 use Rattle.mg_shard.specs.Extracted.{document_row, rows_in}
 use Rattle.mg_shard.specs.Histories.{ServedDocument}
@@ -37,7 +37,7 @@ rows_served columns (d ∷ ds) = ap (cons_option (document_row columns d)) (rows
 
 -- if each thread returned a list, the lists hold the rows of the documents, in their order
 rows_given : (columns : List Steps) (runs : List Run) (rs : List Given) (lists : List (Vec RowValue Global)) → AllZip (λ (run : Run) r. IfOk r (λ v. v.items ≡ rows_in columns run.now)) runs rs
-    → rs ≡ map Ok lists → flat_map (λ (list : Vec RowValue Global). list.items) lists ≡ rows_in columns (lent_elements runs)
+    → rs ≡ map Ok lists → flat_map (λ (list : Vec RowValue Global). list.items) lists ≡ rows_in columns (elements_view runs)
 rows_given columns [] [] [] h e = refl
 rows_given columns [] [] (v ∷ lists) h e = absurd cc
 rows_given columns [] (r ∷ rs) lists h e = absurd h
@@ -47,7 +47,7 @@ rows_given columns (run ∷ runs) (Ok v ∷ rs) (w ∷ lists) h e =
     let same : v ≡ w = cc in
     let more : rs ≡ map Ok lists = cc in
     ap₂ (λ us vs. us ++ vs) (ap (λ (list : Vec RowValue Global). list.items) (sym same) ∙ h.0) (rows_given columns runs rs lists h.1 more)
-    ∙ sym (filter_map-append (document_row columns) run.now (lent_elements runs))
+    ∙ sym (filter_map-append (document_row columns) run.now (elements_view runs))
 rows_given columns (run ∷ runs) (Err x ∷ rs) [] h e = absurd cc
 rows_given columns (run ∷ runs) (Err x ∷ rs) (w ∷ lists) h e = absurd cc
 
@@ -55,12 +55,12 @@ rows_given columns (run ∷ runs) (Err x ∷ rs) (w ∷ lists) h e = absurd cc
 pub lists_together : (columns : List Steps) (runs : List Run) (xs : List (Bor Run)) (rs : List Given) (together : Result (Vec (Vec RowValue Global) Global) NoMemory)
     → map (λ (x : Bor Run). x.now) xs ≡ runs → AllZip (λ (x : Bor Run) r. IfOk r (λ v. v.items ≡ rows_in columns x.now.now)) xs rs
     → MatchResult together (λ v. (lists : List (Vec RowValue Global)) × (rs ≡ map Ok lists) × (v.items ≡ lists)) (λ e. Contains rs (Err e))
-    → IfOk together (λ v. flat_map (λ (list : Vec RowValue Global). list.items) v.items ≡ filter_map (row_of columns) (docs_in (lent_elements runs)))
+    → IfOk together (λ v. flat_map (λ (list : Vec RowValue Global). list.items) v.items ≡ filter_map (row_of columns) (docs_in (elements_view runs)))
 lists_together columns runs xs rs (Err e) kept_documents each all = tt
 lists_together columns runs xs rs (Ok v) kept_documents each all =
     ap (flat_map (λ (list : Vec RowValue Global). list.items)) all.2
     ∙ rows_given columns runs rs all.0 (slice-AllZip xs runs kept_documents (λ (run : Run) r. IfOk r (λ v. v.items ≡ rows_in columns run.now)) rs each) all.1
-    ∙ rows_served columns (lent_elements runs)
+    ∙ rows_served columns (elements_view runs)
 
 abbrev pub Made : Type 0
 Made = Result (List RowValue) NoMemory

@@ -20,7 +20,7 @@ use Rattle.mg_shard.specs.Dealt.{Placing, ShardsStandFor, histories_on}
 use Rattle.mg_shard.specs.Documents.{KeptDocument, KeptDocuments, StandsAt, kept_entry, id_bytes, kept_of, kept_documents}
 use Rattle.mg_shard.specs.Histories.{Histories}
 use Rattle.mg_shard.specs.Redealt.{AreMade, ArePlaces, AreRedealt, IsMade, IsPlace, KeepsThose, documents_in, kept_in, last_kept, first_definitions}
-use Rattle.mg_shard.specs.Shard.{ShardView, shards_seen}
+use Rattle.mg_shard.specs.Shard.{ShardView, shards_view}
 use Rattle.mg_shard.specs.declared.document.Document.{Document}
 use Rattle.mg_shard.proofs.Dealing.{get-kept, not_there, same_some, stands_at}
 use Rattle.mg_shard.proofs.Shown.{bytes_cmp, kept_documents-inserted}
@@ -308,7 +308,7 @@ each_of_all P (x ∷ xs) h (suc k) d l = each_of_all P xs h.1 k d (omega (arith,
 
 -- the documents of the first i + 1 shards are those of the first i and of the shard i
 pub documents_more : (shards : List (Arc ShardView Global)) (i : ℕ) (s : Arc ShardView Global) → i < length shards → s ≡ get_or shards i s
-    → documents_in (shards_seen (take (suc i) shards)) ≡ documents_in (shards_seen (take i shards)) ++ (arc_value s).documents ∷ []
+    → documents_in (shards_view (take (suc i) shards)) ≡ documents_in (shards_view (take i shards)) ++ (arc_value s).documents ∷ []
 documents_more [] i s l e = absurd (omega arith)
 documents_more (x ∷ shards) zero s l e = ap (λ (a : Arc ShardView Global). (arc_value a).documents ∷ []) (sym e)
 documents_more (x ∷ shards) (suc i) s l e = ap (λ ms. (arc_value x).documents ∷ ms) (documents_more shards i s (omega arith) e)

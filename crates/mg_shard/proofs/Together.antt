@@ -3,7 +3,7 @@ use denote.Ref.{Bor}
 use Rattle.std.proofs.lemmas.List.{length-map}
 use Rattle.std.proofs.lemmas.Option.{get_or_from_slice_get, slice_get-map, slice_get_within}
 use Rattle.std.proofs.Common.{◌++◌, option_map, ◌≡◌, ℕ, zero, suc, ◌<◌, List, [], ◌∷◌, Some, Result, Ok, length, get_or, map, slice_get, arith, refl, sym, ap, ◌∙◌, subst, IfOk}
-use Rattle.mg_shard.specs.Redealt.{documents_seen}
+use Rattle.mg_shard.specs.Redealt.{documents_view}
 use Rattle.mg_shard.specs.Shard.{ShardView}
 use Rattle.mg_shard.specs.declared.document.Document.{Document}
 use Rattle.mg_value.specs.declared.error.NoMemory.{NoMemory}
@@ -13,11 +13,11 @@ Lent = Bor Document
 
 -- ---- documents that are lent
 
-pub seen_length : (ds : List Lent) → length (documents_seen ds) ≡ length ds
+pub seen_length : (ds : List Lent) → length (documents_view ds) ≡ length ds
 seen_length [] = refl
 seen_length (d ∷ ds) = ap suc (seen_length ds)
 
-pub seen_at : (ds : List Lent) (k : ℕ) (d : Lent) → k < length ds → d ≡ get_or ds k d → d.now ≡ get_or (documents_seen ds) k d.now
+pub seen_at : (ds : List Lent) (k : ℕ) (d : Lent) → k < length ds → d ≡ get_or ds k d → d.now ≡ get_or (documents_view ds) k d.now
 seen_at [] k d l e = absurd (omega (arith, l))
 seen_at (x ∷ ds) zero d l e = ap (λ (y : Lent). y.now) e
 seen_at (x ∷ ds) (suc k) d l e = seen_at ds k d (omega (arith, l)) e

@@ -77,5 +77,5 @@ abbrev pub docs_in : List Document → List ServedDocument
 docs_in ds = filter_map (λ d. doc_entry (kept_entry d)) ds
 
 -- a lent id with a form, as a served document
-abbrev pub lent_document : Bor (List ℕ) × Value → ServedDocument
-lent_document p = (p.0.now, p.1)
+abbrev pub lent_document_view : Bor (List ℕ) × Value → ServedDocument
+lent_document_view p = (p.0.now, p.1)

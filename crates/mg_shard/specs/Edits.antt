@@ -42,7 +42,7 @@ outcomes hs [] = []
 outcomes hs (e ∷ es) = outcome_in hs e ∷ outcomes (after_edit hs e) es
 
 -- the outcome that a reply reports
-abbrev pub outcome_seen : EditReply → Result Revision EditRefusal
-outcome_seen (Done r) = Ok r
-outcome_seen Conflict = Err refused.Conflict
-outcome_seen BadHistory = Err refused.BadHistory
+abbrev pub outcome_view : EditReply → Result Revision EditRefusal
+outcome_view (Done r) = Ok r
+outcome_view Conflict = Err refused.Conflict
+outcome_view BadHistory = Err refused.BadHistory

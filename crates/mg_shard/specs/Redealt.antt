@@ -35,8 +35,8 @@ first_definitions shards = unwrap_or (option_map (λ s. s.definitions) (slice_ge
 -- ---- for private clauses
 
 -- the documents behind lent references
-abbrev pub documents_seen : List (Bor Document) → List Document
-documents_seen documents = map (λ d. d.now) documents
+abbrev pub documents_view : List (Bor Document) → List Document
+documents_view documents = map (λ d. d.now) documents
 
 -- the last of these documents with this id, as it is kept; `None` if none of them has the id
 abbrev pub last_kept : List Document → List ℕ → Option KeptDocument

@@ -34,8 +34,8 @@ abbrev pub rows_at : List ℕ → List ℕ → ShardView → Option (List RowVal
 rows_at ddoc name s = option_map (λ d. rows_of d.columns (docs_of s.documents)) (definition_at ddoc name s.definitions)
 
 -- what the shards behind these `Arc`s hold
-abbrev pub shards_seen : List (Arc ShardView Global) → List ShardView
-shards_seen shards = map arc_value shards
+abbrev pub shards_view : List (Arc ShardView Global) → List ShardView
+shards_view shards = map arc_value shards
 
 -- each shard has each of these definitions, and may have others
 abbrev pub HaveIndexes : List IndexDefinition → List ShardView → Type 0

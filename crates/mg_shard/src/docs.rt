@@ -2,7 +2,7 @@
 ghost use Rattle.std.specs.Prelude.{◌≡◌, length};
 ghost use Rattle.std.specs.Iterator.{at_most};
 ghost use Rattle.std.specs.Map.Iter.{TakesFirst};
-ghost use Rattle.mg_shard.specs.Documents.{lent_document, docs_in};
+ghost use Rattle.mg_shard.specs.Documents.{lent_document_view, docs_in};
 
 use crate::walk::Documents;
 use mg_packed::Part;
@@ -43,7 +43,7 @@ impl<'a> Docs<'a> {
 impl<'a> Iterator for Docs<'a> {
     type Item = (&'a str, Part<'a>);
 
-    ghost next_gives = { TakesFirst lent_document };
+    ghost next_gives = { TakesFirst lent_document_view };
 
     ghost remaining = { λ s. at_most (length s) };
 

@@ -10,7 +10,7 @@ ghost use Rattle.mg_shard.specs.Documents.{StandFor, kept_documents, tree_at};
 ghost use Rattle.mg_shard.specs.Draft.{DraftStandsFor, TouchedStandFor, Touches, touched_of};
 ghost use Rattle.std.specs.List.{AllByRecursion};
 ghost use Rattle.mg_shard.specs.Index.{HasRows, definitions_of};
-ghost use Rattle.mg_shard.specs.Edits.{after_edit, after_edits, first_refusal_in, id_in, outcome_in, outcome_seen, outcomes};
+ghost use Rattle.mg_shard.specs.Edits.{after_edit, after_edits, first_refusal_in, id_in, outcome_in, outcome_view, outcomes};
 ghost use Rattle.mg_shard.specs.Histories.{Histories};
 
 use crate::document::Document;
@@ -75,7 +75,7 @@ impl<'a> Draft<'a> {
     /// document yet. No copy of the body.
     pub fn apply(&mut self, alloc: Global, edit: Edit) -> Result<EditReply, NoMemory>
         ensures outcome { IfOk result
-            (λ r. (hs : Histories) → DraftStandsFor self.old hs → outcome_seen r ≡ outcome_in hs edit) }
+            (λ r. (hs : Histories) → DraftStandsFor self.old hs → outcome_view r ≡ outcome_in hs edit) }
         ensures stands { OnOk result ((hs : Histories) → DraftStandsFor self.old hs
             → DraftStandsFor self.new (after_edit hs edit)) }
         ensures foreseen { OnErr result ((hs : Histories) → DraftStandsFor self.old hs
@@ -95,7 +95,7 @@ impl<'a> Draft<'a> {
     pub fn apply_all(&mut self, alloc: Global, edits: &[Edit]) -> Result<Vec<EditReply>, NoMemory>
         ensures outcomes { IfOk result
             (λ rs. (hs : Histories) → DraftStandsFor self.old hs
-            → map outcome_seen rs.items ≡ outcomes hs edits.now) }
+            → map outcome_view rs.items ≡ outcomes hs edits.now) }
         ensures stands { OnOk result ((hs : Histories) → DraftStandsFor self.old hs
             → DraftStandsFor self.new (after_edits hs edits.now)) }
         ensures shard { OnOk result (self.new.shard ≡ self.old.shard) }
@@ -131,7 +131,7 @@ impl<'a> Draft<'a> {
 
 // Turns the refusal of an edit into a reply. `NoMemory` has no such reply, and stays an error.
 fn reply_of(error: EditError) -> Result<EditReply, NoMemory>
-    ensures reply { IfOk result (λ r. option_map Err (refusal_in error) ≡ Some (outcome_seen r)) }
+    ensures reply { IfOk result (λ r. option_map Err (refusal_in error) ≡ Some (outcome_view r)) }
     ensures err { OnErr result (refusal_in error ≡ None) }
 {
     match error {
@@ -146,7 +146,7 @@ fn reply_of(error: EditError) -> Result<EditReply, NoMemory>
 fn apply_ready(alloc: Global, ready: ReadyEdit, tree: &mut RevTree) -> Result<EditReply, NoMemory>
     requires { (h : Paths) → StandsFor tree.old h → IsReady h ready }
     ensures outcome { IfOk result
-        (λ r. (h : Paths) → StandsFor tree.old h → outcome_seen r ≡ outcome_of h ready) }
+        (λ r. (h : Paths) → StandsFor tree.old h → outcome_view r ≡ outcome_of h ready) }
     ensures stands { OnOk result ((h : Paths) → StandsFor tree.old h
         → StandsFor tree.new (edited h ready)) }
 {
@@ -160,7 +160,7 @@ fn apply_ready(alloc: Global, ready: ReadyEdit, tree: &mut RevTree) -> Result<Ed
 // refused or its path is known whole, the tree is unchanged and the edit's body is dropped.
 fn edit_tree(alloc: Global, tree: &mut RevTree, edit: Edit) -> Result<EditReply, NoMemory>
     ensures outcome { IfOk result
-        (λ r. (h : Paths) → StandsFor tree.old h → outcome_seen r ≡ outcome_of h edit) }
+        (λ r. (h : Paths) → StandsFor tree.old h → outcome_view r ≡ outcome_of h edit) }
     ensures stands { OnOk result ((h : Paths) → StandsFor tree.old h
         → StandsFor tree.new (edited h edit)) }
     ensures foreseen { OnErr result ((h : Paths) → StandsFor tree.old h
@@ -184,7 +184,7 @@ fn edit_first(
     requires { get (touched_of touched.old.entries) (id_in edit) ≡ None }
     ensures outcome { IfOk result
         (λ r. (hs : Histories) → TouchedStandFor shard.now.documents (touched_of touched.old.entries) hs
-        → outcome_seen r ≡ outcome_in hs edit) }
+        → outcome_view r ≡ outcome_in hs edit) }
     ensures stands { OnOk result ((hs : Histories)
         → TouchedStandFor shard.now.documents (touched_of touched.old.entries) hs
         → TouchedStandFor shard.now.documents (touched_of touched.new.entries) (after_edit hs edit)) }
@@ -221,10 +221,10 @@ fn touch(
 ) -> Result<EditReply, NoMemory>
     requires { (h : Paths) → StandsFor before.now h → IsReady h ready }
     ensures outcome { IfOk result
-        (λ r. (h : Paths) → StandsFor before.now h → outcome_seen r ≡ outcome_of h ready) }
+        (λ r. (h : Paths) → StandsFor before.now h → outcome_view r ≡ outcome_of h ready) }
     ensures touched { IfOk result
         (λ r. (h : Paths) → StandsFor before.now h
-        → Touches h ready (outcome_seen r) (touched_of touched.old.entries)
+        → Touches h ready (outcome_view r) (touched_of touched.old.entries)
         (touched_of touched.new.entries)) }
 {
     let key = String::from_str(alloc, id_in(ready.edit()))?;

@@ -4,7 +4,7 @@ ghost use Rattle.std.specs.List.{AllByRecursion, cons_option, filter_map, flat_m
 ghost use Rattle.std.specs.List.Sorted.{IsPermutation, IsSorted};
 ghost use Rattle.mg_collate.specs.Row.{RowValue, row_value_order};
 ghost use Rattle.mg_pages.specs.Order.{Ascends};
-ghost use Rattle.mg_pages.specs.Runs.{lent_elements};
+ghost use Rattle.mg_pages.specs.Runs.{elements_view};
 ghost use Rattle.mg_shard.specs.Documents.{docs_in};
 ghost use Rattle.mg_shard.specs.Extracted.{document_row, rows_in};
 ghost use Rattle.mg_shard.specs.Rows.{row_of};
@@ -92,7 +92,7 @@ fn lists_by_threads<R: Threads + Sync>(
     runs: &[&[Shared<Document>]],
 ) -> Result<Vec<Vec<RowBytes>>, NoMemory>
     ensures { IfOk result (λ v. flat_map (λ list. list.items) v.items
-        ≡ filter_map (row_of columns.now) (docs_in (lent_elements runs.now))) }
+        ≡ filter_map (row_of columns.now) (docs_in (elements_view runs.now))) }
 {
     let lists: Result<Vec<Vec<RowBytes>>, NoMemory> = runs
         .par_iter()
@@ -119,7 +119,7 @@ pub(crate) fn rows_by_threads<R: Threads + Sync>(
     count: usize,
 ) -> Result<Vec<RowBytes>, NoMemory>
     ensures { IfOk result (λ rows. rows.items
-        ≡ filter_map (row_of columns.now) (docs_in (lent_elements runs.now))) }
+        ≡ filter_map (row_of columns.now) (docs_in (elements_view runs.now))) }
 {
     let lists = lists_by_threads(rt, alloc, columns, runs)?;
     let rows = join_lists(alloc, count, lists)?;

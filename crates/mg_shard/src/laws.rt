@@ -2,7 +2,7 @@
 ghost use Rattle.std.specs.Prelude.{All};
 ghost use Rattle.mg_index.specs.Catalog.{IsCatalog};
 ghost use Rattle.mg_shard.specs.Laws.{DraftsBecomeShards, ItsShardDecidesEachEdit, ItsShardMakesEachEdit, EachIdHasItsShard, NothingIsDealt, ShardsBecomeDrafts, TheServedAreKept};
-ghost use Rattle.mg_shard.specs.Shard.{shards_seen};
+ghost use Rattle.mg_shard.specs.Shard.{shards_view};
 
 use crate::shard::Shard;
 use std::sync::Arc;
@@ -46,7 +46,7 @@ pub fn drafts_become_shards()
 /// The definitions of each shard are a catalog: they are in the order of design document, then name, and no two have both in common.
 /// Takes no memory. Cost: the number of shards.
 pub fn definitions_are_catalogs(shards: &[Arc<Shard>])
-    ensures { All (λ s. IsCatalog s.definitions) (shards_seen shards.now) }
+    ensures { All (λ s. IsCatalog s.definitions) (shards_view shards.now) }
 {
     for i in 0..shards.len() {
         let shard: &Shard = &shards[i];

@@ -5,8 +5,8 @@ ghost use Rattle.std.specs.Option.{option_or};
 ghost use Rattle.mg_pages.specs.Identified.{id_order};
 ghost use Rattle.mg_pages.specs.Order.{inserted};
 ghost use Rattle.mg_shard.specs.Documents.{id_bytes, kept_documents};
-ghost use Rattle.mg_shard.specs.Redealt.{ArePlaces, KeepsThose, documents_in, documents_seen, kept_in, last_kept};
-ghost use Rattle.mg_shard.specs.Shard.{shards_seen};
+ghost use Rattle.mg_shard.specs.Redealt.{ArePlaces, KeepsThose, documents_in, documents_view, kept_in, last_kept};
+ghost use Rattle.mg_shard.specs.Shard.{shards_view};
 
 use crate::document::Document;
 use crate::placement::Placement;
@@ -25,7 +25,7 @@ pub(crate) fn all_documents<'a>(
 ) -> Result<Vec<&'a Shared<Document>>, NoMemory>
     ensures { IfOk result
         (λ v. (id : List ℕ)
-        → last_kept (documents_seen v.items) id ≡ kept_in (documents_in (shards_seen shards.now)) id) }
+        → last_kept (documents_view v.items) id ≡ kept_in (documents_in (shards_view shards.now)) id) }
 {
     let mut all = Vec::new(alloc);
     for shard in shards {
@@ -36,8 +36,8 @@ pub(crate) fn all_documents<'a>(
 
 // Appends the documents of one more shard to `all`.
 fn add_documents<'a>(shard: &'a Shard, all: &mut Vec<&'a Shared<Document>>) -> Result<(), NoMemory>
-    ensures { OnOk result ((id : List ℕ) → last_kept (documents_seen all.new.items) id
-        ≡ option_or (get shard.now.documents id) (last_kept (documents_seen all.old.items) id)) }
+    ensures { OnOk result ((id : List ℕ) → last_kept (documents_view all.new.items) id
+        ≡ option_or (get shard.now.documents id) (last_kept (documents_view all.old.items) id)) }
 {
     shard.documents.ascends();
     for document in shard.documents.iter() {
@@ -58,7 +58,7 @@ pub(crate) fn places_of<P: Placement>(
 ) -> Result<Vec<usize>, NoMemory>
     requires { 0 < count }
     ensures { IfOk result
-        (λ v. ArePlaces (P.place placement.now) count (documents_seen documents.now) v.items) }
+        (λ v. ArePlaces (P.place placement.now) count (documents_view documents.now) v.items) }
 {
     let mut places = Vec::with_capacity(alloc, documents.len())?;
     for document in documents {
@@ -96,7 +96,7 @@ pub(crate) fn documents_at(
 ) -> Result<Pages<Shared<Document>>, NoMemory>
     requires { length places.now ≡ length documents.now }
     ensures { IfOk result
-        (λ ds. KeepsThose (documents_seen documents.now) places.now place (kept_documents ds)) }
+        (λ ds. KeepsThose (documents_view documents.now) places.now place (kept_documents ds)) }
 {
     let mut there = Pages::new(alloc);
     for k in 0..documents.len() {

@@ -9,8 +9,8 @@ ghost use Rattle.mg_shard.specs.Dealt.{Placing, ShardsStandFor};
 ghost use Rattle.mg_shard.specs.Documents.{kept_documents};
 ghost use Rattle.mg_shard.specs.Histories.{Histories};
 ghost use Rattle.mg_shard.specs.Index.{HasRows, definitions_of};
-ghost use Rattle.mg_shard.specs.Redealt.{AreMade, AreRedealt, IsMade, documents_in, documents_seen, first_definitions};
-ghost use Rattle.mg_shard.specs.Shard.{shards_seen};
+ghost use Rattle.mg_shard.specs.Redealt.{AreMade, AreRedealt, IsMade, documents_in, documents_view, first_definitions};
+ghost use Rattle.mg_shard.specs.Shard.{shards_view};
 
 use crate::document::Document;
 use crate::extracted::MANY_DOCUMENTS;
@@ -52,15 +52,15 @@ pub fn redeal<P: Placement, R: Threads + Sync>(
     // Each document is kept in the shard that the placement gives, and nowhere else. If several former shards have a document with the
     // same id, the last one is kept.
     ensures documents { IfOk result
-        (λ v. AreRedealt (P.place placement.now) (documents_in (shards_seen shards.now))
+        (λ v. AreRedealt (P.place placement.now) (documents_in (shards_view shards.now))
         (documents_in v.items)) }
     ensures stands { IfOk result
-        (λ v. (from : Placing) (hs : Histories) → ShardsStandFor from (shards_seen shards.now) hs
+        (λ v. (from : Placing) (hs : Histories) → ShardsStandFor from (shards_view shards.now) hs
         → ShardsStandFor (P.place placement.now) v.items hs) }
     ensures first { IfOk result
-        (λ v. All (λ s. s.definitions ≡ first_definitions (shards_seen shards.now)) v.items) }
+        (λ v. All (λ s. s.definitions ≡ first_definitions (shards_view shards.now)) v.items) }
     ensures indexes { IfOk result (λ v. (ds : List IndexDefinition) → 0 < length shards.now
-        → All (λ s. s.definitions ≡ ds) (shards_seen shards.now) → All (λ s. s.definitions ≡ ds) v.items) }
+        → All (λ s. s.definitions ≡ ds) (shards_view shards.now) → All (λ s. s.definitions ≡ ds) v.items) }
 {
     let listed = all_documents(alloc, shards)?;
     let documents: &[&Shared<Document>] = &listed;
@@ -81,7 +81,7 @@ pub fn redeal<P: Placement, R: Threads + Sync>(
 fn first_indexes(alloc: Global, shards: &[Arc<Shard>]) -> Result<Vec<IndexEntry>, NoMemory>
     ensures catalog { IfOk result (λ v. IsCatalog (definitions_of v.items)) }
     ensures first { IfOk result
-        (λ v. definitions_of v.items ≡ first_definitions (shards_seen shards.now)) }
+        (λ v. definitions_of v.items ≡ first_definitions (shards_view shards.now)) }
 {
     match shards.first() {
         Some(shard) => Ok(share_indexes(alloc, shard.indexes())?),
@@ -156,7 +156,7 @@ fn make_shard<R: Threads + Sync>(
 ) -> Result<Shard, NoMemory>
     requires number { length places.now ≡ length documents.now }
     requires catalog { IsCatalog (definitions_of indexes.now) }
-    ensures { IfOk result (IsMade (documents_seen documents.now) places.now
+    ensures { IfOk result (IsMade (documents_view documents.now) places.now
         (definitions_of indexes.now) place) }
 {
     let there = documents_at(alloc, documents, places, place)?;
@@ -177,7 +177,7 @@ fn make_in_turn<R: Threads + Sync>(
     requires catalog { IsCatalog (definitions_of indexes.now) }
     ensures number { IfOk result (λ v. length v.items ≡ count) }
     ensures made { IfOk result
-        (λ v. AreMade (documents_seen documents.now) places.now (definitions_of indexes.now) v.items) }
+        (λ v. AreMade (documents_view documents.now) places.now (definitions_of indexes.now) v.items) }
 {
     let mut shards = Vec::with_capacity(alloc, count)?;
     for i in 0..count {
@@ -211,7 +211,7 @@ fn make_at_once<R: Threads + Sync>(
     requires catalog { IsCatalog (definitions_of indexes.now) }
     ensures number { IfOk result (λ v. length v.items ≡ count) }
     ensures made { IfOk result
-        (λ v. AreMade (documents_seen documents.now) places.now (definitions_of indexes.now) v.items) }
+        (λ v. AreMade (documents_view documents.now) places.now (definitions_of indexes.now) v.items) }
 {
     let results = thread::map_indices(
         rt,
@@ -220,7 +220,7 @@ fn make_at_once<R: Threads + Sync>(
         &|place: usize| -> Result<Shard, NoMemory>
             requires { IsSync R.row × (length places.now ≡ length documents.now)
                 × IsCatalog (definitions_of indexes.now) }
-            ensures { IfOk result (IsMade (documents_seen documents.entry.now) places.entry.now
+            ensures { IfOk result (IsMade (documents_view documents.entry.now) places.entry.now
                 (definitions_of indexes.entry.now) place) }
         { make_shard(rt, alloc, documents, places, indexes, place, workers) },
     )?;
@@ -243,7 +243,7 @@ fn make_all<R: Threads + Sync>(
     requires catalog { IsCatalog (definitions_of indexes.now) }
     ensures number { IfOk result (λ v. length v.items ≡ count) }
     ensures made { IfOk result
-        (λ v. AreMade (documents_seen documents.now) places.now (definitions_of indexes.now) v.items) }
+        (λ v. AreMade (documents_view documents.now) places.now (definitions_of indexes.now) v.items) }
 {
     if workers < 2 {
         return make_in_turn(rt, alloc, documents, places, indexes, count, workers);

@@ -1,5 +1,5 @@
 ghost use Rattle.std.specs.Prelude.{◌≡◌, is_ok};
-ghost use Rattle.mg_shard.specs.Edits.{outcome_seen};
+ghost use Rattle.mg_shard.specs.Edits.{outcome_view};
 
 use mg_revtree::Rev;
 
@@ -18,7 +18,7 @@ pub enum EditReply {
 impl EditReply {
     /// Whether the edit was done. Takes no memory.
     pub fn is_done(&self) -> bool
-        ensures { result ≡ is_ok (outcome_seen self.now) }
+        ensures { result ≡ is_ok (outcome_view self.now) }
     {
         matches!(self, EditReply::Done(_))
     }

@@ -8,7 +8,7 @@ ghost use Rattle.mg_shard.specs.Own.{HasOwnId};
 ghost use Rattle.mg_shard.specs.Walk.{beyond};
 ghost use Rattle.mg_shard.specs.declared.document.Document.{Document};
 ghost use Rattle.mg_value.specs.Value.{Value};
-ghost use Rattle.mg_shard.specs.Edits.{after_edits, outcome_seen, outcomes};
+ghost use Rattle.mg_shard.specs.Edits.{after_edits, outcome_view, outcomes};
 ghost use Rattle.mg_shard.specs.Histories.{Histories};
 ghost use Rattle.mg_shard.specs.Shard.{rows_at};
 ghost use Rattle.mg_collate.specs.Row.{row_value_order};
@@ -205,7 +205,7 @@ impl Shard {
         ensures indexes { IfOk result (λ r. r.0.definitions ≡ self.now.definitions) }
         ensures replies { IfOk result
             (λ r. (hs : Histories) → StandFor self.now.documents hs
-            → map outcome_seen r.1.items ≡ outcomes hs edits.now) }
+            → map outcome_view r.1.items ≡ outcomes hs edits.now) }
     {
         let mut draft = Draft::new(alloc, self);
         let replies = draft.apply_all(alloc, edits)?;

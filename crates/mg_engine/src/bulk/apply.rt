@@ -3,10 +3,10 @@ ghost use Rattle.std.specs.Prelude.{◌≡◌, ◌<◌, IfOk, OnOk, map, length}
 ghost use Rattle.mg_shard.specs.Dealt.{DraftsStandFor, ShardsStandFor};
 ghost use Rattle.mg_shard.specs.Edits.{after_edit, after_edits, id_in, outcome_in, outcomes};
 ghost use Rattle.mg_shard.specs.Histories.{Histories};
-ghost use Rattle.mg_engine.specs.Outcomes.{reply_in, id_seen};
+ghost use Rattle.mg_engine.specs.Outcomes.{reply_in, id_view};
 ghost use Rattle.mg_engine.specs.Stands.{definitions_of};
 ghost use Rattle.mg_engine.specs.StateView.{AllFinishAs, FinishesAs, before, fresh};
-ghost use Rattle.mg_shard.specs.Shard.{shards_seen};
+ghost use Rattle.mg_shard.specs.Shard.{shards_view};
 ghost use Rattle.std.specs.Arc.{arc_value};
 
 use mg_doc::Edit;
@@ -39,14 +39,14 @@ pub(crate) fn apply_edits<P: Placement>(
 ) -> Result<(Vec<EditOutcome>, Vec<Arc<Shard>>), NoMemory>
     requires { 0 < length shards.now }
     ensures replies { IfOk result
-        (λ r. (hs : Histories) → ShardsStandFor (P.place placement.now) (shards_seen shards.now) hs
+        (λ r. (hs : Histories) → ShardsStandFor (P.place placement.now) (shards_view shards.now) hs
         → map reply_in r.0.items ≡ outcomes hs edits.items) }
-    ensures ids { IfOk result (λ r. map id_seen r.0.items ≡ map id_in edits.items) }
+    ensures ids { IfOk result (λ r. map id_view r.0.items ≡ map id_in edits.items) }
     ensures stands { IfOk result
-        (λ r. (hs : Histories) → ShardsStandFor (P.place placement.now) (shards_seen shards.now) hs
-        → ShardsStandFor (P.place placement.now) (shards_seen r.1.items) (after_edits hs edits.items)) }
+        (λ r. (hs : Histories) → ShardsStandFor (P.place placement.now) (shards_view shards.now) hs
+        → ShardsStandFor (P.place placement.now) (shards_view r.1.items) (after_edits hs edits.items)) }
     ensures definitions { IfOk result
-        (λ r. definitions_of (shards_seen r.1.items) ≡ definitions_of (shards_seen shards.now)) }
+        (λ r. definitions_of (shards_view r.1.items) ≡ definitions_of (shards_view shards.now)) }
 {
     shards_become_drafts();
     drafts_become_shards();
@@ -57,7 +57,7 @@ pub(crate) fn apply_edits<P: Placement>(
 
 // Makes a draft of each shard, in which no document is touched yet.
 fn make_drafts<'a>(alloc: Global, shards: &'a [Arc<Shard>]) -> Result<Vec<Draft<'a>>, NoMemory>
-    ensures { IfOk result (λ v. v.items ≡ map fresh (shards_seen shards.now)) }
+    ensures { IfOk result (λ v. v.items ≡ map fresh (shards_view shards.now)) }
 {
     let mut drafts = Vec::with_capacity(alloc, shards.len())?;
     for shard in shards {
@@ -77,7 +77,7 @@ fn edit_all<P: Placement>(
     ensures replies { IfOk result
         (λ v. (hs : Histories) → DraftsStandFor (P.place placement.now) drafts.old hs
         → map reply_in v.items ≡ outcomes hs edits.items) }
-    ensures ids { IfOk result (λ v. map id_seen v.items ≡ map id_in edits.items) }
+    ensures ids { IfOk result (λ v. map id_view v.items ≡ map id_in edits.items) }
     ensures stands { OnOk result ((hs : Histories) → DraftsStandFor (P.place placement.now) drafts.old hs
         → DraftsStandFor (P.place placement.now) drafts.new (after_edits hs edits.items)) }
     ensures before { OnOk result (before drafts.new ≡ before drafts.old) }
@@ -100,7 +100,7 @@ fn edit_one<P: Placement>(
     requires { 0 < length drafts.old }
     ensures reply { IfOk result (λ o. (hs : Histories) → DraftsStandFor (P.place placement.now) drafts.old hs
         → reply_in o ≡ outcome_in hs edit) }
-    ensures id { IfOk result (λ o. id_seen o ≡ id_in edit) }
+    ensures id { IfOk result (λ o. id_view o ≡ id_in edit) }
     ensures stands { OnOk result ((hs : Histories) → DraftsStandFor (P.place placement.now) drafts.old hs
         → DraftsStandFor (P.place placement.now) drafts.new (after_edit hs edit)) }
     ensures before { OnOk result (before drafts.new ≡ before drafts.old) }
@@ -120,8 +120,8 @@ fn finish_drafts(
     drafts: Vec<Draft<'_>>,
     shards: &[Arc<Shard>],
 ) -> Result<Vec<Arc<Shard>>, NoMemory>
-    requires { before drafts.items ≡ shards_seen shards.now }
-    ensures { IfOk result (λ v. AllFinishAs drafts.entry.items (shards_seen v.items)) }
+    requires { before drafts.items ≡ shards_view shards.now }
+    ensures { IfOk result (λ v. AllFinishAs drafts.entry.items (shards_view v.items)) }
 {
     let mut next_shards = Vec::with_capacity(alloc, shards.len())?;
     for draft in drafts {

@@ -4,7 +4,7 @@ ghost use Rattle.mg_value.specs.Value.{list};
 ghost use Rattle.mg_doc.specs.Document.{is_object};
 ghost use Rattle.mg_engine.specs.Prepared.{Determines};
 ghost use Rattle.mg_engine.specs.Bulk.{are_objects, bulk_of, edits_of, edits_or_refusal, of_objects, shaped};
-ghost use Rattle.mg_engine.specs.BulkView.{bulk_seen, edits_seen};
+ghost use Rattle.mg_engine.specs.BulkView.{bulk_view, edits_view};
 ghost use Rattle.mg_engine.specs.Commands.{bulk};
 ghost use Rattle.mg_engine.specs.Faults.{ReadsAs};
 
@@ -56,7 +56,7 @@ impl PreparedBulk {
 // Reads the shape of a body, and returns the bulk, whose edits are not read yet. `None` if the body is not an object, has no array `docs`,
 // has a `new_edits` that is neither true nor false, or has a document that is not an object.
 fn read_bulk(body: Part<'_>) -> Option<Bulk<'_>>
-    ensures { option_map bulk_seen result ≡ bulk_of body.entry }
+    ensures { option_map bulk_view result ≡ bulk_of body.entry }
 {
     let Some(docs) = body.member("docs") else {
         return None;
@@ -70,7 +70,7 @@ fn read_bulk(body: Part<'_>) -> Option<Bulk<'_>>
 // Makes a bulk of these documents and the member `new_edits`; if the member is absent, the edits are new. `None` if the member is neither
 // true nor false, or if a document is not an object.
 fn read_documents<'a>(documents: Array<'a>, new_edits: Option<Part<'a>>) -> Option<Bulk<'a>>
-    ensures { option_map bulk_seen result ≡ shaped (Some (list documents.entry)) new_edits.entry }
+    ensures { option_map bulk_view result ≡ shaped (Some (list documents.entry)) new_edits.entry }
 {
     let Some(new_edits) = new_edits else {
         return read_objects(true, documents);
@@ -83,7 +83,7 @@ fn read_documents<'a>(documents: Array<'a>, new_edits: Option<Part<'a>>) -> Opti
 
 // Makes a bulk of these documents. `None` if one of them is not an object.
 fn read_objects(new_edits: bool, documents: Array<'_>) -> Option<Bulk<'_>>
-    ensures { option_map bulk_seen result ≡ of_objects new_edits documents.entry }
+    ensures { option_map bulk_view result ≡ of_objects new_edits documents.entry }
 {
     if are_objects(&documents) {
         Some(Bulk {
@@ -118,7 +118,7 @@ fn is_object(value: &Part<'_>) -> bool
 // Reads the edit of each document, in order. Errors: the first fault of a document, or `NoMemory` if an allocation fails before it.
 fn read_edits(alloc: Global, new_edits: bool, documents: Array<'_>) -> Result<Vec<Edit>, Fault>
     requires { are_objects documents ≡ true }
-    ensures { ReadsAs (edits_seen new_edits) result
+    ensures { ReadsAs (edits_view new_edits) result
         (edits_or_refusal new_edits (edits_of new_edits documents.entry)) }
 {
     let count = documents.len();

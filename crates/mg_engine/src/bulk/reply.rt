@@ -4,7 +4,7 @@ ghost use Rattle.mg_value.specs.Held.{items_tokens_of, tokens_of};
 ghost use Rattle.mg_value.specs.Value.{Items, list};
 ghost use Rattle.mg_engine.specs.Bodies.{line_of};
 ghost use Rattle.mg_engine.specs.Bulk.{done_entry, entry_before, entry_of, refused_entry};
-ghost use Rattle.mg_engine.specs.Outcomes.{entries_seen, reply_in, id_seen};
+ghost use Rattle.mg_engine.specs.Outcomes.{entries_view, reply_in, id_view};
 
 use crate::body::with_line_feed;
 use crate::bulk::apply::EditOutcome;
@@ -26,7 +26,7 @@ pub(crate) fn entries_line(
     new_edits: bool,
     outcomes: &[EditOutcome],
 ) -> Result<Vec<u8>, NoMemory>
-    ensures { IfOk result (λ b. b.items ≡ line_of (list (entries_seen new_edits outcomes.now))) }
+    ensures { IfOk result (λ b. b.items ≡ line_of (list (entries_view new_edits outcomes.now))) }
 {
     let room = first_room(new_edits, outcomes.len());
     let mut out = Writer::new(Vec::with_capacity(alloc, room)?);
@@ -53,7 +53,7 @@ fn write_entries(
     out: &mut Writer,
 ) -> Result<(), NoMemory>
     ensures tokens { OnOk result (out.new.tokens
-        ≡ out.old.tokens ++ items_tokens_of (entries_seen new_edits outcomes.now)) }
+        ≡ out.old.tokens ++ items_tokens_of (entries_view new_edits outcomes.now)) }
     ensures before { OnOk result (out.new.before ≡ out.old.before) }
 {
     for outcome in outcomes {
@@ -72,7 +72,7 @@ fn write_entry(
 ) -> Result<(), NoMemory>
     ensures tokens { OnOk result ((vs : Items) → out.new.tokens ++ items_tokens_of vs
         ≡ out.old.tokens ++ items_tokens_of
-        (entry_before (entry_of new_edits (id_seen outcome.now) (reply_in outcome.now)) vs)) }
+        (entry_before (entry_of new_edits (id_view outcome.now) (reply_in outcome.now)) vs)) }
     ensures before { OnOk result (out.new.before ≡ out.old.before) }
 {
     let id = outcome.id.as_str();

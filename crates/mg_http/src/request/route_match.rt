@@ -5,7 +5,7 @@ ghost use Rattle.std.specs.Iterator.{YieldsFirstRef, item_count};
 ghost use Rattle.std.specs.List.{list_any};
 ghost use Rattle.std.specs.Option.{option_map};
 ghost use Rattle.std.specs.Cow.{cow_slice_items};
-ghost use Rattle.mg_http.specs.RouteViews.{part_seen, route_of, match_in};
+ghost use Rattle.mg_http.specs.RouteViews.{part_view, route_of, match_in};
 ghost use Rattle.mg_http.specs.Routes.{literal, routes, same_part, segments_of};
 ghost use Rattle.mg_http.specs.Segments.{segments_left};
 ghost use Rattle.mg_http.specs.Walk.{route_after, routes_after, begins_with, any_begins_with, enter, match_of, ends_here, ends_with_method};
@@ -65,7 +65,7 @@ impl<'a> Iterator for Segments<'a> {
 
 /// Whether two parts are equal.
 fn same_part(a: RouteSegment<'_>, b: RouteSegment<'_>) -> bool
-    ensures { result ≡ same_part (part_seen a.entry) (part_seen b.entry) }
+    ensures { result ≡ same_part (part_view a.entry) (part_view b.entry) }
 {
     match (a, b) {
         (RouteSegment::Literal(a), RouteSegment::Literal(b)) => a == b,
@@ -77,7 +77,7 @@ fn same_part(a: RouteSegment<'_>, b: RouteSegment<'_>) -> bool
 
 /// Returns the rest of the route after the part; `None`: the route's path does not begin with the part.
 fn route_after(route: &Route, part: RouteSegment<'_>) -> Option<Route>
-    ensures { option_map route_of result ≡ route_after (part_seen part.entry) (route_of route.now) }
+    ensures { option_map route_of result ≡ route_after (part_view part.entry) (route_of route.now) }
 {
     let (first, rest) = route.path.split_first()?;
     if same_part(*first, part) {
@@ -116,7 +116,7 @@ fn routes_after(
     part: RouteSegment<'_>,
 ) -> Result<Vec<Route>, AllocError>
     ensures { IfOk result
-        (λ v. map route_of v.items ≡ routes_after (part_seen part.entry) (map route_of routes.now)) }
+        (λ v. map route_of v.items ≡ routes_after (part_view part.entry) (map route_of routes.now)) }
 {
     let mut routes_after = Vec::new(alloc);
     for route in routes {

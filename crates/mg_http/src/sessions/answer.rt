@@ -2,7 +2,7 @@
 ghost use Rattle.std.specs.Prelude.{◌≡◌, IfOk, Err};
 ghost use Rattle.mg_value.specs.Text.{Reads};
 ghost use Rattle.mg_value.specs.Value.{Value};
-ghost use Rattle.mg_engine.specs.View.{asked};
+ghost use Rattle.mg_engine.specs.View.{command_view};
 ghost use Rattle.mg_http.specs.Session.{asked_by, HandlesBody, Handles};
 ghost use Rattle.mg_http.specs.Steps.{answer_in, request_in};
 
@@ -26,7 +26,7 @@ fn read_command(
     buffer: &mut ReadBuffer,
 ) -> Result<Command, ReadError>
     ensures ok { IfOk result
-        (λ command. (value : Value) × Reads body.now value × (asked command ≡ asked_by endpoint value)) }
+        (λ command. (value : Value) × Reads body.now value × (command_view command ≡ asked_by endpoint value)) }
     ensures not_json { result ≡ Err ReadError.NotJson → (value : Value) → ¬ (Reads body.now value) }
     ensures not_whole { result ≡ Err ReadError.NotWhole → (value : Value) → ¬ (Reads body.now value) }
 {

@@ -1,6 +1,6 @@
 ghost use Rattle.std.specs.Prelude.{◌≡◌, [], true, is_ok, if◌then◌else◌};
 ghost use Rattle.mg_engine.specs.Commands.{refused};
-ghost use Rattle.mg_engine.specs.View.{said};
+ghost use Rattle.mg_engine.specs.View.{reply_view};
 ghost use Rattle.mg_http.specs.Device.{inner_of, has_failed, WritesBytes};
 ghost use Rattle.mg_http.specs.Reply.{phrase_of, text_with, text_of, reply_text};
 ghost use Rattle.mg_http.specs.Steps.{answer_in};
@@ -95,7 +95,7 @@ pub(crate) fn write_reply<W: Write>(
     reply: &Reply,
 ) -> Result<(), IoFault>
     ensures bytes { WritesBytes (W.contents (inner_of writer.old)) (W.contents (inner_of writer.new))
-        (reply_text omits_body (said reply.now)) result }
+        (reply_text omits_body (reply_view reply.now)) result }
     ensures failed { has_failed writer.new ≡ (if is_ok result then has_failed writer.old else true) }
 {
     write_text(writer, output, omits_body, reply.status(), reply.body())

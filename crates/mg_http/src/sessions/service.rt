@@ -1,7 +1,7 @@
 ghost use denote.Param.Send.{IsSync};
 ghost use Rattle.std.specs.Prelude.{◌≡◌, ◌≤◌, Option, IfNone};
 ghost use Rattle.mg_engine.specs.Commands.{Asked, Answer};
-ghost use Rattle.mg_engine.specs.View.{asked, said};
+ghost use Rattle.mg_engine.specs.View.{command_view, reply_view};
 ghost use Rattle.mg_http.specs.Solo.{EngineAnswers};
 ghost use Rattle.mg_live.specs.SeatView.{Answered};
 
@@ -20,7 +20,7 @@ pub trait Service {
     /// Answers the command. The clause `requires` repeats the bound `Sync`, since an impl does not get the bounds of its trait's method.
     fn ask<H: Wait + Threads + Sync>(&mut self, rt: &H, alloc: Global, command: Command) -> Reply
         requires { IsSync H.row }
-        ensures { answers self.old (asked command) (said result) self.new };
+        ensures { answers self.old (command_view command) (reply_view result) self.new };
 }
 
 /// An engine for one caller, and the number of workers, 1 to 32, with which it answers.

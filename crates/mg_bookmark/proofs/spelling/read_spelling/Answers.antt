@@ -4,7 +4,7 @@ use Rattle.std.proofs.lemmas.Result.{err_from_is_err_and}
 use Rattle.mg_value.specs.Text.{Reads}
 use Rattle.mg_value.specs.View.{view}
 use Rattle.mg_bookmark.specs.Decoding.{IsDecoded}
-use Rattle.mg_bookmark.specs.Seen.{bookmark_place}
+use Rattle.mg_bookmark.specs.View.{bookmark_place}
 use Rattle.mg_bookmark.specs.declared.error.BookmarkError.TheVariants.{Invalid}
 use Rattle.mg_bookmark.proofs.Unspelled.{undecoded, unread_bytes, unread_value, unread_spelling}
 use Rattle.mg_bookmark.proofs.spelling.read_spelling.Goals as goal

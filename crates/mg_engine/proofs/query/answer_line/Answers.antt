@@ -1,7 +1,7 @@
 use Rattle.std.proofs.Common.{◌≡◌, Err, List, sym, subst}
 use Rattle.mg_index.specs.Definition.{IndexDefinition}
 use Rattle.mg_query.specs.Page.{answer_of, candidates_of, page_value}
-use Rattle.mg_query.specs.Seen.{query_seen}
+use Rattle.mg_query.specs.View.{query_view}
 use Rattle.mg_engine.specs.Commands.{shown_or_refused}
 use Rattle.mg_engine.specs.Faults.{fault_of, refusal_of_page}
 use Rattle.mg_engine.specs.Answering.{MakesAnswer}
@@ -11,7 +11,7 @@ use Rattle.mg_engine.proofs.query.answer_line.Goals as goal
 
 pub returns-in_ok-line-in-Ok : goal.returns-in_ok-line-in-Ok
 returns-in_ok-line-in-Ok g c = λ place w st whole ix.
-    let q = query_seen c.args.query.now in
+    let q = query_view c.args.query.now in
     let cs = candidates_of w.docs in
     let body = c.in_ok-line-in-Ok.line.items in
     subst (λ (ds : List IndexDefinition). shown_or_refused page_value (answer_of ds q cs) ≡ record { status = 200; body = body }) (sym ix)
@@ -19,7 +19,7 @@ returns-in_ok-line-in-Ok g c = λ place w st whole ix.
 
 pub returns-in-Err : goal.returns-in-Err
 returns-in-Err g c = λ place w st whole ix.
-    let q = query_seen c.args.query.now in
+    let q = query_view c.args.query.now in
     let cs = candidates_of w.docs in
     let fault = c.in-Err.fault in
     subst (λ (f : Fault). MakesAnswer (Err f) (shown_or_refused page_value (answer_of w.indexes q cs))) (sym c.from.ensures)

@@ -1,6 +1,6 @@
 use Rattle.std.proofs.Common.{List, sym, subst}
 use Rattle.mg_shard.specs.Dealt.{ShardsStandFor}
-use Rattle.mg_shard.specs.Shard.{ShardView, shards_seen}
+use Rattle.mg_shard.specs.Shard.{ShardView, shards_view}
 use Rattle.mg_engine.specs.Stands.{HaveRows}
 use Rattle.mg_engine.proofs.Indexes.{each_has, have_rows}
 use Rattle.mg_engine.proofs.reshard.deal_shards.Goals as goal
@@ -11,5 +11,5 @@ returns-clause-stands g c = λ hs h.
 
 pub returns-clause-rows : goal.returns-clause-rows
 returns-clause-rows g c = λ ds some h.
-    let dealt = c.in_ok-dealt.ensures.indexes ds some (each_has ds (shards_seen c.args.shards.now) h) in
+    let dealt = c.in_ok-dealt.ensures.indexes ds some (each_has ds (shards_view c.args.shards.now) h) in
     subst (λ (ss : List ShardView). HaveRows ds ss) (sym c.in_ok-shards.ensures) (have_rows ds c.in_ok-dealt.dealt.items dealt)

@@ -1,6 +1,6 @@
 use Rattle.std.proofs.Common.{◌≤◌, length, subst, sym, ◌∙◌}
 use Rattle.mg_machine.specs.Laws.{IsPrefix}
-use Rattle.mg_live.specs.View.{commits_seen}
+use Rattle.mg_live.specs.View.{commits_view}
 use Rattle.mg_live.specs.SeatView.{SeatView}
 use Rattle.mg_machine.proofs.Beginnings.{in_turn}
 use Rattle.mg_live.proofs.Prefixes.{below_one_more}
@@ -11,7 +11,7 @@ loop-seat-preserved g c =
     let l = c.loop-seat in
     let made = c.args.made in
     let more = c.longer-longest in
-    let long = commits_seen more.result.seen.log in
+    let long = commits_view more.result.seen.log in
     let item : length c.seat-item.result.seen ≤ made = subst (λ (s : SeatView). length s.seen ≤ made) (sym c.seat-item.is) (c.requires.within l.seat-index c.seat-item.result c.loop-seat-test.true) in
     let seat = subst (λ (s : SeatView). length s.seen ≤ made) (sym c.seat.view_is) item in
     let this = subst (λ (s : SeatView). IsPrefix s.seen long) c.seat.view_is more.ensures.other in

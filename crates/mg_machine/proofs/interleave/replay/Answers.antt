@@ -1,7 +1,7 @@
 use Rattle.std.proofs.Common.{◌+◌, sym, subst, ◌∙◌, take}
 use Rattle.mg_machine.specs.Machine.{machine_after, opened}
 use Rattle.mg_machine.specs.Seats.{SeatsStandFor}
-use Rattle.mg_machine.specs.View.{event_seen, events_seen}
+use Rattle.mg_machine.specs.View.{event_view, events_view}
 use Rattle.mg_machine.proofs.Replies.{event_at, machine_more, said_more, seen_all, seen_more, some_more}
 use Rattle.mg_machine.proofs.interleave.replay.Goals as goal
 
@@ -15,9 +15,9 @@ loop-event-preserved g c =
     let l = c.loop-event in
     let db = c.args.db.now in
     let start = opened c.args.seats in
-    let done = events_seen (take l.event-index c.args.events.now) in
-    let longer = events_seen (take (l.event-index + 1) c.args.events.now) in
-    let event = event_seen c.event-item.result in
+    let done = events_view (take l.event-index c.args.events.now) in
+    let longer = events_view (take (l.event-index + 1) c.args.events.now) in
+    let event = event_view c.event-item.result in
     let more = seen_more c.args.events.now l.event-index c.event-item.result c.loop-event-test.true c.event-item.is in
     let did = c.in_ok-reply.ensures.follow db (machine_after db start done) l.invariant.follow in
     let pushed = c.in_ok-push.ensures.items in

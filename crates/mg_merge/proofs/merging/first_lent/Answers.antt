@@ -1,14 +1,14 @@
 use Rattle.std.proofs.Common.{◌≡◌, ◌∷◌, IfOk, IfSome, All, take, ap, refl, subst, sym, ◌∙◌, arith}
 use Rattle.mg_collate.specs.Sorted.{sorted}
 use Rattle.mg_merge.specs.Merged.{IsInOrderBy, contents_of, joined, order_by}
-use Rattle.mg_merge.specs.Remaining.{lent_of, remaining_of}
+use Rattle.mg_merge.specs.Remaining.{lent_view, remaining_of}
 use Rattle.mg_merge.proofs.Heads.{one_list, one_more_lent}
 use Rattle.mg_merge.proofs.Rows.{by_total}
 use Rattle.mg_merge.proofs.merging.first_lent.Goals as goal
 
 pub returns-then-lists-eq1 : goal.returns-then-lists-eq1
 returns-then-lists-eq1 g c =
-    subst (λ items. IfOk c.first_of_one.result (λ lent. lent_of lent.items ≡ items))
+    subst (λ items. IfOk c.first_of_one.result (λ lent. lent_view lent.items ≡ items))
     (ap (take c.args.take) c.as_slice.ensures.value ∙ one_list (order_by g.T.Ranked.row_of c.args.direction) (by_total g.T.Ranked.row_of c.args.direction) c.args.lists.now c.index-lists-0.result c.args.take (omega arith) c.index-lists-0.is c.requires) c.first_of_one.ensures
 
 pub loop-direction-init : goal.loop-direction-init

@@ -1,7 +1,7 @@
 use Rattle.std.proofs.Common.{ap, ◌∙◌}
 use Rattle.mg_collate.specs.Row.{row_view, rows_view}
 use Rattle.mg_merge.specs.Merged.{contents_of, merged}
-use Rattle.mg_merge.specs.Remaining.{lent_of}
+use Rattle.mg_merge.specs.Remaining.{lent_view}
 use Rattle.mg_merge.proofs.Rows.{all_by_rows, rows_of_merged, views}
 use Rattle.mg_merge.proofs.merging.merge.Goals as goal
 
@@ -10,5 +10,5 @@ first_lent-requires c = all_by_rows c.args.direction c.args.lists.now c.requires
 
 pub returns-clause-rows : goal.returns-clause-rows
 returns-clause-rows c =
-    c.in_ok-rows.ensures ∙ ap (λ l. rows_view (lent_of l)) c.deref.ensures.value ∙ ap rows_view c.in_ok-lent.ensures
+    c.in_ok-rows.ensures ∙ ap (λ l. rows_view (lent_view l)) c.deref.ensures.value ∙ ap rows_view c.in_ok-lent.ensures
     ∙ rows_of_merged row_view c.args.direction c.args.take (contents_of c.args.lists.now) ∙ ap (merged c.args.direction c.args.take) (views c.args.lists.now)

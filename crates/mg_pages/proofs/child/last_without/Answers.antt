@@ -8,7 +8,7 @@ use Rattle.mg_pages.proofs.child.last_without.Goals as goal
 pub returns-then-is_lt : goal.returns-then-is_lt
 returns-then-is_lt g c = λ n.
     let key = g.Q.Probe.against c.args.key.now in
-    let xs = g.P.Subtree.seen c.args.part.now in
+    let xs = g.P.Subtree.view c.args.part.now in
     let l = c.args.last.now in
     let lt = less_from_test (key l) (sym (c.is_lt.ensures ∙ ap is_lt c.against.ensures) ∙ c.if-is_lt.true) in
     subst (λ x. IsLast x (removed key xs)) (sym c.in_ok-kept.ensures) (removed_below_last key l xs c.requires.last lt)
@@ -16,7 +16,7 @@ returns-then-is_lt g c = λ n.
 pub returns-then-run-gt0 : goal.returns-then-run-gt0
 returns-then-run-gt0 g c = λ n.
     let key = g.Q.Probe.against c.args.key.now in
-    let xs = g.P.Subtree.seen c.args.part.now in
+    let xs = g.P.Subtree.view c.args.part.now in
     let l = c.args.last.now in
     let not : is_lt (key l) ≡ false = sym (c.is_lt.ensures ∙ ap is_lt c.against.ensures) ∙ c.if-is_lt.false in
     let rest = removed_at_last key l xs c.requires.last g.T.Keyed.order (g.met.Q.Probe.probes c.args.key.now) c.requires.sorted not in
@@ -26,7 +26,7 @@ returns-then-run-gt0 g c = λ n.
 pub returns : goal.returns
 returns g c = λ n.
     let key = g.Q.Probe.against c.args.key.now in
-    let xs = g.P.Subtree.seen c.args.part.now in
+    let xs = g.P.Subtree.view c.args.part.now in
     let l = c.args.last.now in
     let not : is_lt (key l) ≡ false = sym (c.is_lt.ensures ∙ ap is_lt c.against.ensures) ∙ c.if-is_lt.false in
     let rest = removed_at_last key l xs c.requires.last g.T.Keyed.order (g.met.Q.Probe.probes c.args.key.now) c.requires.sorted not in

@@ -1,7 +1,7 @@
 use Rattle.std.proofs.Common.{◌++◌, ap, ◌∙◌}
 use Rattle.std.specs.List.{flat_map}
-use Rattle.mg_pages.specs.Parts.{children, child_seen, node_value, level_seen, page_seen}
-use Rattle.mg_pages.specs.Runs.{lent_elements}
+use Rattle.mg_pages.specs.Parts.{children, child_view, node_value, level_view, page_view}
+use Rattle.mg_pages.specs.Runs.{elements_view}
 use Rattle.mg_pages.proofs.Built.{lent_more}
 use Rattle.mg_pages.proofs.Children.{part_at, within_children}
 use Rattle.mg_pages.proofs.runs.add_lows.Goals as goal
@@ -12,5 +12,5 @@ loop-child-preserved g c =
     let i = c.loop-child.child-index in
     let node = c.deref-node.result.now in
     let at = part_at xs i c.child-item.result node c.loop-child-test.true c.child-item.is c.deref-node.ensures in
-    lent_more (child_seen (level_seen page_seen)) (children xs) i (node_value node) (lent_elements c.args.runs.now.items) (lent_elements c.loop-child.runs.items) _ (within_children xs i c.loop-child-test.true) at c.loop-child.invariant (
-    c.in_ok-add_pages.ensures ∙ ap (λ us. lent_elements c.loop-child.runs.items ++ flat_map (child_seen page_seen) (children us)) c.deref.ensures.value)
+    lent_more (child_view (level_view page_view)) (children xs) i (node_value node) (elements_view c.args.runs.now.items) (elements_view c.loop-child.runs.items) _ (within_children xs i c.loop-child-test.true) at c.loop-child.invariant (
+    c.in_ok-add_pages.ensures ∙ ap (λ us. elements_view c.loop-child.runs.items ++ flat_map (child_view page_view) (children us)) c.deref.ensures.value)

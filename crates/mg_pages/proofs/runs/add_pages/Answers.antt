@@ -1,7 +1,7 @@
 use Rattle.std.proofs.Common.{[], ◌∷◌, ◌++◌, ap, ◌∙◌, append-nil}
 use Rattle.std.proofs.lemmas.List.Concat.{flat_map-append}
-use Rattle.mg_pages.specs.Parts.{children, child_seen, node_value, page_seen}
-use Rattle.mg_pages.specs.Runs.{lent_elements}
+use Rattle.mg_pages.specs.Parts.{children, child_view, node_value, page_view}
+use Rattle.mg_pages.specs.Runs.{elements_view}
 use Rattle.mg_pages.proofs.Built.{lent_more}
 use Rattle.mg_pages.proofs.Children.{part_at, within_children}
 use Rattle.mg_pages.proofs.runs.add_pages.Goals as goal
@@ -12,6 +12,6 @@ loop-child-preserved g c =
     let i = c.loop-child.child-index in
     let node = c.deref-node.result.now in
     let at = part_at xs i c.child-item.result node c.loop-child-test.true c.child-item.is c.deref-node.ensures in
-    lent_more (child_seen page_seen) (children xs) i (node_value node) (lent_elements c.args.runs.now.items) (lent_elements c.loop-child.runs.items) _ (within_children xs i c.loop-child-test.true) at c.loop-child.invariant (
-    ap lent_elements c.in_ok-push.ensures.items ∙ flat_map-append _ c.loop-child.runs.items (c.as_slice.result ∷ [])
-    ∙ ap (λ us. lent_elements c.loop-child.runs.items ++ us) (append-nil c.as_slice.result.now ∙ c.as_slice.ensures.value))
+    lent_more (child_view page_view) (children xs) i (node_value node) (elements_view c.args.runs.now.items) (elements_view c.loop-child.runs.items) _ (within_children xs i c.loop-child-test.true) at c.loop-child.invariant (
+    ap elements_view c.in_ok-push.ensures.items ∙ flat_map-append _ c.loop-child.runs.items (c.as_slice.result ∷ [])
+    ∙ ap (λ us. elements_view c.loop-child.runs.items ++ us) (append-nil c.as_slice.result.now ∙ c.as_slice.ensures.value))

@@ -4,15 +4,15 @@ use Rattle.mg_bookmark.specs.Bookmark.{spelled}
 use Rattle.mg_scan.specs.Hit.{hit_row}
 use Rattle.mg_query.specs.Page.{Candidate, bookmark_after, source_columns, ddoc_of, name_of}
 use Rattle.mg_query.specs.Lent.{LendEach}
-use Rattle.mg_query.specs.Seen.{query_seen}
-use Rattle.mg_query.specs.Served.{source_seen}
+use Rattle.mg_query.specs.View.{query_view}
+use Rattle.mg_query.specs.Served.{source_view}
 use Rattle.mg_query.proofs.Showing.{bookmark_last, ok_weaker}
 use Rattle.mg_query.proofs.answer.last_bookmark.Goals as goal
 
 pub returns-in-Some : goal.returns-in-Some
 returns-in-Some c =
-    let q = query_seen c.args.query.now in
-    let s = source_seen c.args.source in
+    let q = query_view c.args.query.now in
+    let s = source_view c.args.source in
     let hit = c.in-Some.hit.now in
     ok_weaker c.bookmark_at.result
     (λ t. string_bytes t ≡ spelled (record { ddoc = ddoc_of s; name = name_of s; direction = q.direction; key = (hit_row hit).0; id = (hit_row hit).1 }))

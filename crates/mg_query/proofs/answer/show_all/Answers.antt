@@ -3,13 +3,13 @@ use Rattle.std.proofs.lemmas.List.{map-append}
 use Rattle.mg_value.specs.View.{view}
 use Rattle.mg_shard.specs.Documents.{kept_of}
 use Rattle.mg_query.specs.Page.{shown_of}
-use Rattle.mg_query.specs.Seen.{query_seen}
+use Rattle.mg_query.specs.View.{query_view}
 use Rattle.mg_query.proofs.Showing.{shown_all, shown_hit, shown_more}
 use Rattle.mg_query.proofs.answer.show_all.Goals as goal
 
 pub loop-hit-preserved : goal.loop-hit-preserved
 loop-hit-preserved c = λ columns cs l.
-    let q = query_seen c.args.query.now in
+    let q = query_view c.args.query.now in
     let i = c.loop-hit.hit-index in
     let hit = c.hit-item.result in
     let doc = view c.in_ok-doc.doc in
@@ -20,4 +20,4 @@ loop-hit-preserved c = λ columns cs l.
 
 pub returns : goal.returns
 returns c = λ columns cs l.
-    shown_all (query_seen c.args.query.now) columns c.args.hits.now cs c.loop-hit.hit-index (map view c.loop-hit.docs.items) l c.loop-hit-test.false (c.loop-hit.invariant columns cs l)
+    shown_all (query_view c.args.query.now) columns c.args.hits.now cs c.loop-hit.hit-index (map view c.loop-hit.docs.items) l c.loop-hit-test.false (c.loop-hit.invariant columns cs l)

@@ -1,9 +1,9 @@
 use Rattle.std.proofs.Common.{◌∙◌}
 use Rattle.mg_normal.specs.Atoms.{atoms_of}
-use Rattle.mg_shard.specs.Shard.{shards_seen}
+use Rattle.mg_shard.specs.Shard.{shards_view}
 use Rattle.mg_query.specs.Page.{source_columns}
-use Rattle.mg_query.specs.Seen.{query_seen}
-use Rattle.mg_query.specs.Served.{source_seen}
+use Rattle.mg_query.specs.View.{query_view}
+use Rattle.mg_query.specs.Served.{source_view}
 use Rattle.mg_query.proofs.Handed.{rows_merged}
 use Rattle.mg_query.proofs.Indexed.{listed_in_each}
 use Rattle.mg_query.proofs.Lent.{lend_first}
@@ -15,17 +15,17 @@ pub page_hits-requires-after_bounds : goal.page_hits-requires-after_bounds
 page_hits-requires-after_bounds g c = λ κs within. record {
   plan = c.in_ok-plan.ensures.plan;
   range = c.in_ok-range.ensures;
-  listed = listed_in_each c.args.catalog.now (source_seen c.in_ok-plan.plan.source) (shards_seen c.args.shards.now) c.in_ok-plan.ensures.listed c.definitions_are_catalogs.ensures c.requires.indexes;
+  listed = listed_in_each c.args.catalog.now (source_view c.in_ok-plan.plan.source) (shards_view c.args.shards.now) c.in_ok-plan.ensures.listed c.definitions_are_catalogs.ensures c.requires.indexes;
 }
 
 pub returns-clause-hits : goal.returns-clause-hits
 returns-clause-hits g c = λ place hs stands whole.
-    let q = query_seen c.args.query.now in
+    let q = query_view c.args.query.now in
     let ds = c.args.catalog.now in
     let plan = c.in_ok-plan.plan in
-    let s = source_seen plan.source in
+    let s = source_view plan.source in
     let columns = source_columns s in
-    let shards = shards_seen c.args.shards.now in
+    let shards = shards_view c.args.shards.now in
     let hits = c.in_ok-hits.hits.items in
     let first = c.in_ok-hits.ensures in
     let usable = choice_usable ds (atoms_of q.selector) q.sort q.hint s (choice_served ds q s c.in_ok-plan.ensures.answers) in

@@ -4,13 +4,13 @@ use Rattle.mg_value.specs.Text.{compact}
 use Rattle.mg_value.specs.Value.{list}
 use Rattle.mg_value.specs.View.{items_of}
 use Rattle.mg_query.specs.Page.{shown_of}
-use Rattle.mg_query.specs.Seen.{query_seen}
+use Rattle.mg_query.specs.View.{query_view}
 use Rattle.mg_query.proofs.Showing.{before_docs, before_mark, page_parts}
 use Rattle.mg_query.proofs.text.text_with.Goals as goal
 
 pub returns : goal.returns
 returns c = λ columns cs l.
-    let docs = map (shown_of (query_seen c.args.query.now)) cs in
+    let docs = map (shown_of (query_view c.args.query.now)) cs in
     let mark = c.args.bookmark.now in
     c.in_ok-push.ensures.items
     ∙ ap (λ t. t ++ 125 ∷ [])

@@ -4,13 +4,13 @@ use Rattle.mg_index.specs.Definition.{Steps}
 use Rattle.mg_scan.specs.Hit.{hit_text}
 use Rattle.mg_query.specs.Page.{Candidate, shown_of}
 use Rattle.mg_query.specs.Lent.{Lends}
-use Rattle.mg_query.specs.Seen.{query_seen}
+use Rattle.mg_query.specs.View.{query_view}
 use Rattle.mg_query.proofs.Showing.{ok_weaker, shown_whole}
 use Rattle.mg_query.proofs.text.with_document.Goals as goal
 
 pub returns-then-is_shown_whole : goal.returns-then-is_shown_whole
 returns-then-is_shown_whole c =
-    let q = query_seen c.args.query.now in
+    let q = query_view c.args.query.now in
     ok_weaker c.with_kept.result
     (λ b. b.items ≡ c.args.out.items ++ hit_text c.args.hit.now)
     (λ b. (columns : List Steps) (x : Candidate) → Lends columns c.args.hit.now x → b.items ≡ c.args.out.items ++ compact (shown_of q x))

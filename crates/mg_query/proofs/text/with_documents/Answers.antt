@@ -3,13 +3,13 @@ use Rattle.mg_value.specs.Text.{compact}
 use Rattle.mg_value.specs.Value.{list}
 use Rattle.mg_value.specs.View.{items_of}
 use Rattle.mg_query.specs.Page.{shown_of}
-use Rattle.mg_query.specs.Seen.{query_seen}
+use Rattle.mg_query.specs.View.{query_view}
 use Rattle.mg_query.proofs.Showing.{text_all, text_more}
 use Rattle.mg_query.proofs.text.with_documents.Goals as goal
 
 pub loop-place-preserved : goal.loop-place-preserved
 loop-place-preserved c = λ columns cs l.
-    let q = query_seen c.args.query.now in
+    let q = query_view c.args.query.now in
     let i = c.loop-place.place in
     text_more q columns c.args.hits.now cs i c.index-hits-place.result (c.args.out.items ++ compact (list (items_of (map (shown_of q) cs)))) c.loop-place.out.items (cond (nat_lt 0 i) (44 ∷ []) []) c.in_ok-out.out.items l
     c.loop-place-test.true c.index-hits-place.is refl
@@ -18,6 +18,6 @@ loop-place-preserved c = λ columns cs l.
 
 pub returns : goal.returns
 returns c = λ columns cs l.
-    let q = query_seen c.args.query.now in
+    let q = query_view c.args.query.now in
     c.in_ok-push-2.ensures.items
     ∙ text_all q columns c.args.hits.now cs c.loop-place.place (c.args.out.items ++ compact (list (items_of (map (shown_of q) cs)))) c.loop-place.out.items l c.loop-place-test.false (c.loop-place.invariant columns cs l)

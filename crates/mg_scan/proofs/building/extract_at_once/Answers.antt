@@ -4,7 +4,7 @@ use Rattle.std.proofs.Crossing.{crosses}
 use Rattle.std.proofs.MapsCrossing.{crosses as maps}
 use Rattle.mg_pages.proofs.pages.Pages.TheSendSync as pages
 use Rattle.mg_rows.proofs.row.RowBytes.TheSendSync as rows
-use Rattle.mg_shard.specs.Shard.{shards_seen}
+use Rattle.mg_shard.specs.Shard.{shards_view}
 use Rattle.mg_scan.proofs.Builds.{rows-called}
 use Rattle.mg_scan.proofs.Lent.{build_sync}
 use Rattle.mg_scan.proofs.building.extract_at_once.Goals as goal
@@ -18,5 +18,5 @@ map_from_one_thread-requires-sync-F g c κs within = record { shared = (build_sy
 
 pub returns-clause-rows : goal.returns-clause-rows
 returns-clause-rows g c =
-    rows-called c.args.definition.now (shards_seen c.args.shards.now) c.args.from c.args.count c.in_ok-rows.rows.items (sym c.in_ok-rows.rows.ok.0 ∙ c.in_ok-rows.ensures.len)
+    rows-called c.args.definition.now (shards_view c.args.shards.now) c.args.from c.args.count c.in_ok-rows.rows.items (sym c.in_ok-rows.rows.ok.0 ∙ c.in_ok-rows.ensures.len)
     (λ i r less. (c.in_ok-rows.ensures.each i r less).1.met)

@@ -3,7 +3,7 @@ use Rattle.std.proofs.Crossing.{crosses}
 use Rattle.std.proofs.MapsCrossing.{crosses as maps}
 use Rattle.mg_packed.proofs.written.Written.TheSendSync as written
 use Rattle.mg_rows.proofs.row.RowBytes.TheSendSync as rows
-use Rattle.mg_shard.specs.Shard.{shards_seen}
+use Rattle.mg_shard.specs.Shard.{shards_view}
 use Rattle.mg_shard.proofs.Crossing.{document_sync}
 use Rattle.mg_scan.proofs.Lent.{scan_sync}
 use Rattle.mg_scan.proofs.Maps.{zip_documents, zip_rows}
@@ -17,7 +17,7 @@ pub map_from_one_thread-requires-sync-F : goal.map_from_one_thread-requires-sync
 map_from_one_thread-requires-sync-F g c κs within = record { shared = (scan_sync _ _ _ _ _ _ c.type_bounds.sync-G).shared }
 
 pub returns-clause-rows : goal.returns-clause-rows
-returns-clause-rows g c = zip_rows _ (shards_seen c.args.shards.now) c.in_ok-lists.lists.items c.in_ok-lists.ensures
+returns-clause-rows g c = zip_rows _ (shards_view c.args.shards.now) c.in_ok-lists.lists.items c.in_ok-lists.ensures
 
 pub returns-clause-hits : goal.returns-clause-hits
-returns-clause-hits g c = zip_documents _ (shards_seen c.args.shards.now) c.in_ok-lists.lists.items c.in_ok-lists.ensures
+returns-clause-hits g c = zip_documents _ (shards_view c.args.shards.now) c.in_ok-lists.lists.items c.in_ok-lists.ensures

@@ -13,8 +13,8 @@ read_argument-returns-else-is_empty t c =
     let v = view c.args.value.now in
     let inner = of_object v in
     let some : length c.in-Object.members.entries ≡ 0 → ⊥ = search rules in
-    let seen = ap view c.in-Object.is ∙ view-Object c.in-Object.members in
-    subst (ReadsAs selector_of c.read_object.result) (sym (ap (λ x. argument x inner) seen ∙ argument-object c.in-Object.members.entries inner some)) c.read_object.ensures
+    let item_view = ap view c.in-Object.is ∙ view-Object c.in-Object.members in
+    subst (ReadsAs selector_of c.read_object.result) (sym (ap (λ x. argument x inner) item_view ∙ argument-object c.in-Object.members.entries inner some)) c.read_object.ensures
 
 pub read_items-loop-item-preserved : goal.read_items-loop-item-preserved
 read_items-loop-item-preserved t c =

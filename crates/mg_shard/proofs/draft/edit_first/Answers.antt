@@ -4,7 +4,7 @@ use Rattle.mg_doc.specs.Applied.{refusal_in}
 use Rattle.mg_doc.specs.Document.{Edit}
 use Rattle.mg_doc.specs.Edit.{first_refusal, outcome_of}
 use Rattle.mg_shard.specs.Draft.{TouchedStandFor, Touches, touched_of}
-use Rattle.mg_shard.specs.Edits.{first_refusal_in, id_in, outcome_seen}
+use Rattle.mg_shard.specs.Edits.{first_refusal_in, id_in, outcome_view}
 use Rattle.mg_shard.specs.Histories.{Histories, history_at}
 use Rattle.mg_shard.proofs.Touched.{first_stands, known_stands, not_foreseen, reply_refused, reply_stands, tree_before}
 use Rattle.mg_shard.proofs.draft.edit_first.Goals as goal
@@ -49,7 +49,7 @@ returns-in-Ok-Ready-clause-stands c = λ hs st.
     let h = history_at hs (id_in e) in
     let tree = tree_before ds ts e c.id_in.result.now c.id_in.ensures c.new-empty.result c.tree_or-before.result.now c.tree_or-before.ensures c.requires hs c.new-empty.ensures st in
     let same = rw c.in-Ok-Ready.field-0-is at c.in-Ok-Ready.ensures.edit in
-    let r = outcome_seen c.in_ok-touch-in-Ok-Ready.field-0 in
+    let r = outcome_view c.in_ok-touch-in-Ok-Ready.field-0 in
     let P : Edit → Type 0 = λ x. Touches h x r ts us in
     first_stands ds ts us hs e r (c.in_ok-touch-in-Ok-Ready.ensures.outcome h tree ∙ ap (outcome_of h) same) (subst P same (c.in_ok-touch-in-Ok-Ready.ensures.touched h tree)) st
 
@@ -59,7 +59,7 @@ returns-clause-outcome c = λ hs st.
     let e = c.args.edit in
     let h = history_at hs (id_in e) in
     let tree = tree_before c.args.shard.now.documents ts e c.id_in.result.now c.id_in.ensures c.new-empty.result c.tree_or-before.result.now c.tree_or-before.ensures c.requires hs c.new-empty.ensures st in
-    (reply_refused h e (refusal_in c.in-Err.error) (outcome_seen c.in_ok-reply_of-in-Err.field-0) c.in_ok-reply_of-in-Err.ensures.reply (c.in-Err.ensures.foreseen h tree)).0
+    (reply_refused h e (refusal_in c.in-Err.error) (outcome_view c.in_ok-reply_of-in-Err.field-0) c.in_ok-reply_of-in-Err.ensures.reply (c.in-Err.ensures.foreseen h tree)).0
 
 pub returns-clause-stands : goal.returns-clause-stands
 returns-clause-stands c = λ hs st.
@@ -67,7 +67,7 @@ returns-clause-stands c = λ hs st.
     let ts = touched_of c.args.touched.now.entries in
     let e = c.args.edit in
     let tree = tree_before ds ts e c.id_in.result.now c.id_in.ensures c.new-empty.result c.tree_or-before.result.now c.tree_or-before.ensures c.requires hs c.new-empty.ensures st in
-    reply_stands ds ts hs e (refusal_in c.in-Err.error) (outcome_seen c.in_ok-reply_of-in-Err.field-0) c.in_ok-reply_of-in-Err.ensures.reply (c.in-Err.ensures.foreseen (history_at hs (id_in e)) tree) st
+    reply_stands ds ts hs e (refusal_in c.in-Err.error) (outcome_view c.in_ok-reply_of-in-Err.field-0) c.in_ok-reply_of-in-Err.ensures.reply (c.in-Err.ensures.foreseen (history_at hs (id_in e)) tree) st
 
 pub returns-in_err-touch-in-Ok-Ready-clause-foreseen : goal.returns-in_err-touch-in-Ok-Ready-clause-foreseen
 returns-in_err-touch-in-Ok-Ready-clause-foreseen c = on_err_when {P = (hs : Histories) → TouchedStandFor c.args.shard.now.documents (touched_of c.args.touched.now.entries) hs → first_refusal_in hs c.args.edit ≡ None} c.from_residual.result (λ hs st.

@@ -5,7 +5,7 @@ use Rattle.mg_revtree.specs.Tree.{StandsFor}
 use Rattle.mg_doc.specs.Applied.{refusal_in}
 use Rattle.mg_doc.specs.Document.{Edit}
 use Rattle.mg_doc.specs.Edit.{edited, first_refusal, outcome_of}
-use Rattle.mg_shard.specs.Edits.{outcome_seen}
+use Rattle.mg_shard.specs.Edits.{outcome_view}
 use Rattle.mg_shard.proofs.Touched.{not_foreseen, refused_tree, reply_refused}
 use Rattle.mg_shard.proofs.draft.edit_tree.Goals as goal
 
@@ -38,11 +38,11 @@ returns-in_err-apply_ready-in-Ok-Ready-clause-foreseen c = on_err_when {P = (h :
 
 pub returns-in_ok-reply_of-in-Err-clause-outcome : goal.returns-in_ok-reply_of-in-Err-clause-outcome
 returns-in_ok-reply_of-in-Err-clause-outcome c = λ h st.
-    (reply_refused h c.args.edit (refusal_in c.in-Err.error) (outcome_seen c.in_ok-reply_of-in-Err.field-0) c.in_ok-reply_of-in-Err.ensures.reply (c.in-Err.ensures.foreseen h st)).0
+    (reply_refused h c.args.edit (refusal_in c.in-Err.error) (outcome_view c.in_ok-reply_of-in-Err.field-0) c.in_ok-reply_of-in-Err.ensures.reply (c.in-Err.ensures.foreseen h st)).0
 
 pub returns-in_ok-reply_of-in-Err-clause-stands : goal.returns-in_ok-reply_of-in-Err-clause-stands
 returns-in_ok-reply_of-in-Err-clause-stands c = λ h st.
-    (refused_tree h c.args.edit (refusal_in c.in-Err.error) (outcome_seen c.in_ok-reply_of-in-Err.field-0) c.args.tree.now c.args.tree.now c.in_ok-reply_of-in-Err.ensures.reply
+    (refused_tree h c.args.edit (refusal_in c.in-Err.error) (outcome_view c.in_ok-reply_of-in-Err.field-0) c.args.tree.now c.args.tree.now c.in_ok-reply_of-in-Err.ensures.reply
     (c.in-Err.ensures.foreseen h st) refl st).1
 
 pub returns-in_err-reply_of-in-Err-clause-foreseen : goal.returns-in_err-reply_of-in-Err-clause-foreseen

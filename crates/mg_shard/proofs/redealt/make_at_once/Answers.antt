@@ -3,7 +3,7 @@ use Rattle.std.proofs.Common.{sym, ◌∙◌}
 use Rattle.std.proofs.Crossing.{crosses}
 use Rattle.std.proofs.MapsCrossing.{crosses as maps}
 use Rattle.mg_shard.specs.Index.{definitions_of}
-use Rattle.mg_shard.specs.Redealt.{IsMade, documents_seen}
+use Rattle.mg_shard.specs.Redealt.{IsMade, documents_view}
 use Rattle.mg_shard.proofs.Crossing.{shard_send}
 use Rattle.mg_shard.proofs.Together.{shards_together}
 use Rattle.mg_shard.proofs.redealt.make_at_once.Goals as goal
@@ -14,12 +14,12 @@ map_indices-requires-send-X g c κs within = search (sendable, crosses, maps, sh
 
 pub returns-clause-number : goal.returns-clause-number
 returns-clause-number g c =
-    let P = IsMade (documents_seen c.args.documents.now) c.args.places.now (definitions_of c.args.indexes.now) in
+    let P = IsMade (documents_view c.args.documents.now) c.args.places.now (definitions_of c.args.indexes.now) in
     (shards_together P c.args.count c.in_ok-results.results.items c.in_ok-shards.shards.items (sym c.in_ok-results.results.ok.0 ∙ c.in_ok-results.ensures.len)
     (λ i r less. (c.in_ok-results.ensures.each i r less).1.met) c.in_ok-shards.ensures).0
 
 pub returns-clause-made : goal.returns-clause-made
 returns-clause-made g c =
-    let P = IsMade (documents_seen c.args.documents.now) c.args.places.now (definitions_of c.args.indexes.now) in
+    let P = IsMade (documents_view c.args.documents.now) c.args.places.now (definitions_of c.args.indexes.now) in
     (shards_together P c.args.count c.in_ok-results.results.items c.in_ok-shards.shards.items (sym c.in_ok-results.results.ok.0 ∙ c.in_ok-results.ensures.len)
     (λ i r less. (c.in_ok-results.ensures.each i r less).1.met) c.in_ok-shards.ensures).1

@@ -4,7 +4,7 @@ use Rattle.std.specs.Vec.Iter.{into_iter_items}
 use Rattle.mg_doc.specs.Document.{Edit}
 use Rattle.mg_shard.specs.Dealt.{DraftsStandFor}
 use Rattle.mg_shard.specs.Edits.{after_edit, after_edits, id_in, outcomes}
-use Rattle.mg_engine.specs.Outcomes.{reply_in, id_seen}
+use Rattle.mg_engine.specs.Outcomes.{reply_in, id_view}
 use Rattle.mg_engine.specs.declared.bulk.apply.EditOutcome.{EditOutcome}
 use Rattle.mg_engine.proofs.Editing.{nothing, same_number}
 use Rattle.mg_engine.proofs.bulk.apply.edit_all.Goals as goal
@@ -20,7 +20,7 @@ loop-edit-init g c =
       can_next = tt;
       is_finite = tt;
       some = c.requires;
-      ids = sym (ap₂ (λ (os : List EditOutcome) (es : List Edit). map id_seen os ++ map id_in es) none all);
+      ids = sym (ap₂ (λ (os : List EditOutcome) (es : List Edit). map id_view os ++ map id_in es) none all);
       before = refl;
       goes_on = λ hs st. (hs, st, ap (after_edits hs) (sym all), sym (ap₂ (λ (os : List EditOutcome) (es : List Edit). map reply_in os ++ outcomes hs es) none all));
     }
@@ -37,8 +37,8 @@ loop-edit-preserved g c =
       can_next = tt;
       is_finite = tt;
       some = subst (λ n. 0 < n) (sym (same_number _ _ c.in_ok-outcome.ensures.before)) l.invariant.some;
-      ids = l.invariant.ids ∙ ap (λ (es : List Edit). map id_seen made ++ map id_in es) step ∙ ap (λ i. map id_seen made ++ i ∷ map id_in rest) (sym c.in_ok-outcome.ensures.id)
-          ∙ sym (ap (λ (os : List EditOutcome). map id_seen os ++ map id_in rest) c.in_ok-push.ensures.items ∙ pushed id_seen made o (map id_in rest));
+      ids = l.invariant.ids ∙ ap (λ (es : List Edit). map id_view made ++ map id_in es) step ∙ ap (λ i. map id_view made ++ i ∷ map id_in rest) (sym c.in_ok-outcome.ensures.id)
+          ∙ sym (ap (λ (os : List EditOutcome). map id_view os ++ map id_in rest) c.in_ok-push.ensures.items ∙ pushed id_view made o (map id_in rest));
       before = c.in_ok-outcome.ensures.before ∙ l.invariant.before;
       goes_on = λ hs st.
           let inv = l.invariant.goes_on hs st in
@@ -63,7 +63,7 @@ pub returns-clause-ids : goal.returns-clause-ids
 returns-clause-ids g c =
     let l = c.loop-edit in
     let none : into_iter_items l.edit-iterator ≡ [] = nothing (into_iter_items l.edit-iterator) (sym l.edit-iterator.rest.ok.0 ∙ c.in-None.ensures.steps.0) in
-    sym (l.invariant.ids ∙ ap (λ (es : List Edit). map id_seen l.outcomes.items ++ map id_in es) none ∙ append-nil (map id_seen l.outcomes.items))
+    sym (l.invariant.ids ∙ ap (λ (es : List Edit). map id_view l.outcomes.items ++ map id_in es) none ∙ append-nil (map id_view l.outcomes.items))
 
 pub returns-clause-stands : goal.returns-clause-stands
 returns-clause-stands g c = λ hs st.

@@ -1,5 +1,5 @@
 use Rattle.std.proofs.Common.{refl, ap, ◌+◌, ◌∙◌}
-use Rattle.mg_engine.specs.View.{asked, said}
+use Rattle.mg_engine.specs.View.{command_view, reply_view}
 use Rattle.mg_engine.specs.Stands.{Stands, StateView, shard_count}
 use Rattle.mg_engine.proofs.Numbers.{is_number_then, number_after, number_here}
 use Rattle.mg_engine.proofs.Executions.{world_then, ends_then, goes_on_after, ends_here}
@@ -22,14 +22,14 @@ loop-command-preserved g c =
       some = rw pushed.len (ap (λ n. n + 1) l.invariant.some);
       placement = c.step-reply.ensures.placement ∙ l.invariant.placement;
       numbers = λ rs.
-          let went = is_number_then (λ (e : g.row.P.Denot × StateView). shard_count e) l.self c.step-reply.new.self (asked command) (said reply) c.step-reply.ensures.refused c.step-reply.ensures.shards in
+          let went = is_number_then (λ (e : g.row.P.Denot × StateView). shard_count e) l.self c.step-reply.new.self (command_view command) (reply_view reply) c.step-reply.ensures.refused c.step-reply.ensures.shards in
           rw pushed.items (number_after (shard_count c.args.self.now) (shard_count l.self) (shard_count c.step-reply.new.self) c.args.commands.now l.command-index command l.replies.items reply rs
           c.loop-command-test.true c.command-item.is went (λ rest. l.invariant.numbers rest));
       goes_on = λ w h.
           let now = l.invariant.goes_on w h in
           let did = c.step-reply.ensures.answers now.0 now.1 in (
-            world_then now.0 (asked command) (said reply),
-            ends_then now.0 (asked command) (said reply) (stands c.step-reply.new.self) did,
+            world_then now.0 (command_view command) (reply_view reply),
+            ends_then now.0 (command_view command) (reply_view reply) (stands c.step-reply.new.self) did,
             λ rs after run. rw pushed.items (goes_on_after w now.0 c.args.commands.now l.command-index command l.replies.items reply (stands c.step-reply.new.self) (stands after) rs
                 c.loop-command-test.true c.command-item.is did (λ rest. now.2 rest after) run),
           );

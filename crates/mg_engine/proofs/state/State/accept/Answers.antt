@@ -4,11 +4,11 @@ use Rattle.mg_doc.specs.Document.{Edit}
 use Rattle.mg_shard.specs.Dealt.{ShardsStandFor}
 use Rattle.mg_shard.specs.Edits.{after_edits, id_in, outcomes}
 use Rattle.mg_shard.specs.Histories.{Histories}
-use Rattle.mg_shard.specs.Shard.{ShardView, shards_seen}
+use Rattle.mg_shard.specs.Shard.{ShardView, shards_view}
 use Rattle.mg_engine.specs.Bodies.{line_of}
 use Rattle.mg_engine.specs.Bulk.{counter_after, entries_of, numbered}
 use Rattle.mg_engine.specs.Commands.{Answer}
-use Rattle.mg_engine.specs.Outcomes.{entries_seen, reply_in, id_seen}
+use Rattle.mg_engine.specs.Outcomes.{entries_view, reply_in, id_view}
 use Rattle.mg_engine.specs.Stands.{StateStandsFor, StateView, definitions_of}
 use Rattle.mg_engine.specs.declared.bulk.apply.EditOutcome.{EditOutcome}
 use Rattle.mg_engine.proofs.Entries.{by_ids}
@@ -23,9 +23,9 @@ pub returns-clause-holds : goal.returns-clause-holds
 returns-clause-holds g c = λ w bring h.
     let place = g.P.Placement.place c.args.placement.now in
     let given = c.args.edits.items in
-    let made = shards_seen c.in_ok-outcomes.shards.items in
+    let made = shards_view c.in_ok-outcomes.shards.items in
     let counter : c.self.inside.counter ≡ w.counter = ap (λ (s : StateView). s.counter) c.self.view_is ∙ h.counter in
-    let shards : shards_seen c.deref.result.now ≡ c.args.self.now.shards = ap shards_seen c.deref.ensures.value ∙ ap (λ (s : StateView). s.shards) c.self.view_is in
+    let shards : shards_view c.deref.result.now ≡ c.args.self.now.shards = ap shards_view c.deref.ensures.value ∙ ap (λ (s : StateView). s.shards) c.self.view_is in
     let edits = c.in_ok-edits.ensures.edits ∙ ap (λ n. numbered n given) counter in
     let before = subst (λ (ss : List ShardView). ShardsStandFor place ss w.docs) (sym shards) h.documents in
     subst (λ (s : StateView). StateStandsFor place s (record w { docs = after_edits w.docs (numbered w.counter given); counter = counter_after w.counter given })) (sym c.in_ok-next.ensures)
@@ -45,11 +45,11 @@ returns-clause-reply g c = λ w h.
     let b = c.args.new_edits in
     let outs = c.in_ok-outcomes.outcomes.items in
     let counter : c.self.inside.counter ≡ w.counter = ap (λ (s : StateView). s.counter) c.self.view_is ∙ h.counter in
-    let shards : shards_seen c.deref.result.now ≡ c.args.self.now.shards = ap shards_seen c.deref.ensures.value ∙ ap (λ (s : StateView). s.shards) c.self.view_is in
+    let shards : shards_view c.deref.result.now ≡ c.args.self.now.shards = ap shards_view c.deref.ensures.value ∙ ap (λ (s : StateView). s.shards) c.self.view_is in
     let edits = c.in_ok-edits.ensures.edits ∙ ap (λ n. numbered n given) counter in
     let before = subst (λ (ss : List ShardView). ShardsStandFor place ss w.docs) (sym shards) h.documents in
     let replies : map reply_in outs ≡ outcomes w.docs (numbered w.counter given) = c.in_ok-outcomes.ensures.replies w.docs before ∙ ap (outcomes w.docs) edits in
-    let ids : map id_seen outs ≡ map id_in (numbered w.counter given) = c.in_ok-outcomes.ensures.ids ∙ ap (λ (es : List Edit). map id_in es) edits in
-    let seen : entries_seen b outs ≡ entries_of b (numbered w.counter given) (outcomes w.docs (numbered w.counter given)) =
+    let ids : map id_view outs ≡ map id_in (numbered w.counter given) = c.in_ok-outcomes.ensures.ids ∙ ap (λ (es : List Edit). map id_in es) edits in
+    let seen : entries_view b outs ≡ entries_of b (numbered w.counter given) (outcomes w.docs (numbered w.counter given)) =
     sym (by_ids b (numbered w.counter given) outs (sym ids)) ∙ ap (entries_of b (numbered w.counter given)) replies in
-    ap (λ (t : List ℕ). answer t) (c.in_ok-body.ensures ∙ ap (λ (os : List EditOutcome). line_of (list (entries_seen b os))) c.deref-2.ensures.value ∙ ap (λ vs. line_of (list vs)) seen)
+    ap (λ (t : List ℕ). answer t) (c.in_ok-body.ensures ∙ ap (λ (os : List EditOutcome). line_of (list (entries_view b os))) c.deref-2.ensures.value ∙ ap (λ vs. line_of (list vs)) seen)

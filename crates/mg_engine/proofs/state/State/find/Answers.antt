@@ -3,7 +3,7 @@ use Rattle.mg_index.specs.Definition.{IndexDefinition}
 use Rattle.mg_query.specs.Query.{query_of}
 use Rattle.mg_query.proofs.Indexed.{have_all}
 use Rattle.mg_shard.specs.Dealt.{ShardsStandFor}
-use Rattle.mg_shard.specs.Shard.{HaveIndexes, ShardView, shards_seen}
+use Rattle.mg_shard.specs.Shard.{HaveIndexes, ShardView, shards_view}
 use Rattle.mg_value.specs.View.{view}
 use Rattle.mg_engine.specs.Commands.{answer_of_query}
 use Rattle.mg_engine.specs.Stands.{StateView}
@@ -13,7 +13,7 @@ use Rattle.mg_engine.proofs.state.State.find.Goals as goal
 pub page_line-line-requires-clause-indexes : goal.page_line-line-requires-clause-indexes
 page_line-line-requires-clause-indexes g c = λ κs within.
     let catalog : c.args.self.now.catalog ≡ c.deref.result.now = sym (c.deref.ensures ∙ ap (λ (s : StateView). s.catalog) c.self.view_is) in
-    subst (λ (ds : List IndexDefinition). HaveIndexes ds (shards_seen c.indexed_shards.result.now)) catalog (have_all c.args.self.now.catalog (shards_seen c.indexed_shards.result.now) c.indexed_shards.ensures.rows)
+    subst (λ (ds : List IndexDefinition). HaveIndexes ds (shards_view c.indexed_shards.result.now)) catalog (have_all c.args.self.now.catalog (shards_view c.indexed_shards.result.now) c.indexed_shards.ensures.rows)
 
 pub returns : goal.returns
 returns g c = λ place w h.

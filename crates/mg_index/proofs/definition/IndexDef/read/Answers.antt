@@ -9,6 +9,6 @@ use Rattle.mg_index.proofs.definition.IndexDef.read.Goals as goal
 pub returns-in-Err-NoMemory-clause-reading : goal.returns-in-Err-NoMemory-clause-reading
 returns-in-Err-NoMemory-clause-reading c =
     let r = definition_of (view c.args.body.now) in
-    let seen : IndexDefinition → IndexDefinition = λ d. d in
-    let P : IndexError → Type 0 = λ e. ReadsAs seen (Err e) r in
-    subst P (sym c.fault_or_no_memory.ensures) (fault_or_no_memory seen r)
+    let item_view : IndexDefinition → IndexDefinition = λ d. d in
+    let P : IndexError → Type 0 = λ e. ReadsAs item_view (Err e) r in
+    subst P (sym c.fault_or_no_memory.ensures) (fault_or_no_memory item_view r)

@@ -1,6 +1,6 @@
 use Rattle.std.proofs.Common.{◌≡◌, true, false, ◌∙◌}
 use Rattle.mg_engine.specs.Settled.{accepts}
-use Rattle.mg_engine.specs.View.{asked}
+use Rattle.mg_engine.specs.View.{command_view}
 use Rattle.mg_live.specs.Snapshots.{commits_of}
 use Rattle.mg_live.proofs.Publishing.{dealt, has_room, one_more, refused_write, there}
 use Rattle.mg_live.proofs.snapshot.Snapshot.next.Goals as goal
@@ -10,14 +10,14 @@ returns-then-not-accepts-clause-next g c =
     let w = c.args.write in
     let s = c.args.self.now in
     let no : accepts c.in-Ok.reply ≡ false = cc in
-    refused_write g.D.Database.db (commits_of s) w.seat (asked w.command.value) c.in-Ok.reply (rw c.requires.prepared at (c.in-Ok.ensures.after g.D.Database.db (commits_of s) w.seat c.requires.here.after)).0 no
+    refused_write g.D.Database.db (commits_of s) w.seat (command_view w.command.value) c.in-Ok.reply (rw c.requires.prepared at (c.in-Ok.ensures.after g.D.Database.db (commits_of s) w.seat c.requires.here.after)).0 no
 
 pub add-prefix-requires-clause-room : goal.add-prefix-requires-clause-room
 add-prefix-requires-clause-room g c =
     let w = c.args.write in
     let s = c.args.self.now in
     let yes : accepts c.in-Ok.reply ≡ true = cc in
-    has_room g.D.Database.db s.prefix.seen.log (asked w.command.value) c.in-Ok.reply (rw c.requires.prepared at (c.in-Ok.ensures.after g.D.Database.db (commits_of s) w.seat c.requires.here.after)).0 yes
+    has_room g.D.Database.db s.prefix.seen.log (command_view w.command.value) c.in-Ok.reply (rw c.requires.prepared at (c.in-Ok.ensures.after g.D.Database.db (commits_of s) w.seat c.requires.here.after)).0 yes
 
 pub returns-clause-next : goal.returns-clause-next
 returns-clause-next g c =

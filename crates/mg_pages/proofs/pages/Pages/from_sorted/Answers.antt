@@ -1,15 +1,15 @@
 use Rattle.std.proofs.Common.{◌≡◌, length, ap, sym, ◌∙◌, subst}
 use Rattle.std.specs.List.{flat_map}
 use Rattle.mg_pages.specs.Order.{Ascends}
-use Rattle.mg_pages.specs.Parts.{children, child_seen, high_seen, level_seen, page_seen}
+use Rattle.mg_pages.specs.Parts.{children, child_view, high_view, level_view, page_view}
 use Rattle.mg_pages.proofs.pages.Pages.from_sorted.Goals as goal
 
 pub invariant_of-result : goal.invariant_of-result
 invariant_of-result g c =
-    let lows = ap (λ us. flat_map (child_seen page_seen) (children us)) c.deref.ensures.value in
-    let highs = ap (λ us. flat_map (child_seen (level_seen page_seen)) (children us)) c.deref-2.ensures.value in
-    let all : flat_map (child_seen high_seen) (children c.in_ok-parts.parts.items) ≡ c.args.elements.now =
-    c.in_ok-parts.ensures.seen ∙ highs ∙ c.in_ok-lows.ensures.seen ∙ lows ∙ c.in_ok-pages.ensures.seen in
+    let lows = ap (λ us. flat_map (child_view page_view) (children us)) c.deref.ensures.value in
+    let highs = ap (λ us. flat_map (child_view (level_view page_view)) (children us)) c.deref-2.ensures.value in
+    let all : flat_map (child_view high_view) (children c.in_ok-parts.parts.items) ≡ c.args.elements.now =
+    c.in_ok-parts.ensures.view ∙ highs ∙ c.in_ok-lows.ensures.view ∙ lows ∙ c.in_ok-pages.ensures.view in
     record {
       whole = c.in_ok-parts.ensures.whole;
       sorted = subst (Ascends g.T.Keyed.order) (sym all) c.requires;
@@ -18,6 +18,6 @@ invariant_of-result g c =
 
 pub returns : goal.returns
 returns g c =
-    let lows = ap (λ us. flat_map (child_seen page_seen) (children us)) c.deref.ensures.value in
-    let highs = ap (λ us. flat_map (child_seen (level_seen page_seen)) (children us)) c.deref-2.ensures.value in
-    c.in_ok-parts.ensures.seen ∙ highs ∙ c.in_ok-lows.ensures.seen ∙ lows ∙ c.in_ok-pages.ensures.seen
+    let lows = ap (λ us. flat_map (child_view page_view) (children us)) c.deref.ensures.value in
+    let highs = ap (λ us. flat_map (child_view (level_view page_view)) (children us)) c.deref-2.ensures.value in
+    c.in_ok-parts.ensures.view ∙ highs ∙ c.in_ok-lows.ensures.view ∙ lows ∙ c.in_ok-pages.ensures.view

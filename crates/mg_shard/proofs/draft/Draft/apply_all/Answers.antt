@@ -1,7 +1,7 @@
 use Rattle.std.proofs.Common.{◌≡◌, ◌+◌, ◌<◌, ◌++◌, List, [], ◌∷◌, ℕ, drop, get_or, length, map, refl, ap, sym, ◌∙◌, subst, drop-cons, add-one}
 use Rattle.std.proofs.Math.ListN.{drop_of_length-le}
 use Rattle.mg_shard.specs.Draft.{DraftStandsFor}
-use Rattle.mg_shard.specs.Edits.{after_edit, after_edits, outcome_seen, outcomes}
+use Rattle.mg_shard.specs.Edits.{after_edit, after_edits, outcome_view, outcomes}
 use Rattle.mg_shard.specs.Histories.{Histories}
 use Rattle.mg_shard.proofs.draft.Draft.apply_all.Goals as goal
 
@@ -20,7 +20,7 @@ no_more (x ∷ xs) = ap (λ ys. x ∷ ys) (no_more xs)
 pub loop-edit-init : goal.loop-edit-init
 loop-edit-init c = record {
   shard = refl;
-  goes_on = λ hs st. (hs, st, refl, ap (λ rs. map outcome_seen rs ++ outcomes hs c.args.edits.now) (sym c.in_ok-replies.ensures.items));
+  goes_on = λ hs st. (hs, st, refl, ap (λ rs. map outcome_view rs ++ outcomes hs c.args.edits.now) (sym c.in_ok-replies.ensures.items));
 }
 
 pub loop-edit-preserved : goal.loop-edit-preserved
@@ -34,14 +34,14 @@ loop-edit-preserved c =
       goes_on = λ hs st.
           let inv = l.invariant.goes_on hs st in
           let now = inv.0 in
-          let told = map outcome_seen l.replies.items in
+          let told = map outcome_view l.replies.items in
           let did = c.in_ok-reply.ensures.outcome now inv.1 in
           let rest = outcomes (after_edit now e) left in (
             after_edit now e,
             c.in_ok-reply.ensures.stands now inv.1,
             inv.2 ∙ ap (after_edits now) step,
             inv.3 ∙ ap (λ es. told ++ outcomes now es) step ∙ ap (λ o. told ++ o ∷ rest) (sym did)
-                ∙ sym (ap (λ rs. map outcome_seen rs ++ rest) c.in_ok-push.ensures.items ∙ pushed outcome_seen l.replies.items c.in_ok-reply.reply rest),
+                ∙ sym (ap (λ rs. map outcome_view rs ++ rest) c.in_ok-push.ensures.items ∙ pushed outcome_view l.replies.items c.in_ok-reply.reply rest),
           );
     }
 
@@ -50,7 +50,7 @@ returns-clause-outcomes c = λ hs st.
     let l = c.loop-edit in
     let inv = l.invariant.goes_on hs st in
     let none : drop l.edit-index c.args.edits.now ≡ [] = drop_of_length-le c.args.edits.now c.loop-edit-test.false in
-    sym (inv.3 ∙ ap (λ es. map outcome_seen l.replies.items ++ outcomes inv.0 es) none ∙ no_more (map outcome_seen l.replies.items))
+    sym (inv.3 ∙ ap (λ es. map outcome_view l.replies.items ++ outcomes inv.0 es) none ∙ no_more (map outcome_view l.replies.items))
 
 pub returns-clause-stands : goal.returns-clause-stands
 returns-clause-stands c = λ hs st.

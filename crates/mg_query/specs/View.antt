@@ -5,20 +5,20 @@ use Rattle.mg_value.specs.Value.{Value}
 use Rattle.mg_value.specs.View.{view}
 use Rattle.mg_value.specs.declared.value.Json.{Json}
 use Rattle.mg_selector.specs.View.{selector_of}
-use Rattle.mg_bookmark.specs.Seen.{bookmark_place}
+use Rattle.mg_bookmark.specs.View.{bookmark_place}
 use Rattle.mg_index.specs.View.{hint_of}
 use Rattle.mg_query.specs.Query.{Query, rendered_fields_of}
 use Rattle.mg_query.specs.declared.error.QueryError.{QueryError}
 use Rattle.mg_query.specs.declared.error.QueryError.TheVariants.{Shape, InvalidOperator, BadArg, BadBookmark, MixedSort, NoMemory}
 use Rattle.mg_query.specs.declared.query.Query as code
 
--- the value that is lent, if there is one
-abbrev pub lent : Option (Bor Json) → Option Value
-lent = option_map (λ v. view v.now)
+-- the value that a lent one stands for, if there is one
+abbrev pub optional_view : Option (Bor Json) → Option Value
+optional_view = option_map (λ v. view v.now)
 
 -- the query that the code's `Query` stands for
-abbrev pub query_seen : code.Query → Query
-query_seen q = record {
+abbrev pub query_view : code.Query → Query
+query_view q = record {
   selector = selector_of q.selector;
   fields = q.fields.items;
   limit = q.limit;
@@ -29,7 +29,7 @@ query_seen q = record {
   bookmark = option_map bookmark_place q.bookmark;
   conflicts = q.conflicts;
   given_selector = view q.given_selector.now;
-  rendered_fields = rendered_fields_of (lent q.given_fields);
+  rendered_fields = rendered_fields_of (optional_view q.given_fields);
   given_bookmark = q.given_bookmark.now;
 }
 
@@ -42,7 +42,7 @@ Fails BadBookmark r = r ≡ Err BadBookmark
 Fails MixedSort r = r ≡ Err MixedSort
 Fails NoMemory r = Unit {0}
 
--- the call returned what the definition reads, or its fault, unless an allocation failed; `seen` gives what a value of the code stands for
+-- the call returned what the definition reads, or its fault, unless an allocation failed; `item_view` gives what a value of the code stands for
 abbrev pub ReadsAs : {X Y : Type 0} → (X → Y) → Result X QueryError → Result Y QueryError → Type 0
-ReadsAs seen (Ok x) r = r ≡ Ok (seen x)
-ReadsAs seen (Err e) r = Fails e r
+ReadsAs item_view (Ok x) r = r ≡ Ok (item_view x)
+ReadsAs item_view (Err e) r = Fails e r
