@@ -1,16 +1,24 @@
 -- The fault of a body that is found without taking memory is the body's first fault.
 use Rattle.std.specs.Prelude.{codes, ok_or}
-use Rattle.std.proofs.Common.{◌≡◌, ◌∷◌, [], Bool, true, false, ◌&&◌, cond, List, Option, Some, None, is_some, option_map, option_and_then, unwrap_or, Result, Ok, Err, refl, ap, ◌∙◌}
+use Rattle.std.proofs.Common.{◌≡◌, ℕ, ◌∷◌, [], Bool, true, false, ◌&&◌, cond, List, Option, Some, None, is_some, option_map, option_and_then, unwrap_or, Result, Ok, Err, refl, sym, ap, ◌∙◌}
 use Rattle.std.specs.List.{list_all}
+use Rattle.std.specs.Option.{option_map_or, option_or}
 use Rattle.std.specs.Result.{result_err}
+use Rattle.std.specs.Str.{bytes_eq}
 use Rattle.mg_value.specs.Value.{Value, member_of}
 use Rattle.mg_value.specs.Results.{◌>>=◌}
 use Rattle.mg_collate.specs.declared.direction.Direction.{Direction}
+use Rattle.mg_bookmark.specs.Bookmark.{RowPlace}
+use Rattle.mg_bookmark.specs.Letters.{has_only_letters}
+use Rattle.mg_bookmark.specs.Reading.{bookmark_read, place_read}
+use Rattle.mg_bookmark.proofs.Alphabet.{other_byte}
 use Rattle.mg_index.specs.Definition.{Steps}
-use Rattle.mg_index.specs.Reading.{each_of, field_direction}
+use Rattle.mg_index.specs.Fault.{is_directed}
+use Rattle.mg_index.specs.Reading.{each_of, field_direction, is_same}
 use Rattle.mg_selector.specs.Reading.{reading}
-use Rattle.mg_query.specs.Given.{Given, fault_given, given, gives_path, gives_sort, parsed, with_parts}
-use Rattle.mg_query.specs.Query.{Shaped, early_fault, path_of, query_of, query_with, selector_or_fault, shaped, sort_path}
+use Rattle.mg_selector.specs.Selector.{Selector}
+use Rattle.mg_query.specs.Given.{Given, fault_given, fault_in_turn, given, gives_path, gives_sort, parsed, sort_fault, with_parts}
+use Rattle.mg_query.specs.Query.{Query, Shaped, bookmark_fault, early_fault, fault_of_shaped, one_direction, path_of, query_of, query_with, rendered_fields_of, selector_or_fault, shaped, sort_path}
 use Rattle.mg_query.specs.View.{Fails, ReadsAs, query_view}
 use Rattle.mg_query.specs.declared.error.QueryError.{QueryError}
 use Rattle.mg_query.specs.declared.error.QueryError.TheVariants.{Shape, InvalidOperator, BadArg, BadBookmark, MixedSort, NoMemory}
@@ -54,38 +62,110 @@ shapes_there g =
     ∙ ap (λ b. list_all gives_path g.fields && (list_all (λ v. is_some (sort_path v)) g.sort && b)) (all_of field_direction g.sort)
     ∙ ap (λ b. list_all gives_path g.fields && b) (all_and (λ v. is_some (sort_path v)) (λ v. is_some (field_direction v)) g.sort)
 
-parts_fault : (g : Given) (a b : Option (List Steps)) (d : Option (List Direction))
-    → result_err (ok_or (option_and_then (λ fields. option_and_then (λ sort. option_map (λ directions. with_parts g fields sort directions) d) b) a) Shape >>= (λ m. selector_or_fault (reading m.selector)))
-    ≡ cond (is_some (option_and_then (λ fields. option_and_then (λ sort. option_map (λ directions. with_parts g fields sort directions) d) b) a)) (result_err (selector_or_fault (reading g.selector))) (Some Shape)
-parts_fault g None b d = refl
-parts_fault g (Some a) None d = refl
-parts_fault g (Some a) (Some b) None = refl
-parts_fault g (Some a) (Some b) (Some d) = refl
+-- ---- the sort
 
--- the fault of members: a wrong shape, or that of the selector
-pub members_fault : (g : Given) → fault_given g ≡ cond (is_some (parsed g)) (result_err (selector_or_fault (reading g.selector))) (Some Shape)
-members_fault g = parts_fault g (each_of path_of g.fields) (each_of sort_path g.sort) (each_of field_direction g.sort)
+-- the directions of the items, if each gives one
+one_directed : (d : Direction) (o : Option Direction) (os : Option (List Direction)) (b : Bool) (ds : List Direction) → ((xs : List Direction) → os ≡ Some xs → b ≡ list_all (is_same d) xs)
+    → option_and_then (λ y. option_map (λ ys. y ∷ ys) os) o ≡ Some ds → (option_map_or (is_same d) o false && b) ≡ list_all (is_same d) ds
+one_directed d None os b ds h e = absurd cc
+one_directed d (Some y) None b ds h e = absurd cc
+one_directed d (Some y) (Some ys) b ds h e = ap (λ c. is_same d y && c) (h ys refl) ∙ ap (λ (o : Option (List Direction)). list_all (is_same d) (unwrap_or o [])) e
+
+all_directed : (d : Direction) (vs : List Value) (ds : List Direction) → each_of field_direction vs ≡ Some ds → list_all (is_directed d) vs ≡ list_all (is_same d) ds
+all_directed d [] ds e = ap (λ (o : Option (List Direction)). list_all (is_same d) (unwrap_or o [])) e
+all_directed d (v ∷ vs) ds e = one_directed d (field_direction v) (each_of field_direction vs) (list_all (is_directed d) vs) ds (λ xs k. all_directed d vs xs k) e
+
+-- the fault of directions
+abbrev mixed : List Direction → Option QueryError
+mixed ds = result_err (ok_or (one_direction ds) MixedSort)
+
+one_mixed : (d : Direction) (b : Bool) → ◌≡◌ {A = Option QueryError} (cond b None (Some MixedSort)) (result_err (ok_or (cond b (Some d) None) MixedSort))
+one_mixed d true = refl
+one_mixed d false = refl
+
+first_mixed : (o : Option Direction) (os : Option (List Direction)) (vs : List Value) (ds : List Direction) → ((d : Direction) (xs : List Direction) → os ≡ Some xs → list_all (is_directed d) vs ≡ list_all (is_same d) xs)
+    → option_and_then (λ y. option_map (λ ys. y ∷ ys) os) o ≡ Some ds → option_map_or (λ d. cond (list_all (is_directed d) vs) None (Some MixedSort)) o None ≡ mixed ds
+first_mixed None os vs ds h e = absurd cc
+first_mixed (Some y) None vs ds h e = absurd cc
+first_mixed (Some y) (Some ys) vs ds h e =
+    ap (λ b. cond b None (Some MixedSort)) (h y ys refl) ∙ one_mixed y (list_all (is_same y) ys) ∙ ap (λ (o : Option (List Direction)). mixed (unwrap_or o [])) e
+
+-- the fault of the sort's items is that of their directions
+sort_mixed : (vs : List Value) (ds : List Direction) → each_of field_direction vs ≡ Some ds → sort_fault vs ≡ mixed ds
+sort_mixed [] ds e = ap (λ (o : Option (List Direction)). mixed (unwrap_or o [])) e
+sort_mixed (v ∷ vs) ds e = first_mixed (field_direction v) (each_of field_direction vs) vs ds (λ d xs k. all_directed d vs xs k) e
+
+-- ---- the members
+
+parts_fault : (g : Given) (a b : Option (List Steps)) (d : Option (List Direction)) → ((ds : List Direction) → d ≡ Some ds → sort_fault g.sort ≡ mixed ds)
+    → option_map_or fault_of_shaped (option_and_then (λ fields. option_and_then (λ sort. option_map (λ directions. with_parts g fields sort directions) d) b) a) (Some Shape)
+    ≡ cond (is_some (option_and_then (λ fields. option_and_then (λ sort. option_map (λ directions. with_parts g fields sort directions) d) b) a)) (fault_in_turn g) (Some Shape)
+parts_fault g None b d h = refl
+parts_fault g (Some a) None d h = refl
+parts_fault g (Some a) (Some b) None h = refl
+parts_fault g (Some a) (Some b) (Some d) h = ap (λ o. option_or (result_err (selector_or_fault (reading g.selector))) (bookmark_fault g.bookmark o)) (sym (h d refl))
+
+-- the fault of members: a wrong shape, or the next one in turn
+pub members_fault : (g : Given) → fault_given g ≡ cond (is_some (parsed g)) (fault_in_turn g) (Some Shape)
+members_fault g = parts_fault g (each_of path_of g.fields) (each_of sort_path g.sort) (each_of field_direction g.sort) (λ ds e. sort_mixed g.sort ds e)
 
 -- ---- the body
 
-abbrev fault_of_shaped : Option Shaped → Option QueryError
-fault_of_shaped o = result_err (ok_or o Shape >>= (λ m. selector_or_fault (reading m.selector)))
+abbrev fault_or_shape : Option Shaped → Option QueryError
+fault_or_shape o = option_map_or fault_of_shaped o (Some Shape)
 
 -- the fault of a body whose members are lent
 pub fault_lent : (v : Value) (g : Given) → given v ≡ Some g → early_fault v ≡ fault_given g
-fault_lent v g e = ap fault_of_shaped (members_given v ∙ ap (option_and_then parsed) e)
+fault_lent v g e = ap fault_or_shape (members_given v ∙ ap (option_and_then parsed) e)
 
 -- the fault of a body of which no members are lent
 pub fault_none : (v : Value) → given v ≡ None → early_fault v ≡ Some Shape
-fault_none v e = ap fault_of_shaped (members_given v ∙ ap (option_and_then parsed) e)
+fault_none v e = ap fault_or_shape (members_given v ∙ ap (option_and_then parsed) e)
 
-carried : {A B : Type 0} (r : Result A QueryError) (f : A → Result B QueryError) (e : QueryError) → result_err r ≡ Some e → (r >>= f) ≡ Err e
-carried (Ok x) f e h = absurd cc
-carried (Err x) f e h = let same : x ≡ e = cc in ap Err same
+-- ---- it is the first
 
-first_of : (fields : Option Value) (o : Option Shaped) (e : QueryError) → fault_of_shaped o ≡ Some e → (ok_or o Shape >>= query_with fields) ≡ Err e
+-- what is read after the selector: the bookmark, the direction, and then the query
+abbrev read_after : {B : Type 0} → Option Direction → (Option RowPlace → Direction → Result B QueryError) → Option (Option RowPlace) → Result B QueryError
+read_after d f place = ok_or place BadBookmark >>= (λ p. ok_or d MixedSort >>= f p)
+
+place_first : {B : Type 0} (is_nil only : Bool) (place : Option (Option RowPlace)) (d : Option Direction) (f : Option RowPlace → Direction → Result B QueryError) (e : QueryError)
+    → (is_nil ≡ true → place ≡ Some None) → (only ≡ false → place ≡ None) → cond is_nil (result_err (ok_or d MixedSort)) (cond only None (Some BadBookmark)) ≡ Some e → read_after d f place ≡ Err e
+place_first true only place None f e nil unread h = let same : MixedSort ≡ e = cc in ap (read_after None f) (nil refl) ∙ ap Err same
+place_first true only place (Some d) f e nil unread h = absurd cc
+place_first false true place d f e nil unread h = absurd cc
+place_first false false place d f e nil unread h = let same : BadBookmark ≡ e = cc in ap (read_after d f) (unread refl) ∙ ap Err same
+
+bookmark_first : {B : Type 0} (t : List ℕ) (ds : List Direction) (f : Option RowPlace → Direction → Result B QueryError) (e : QueryError) → bookmark_fault t (mixed ds) ≡ Some e
+    → read_after (one_direction ds) f (bookmark_read t) ≡ Err e
+bookmark_first t ds f e h =
+    place_first (bytes_eq t (codes "nil")) (has_only_letters t) (bookmark_read t) (one_direction ds) f e (λ k. ap (λ b. cond b (Some None) (option_map Some (place_read t))) k) (λ k. other_byte t k) h
+
+carried : {A B : Type 0} (r : Result A QueryError) (p : Option QueryError) (f : A → Result B QueryError) (e : QueryError) → ((a : A) → p ≡ Some e → f a ≡ Err e) → option_or (result_err r) p ≡ Some e → (r >>= f) ≡ Err e
+carried (Ok x) p f e next h = next x h
+carried (Err x) p f e next h = let same : x ≡ e = cc in ap Err same
+
+-- the query of members, once all parts are read
+abbrev with_all : Option Value → Shaped → Selector → Option RowPlace → Direction → Result Query QueryError
+with_all fields m selector bookmark direction = Ok (record {
+  selector = selector;
+  fields = m.fields;
+  limit = m.limit;
+  skip = m.skip;
+  sort = m.sort;
+  direction = direction;
+  hint = m.hint;
+  bookmark = bookmark;
+  conflicts = m.conflicts;
+  given_selector = m.selector;
+  rendered_fields = rendered_fields_of fields;
+  given_bookmark = m.bookmark;
+})
+
+first_of : (fields : Option Value) (o : Option Shaped) (e : QueryError) → fault_or_shape o ≡ Some e → (ok_or o Shape >>= query_with fields) ≡ Err e
 first_of fields None e h = let same : Shape ≡ e = cc in ap Err same
-first_of fields (Some m) e h = carried (selector_or_fault (reading m.selector)) _ e h
+first_of fields (Some m) e h =
+    carried (selector_or_fault (reading m.selector)) (bookmark_fault m.bookmark (mixed m.directions)) (λ s. read_after (one_direction m.directions) (with_all fields m s) (bookmark_read m.bookmark)) e
+    (λ s k. bookmark_first m.bookmark m.directions (with_all fields m s) e k) h
 
 -- the fault that is found without memory is the body's first
 pub early_first : (v : Value) (e : QueryError) → early_fault v ≡ Some e → query_of v ≡ Err e

@@ -1,5 +1,7 @@
 -- For private clauses: the members of a body as they are lent, before any path is read.
-use Rattle.std.specs.Prelude.{ℕ, List, Bool, ◌&&◌, Option, codes, is_some, map, option_and_then, option_map, Result, ok_or}
+use Rattle.std.specs.Prelude.{ℕ, List, [], ◌∷◌, Bool, ◌&&◌, Option, Some, None, codes, is_some, map, option_and_then, option_map, Result, ok_or, if◌then◌else◌}
+use Rattle.std.specs.List.{list_all}
+use Rattle.std.specs.Option.{option_map_or, option_or}
 use Rattle.std.specs.Result.{result_err}
 use Rattle.mg_value.specs.Value.{Value, member_of}
 use Rattle.mg_value.specs.View.{view}
@@ -7,11 +9,12 @@ use Rattle.mg_value.specs.Results.{◌>>=◌}
 use Rattle.mg_collate.specs.declared.direction.Direction.{Direction}
 use Rattle.mg_index.specs.Choice.{Hint, no_hint, in_document, exactly}
 use Rattle.mg_index.specs.Definition.{design_document}
+use Rattle.mg_index.specs.Fault.{is_directed}
 use Rattle.mg_index.specs.Reading.{each_of, field_direction}
 use Rattle.mg_selector.specs.Reading.{reading}
-use Rattle.mg_query.specs.Query.{Query, Shaped, query_with, selector_or_fault, path_of, sort_path, items_given, selector_given, count_of, hint_given, bookmark_given, conflicts_of}
+use Rattle.mg_query.specs.Query.{Query, Shaped, bookmark_fault, fault_of_shaped, query_with, selector_or_fault, path_of, sort_path, items_given, selector_given, count_of, hint_given, bookmark_given, conflicts_of}
 use Rattle.mg_query.specs.declared.error.QueryError.{QueryError}
-use Rattle.mg_query.specs.declared.error.QueryError.TheVariants.{Shape as wrong_shape}
+use Rattle.mg_query.specs.declared.error.QueryError.TheVariants.{MixedSort, Shape as wrong_shape}
 use Rattle.mg_query.specs.declared.member.Members as code
 use Rattle.mg_query.specs.declared.member.GivenHint as code_hint
 
@@ -74,9 +77,18 @@ gives_path v = is_some (path_of v)
 abbrev pub gives_sort : Value → Bool
 gives_sort v = is_some (sort_path v) && is_some (field_direction v)
 
--- the fault of given members: a wrong shape, or else the first fault of the selector; `None` if there is neither
+-- the fault of a sort's items, each of which gives a direction: `MixedSort` if one of them differs from the first
+abbrev pub sort_fault : List Value → Option QueryError
+sort_fault [] = None
+sort_fault (v ∷ vs) = option_map_or (λ d. if list_all (is_directed d) vs then None else Some MixedSort) (field_direction v) None
+
+-- the fault of given members whose shapes are right: the first fault of the selector, or else that of the bookmark and the sort
+abbrev pub fault_in_turn : Given → Option QueryError
+fault_in_turn g = option_or (result_err (selector_or_fault (reading g.selector))) (bookmark_fault g.bookmark (sort_fault g.sort))
+
+-- the fault of given members: a wrong shape, or else the next fault in turn; `None` if there is neither
 abbrev pub fault_given : Given → Option QueryError
-fault_given g = result_err (ok_or (parsed g) wrong_shape >>= (λ m. selector_or_fault (reading m.selector)))
+fault_given g = option_map_or fault_of_shaped (parsed g) (Some wrong_shape)
 
 -- ---- what the code's members stand for
 

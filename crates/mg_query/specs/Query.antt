@@ -2,7 +2,9 @@
 -- text, and a sort in both directions.
 use Rattle.std.specs.Prelude.{ℕ, pos, nat_le, List, [], ◌∷◌, Bool, false, codes, Option, Some, None, option_and_then, Result, Ok, Err, if◌then◌else◌, ok_or}
 use Rattle.std.specs.List.{list_all}
+use Rattle.std.specs.Option.{option_map_or, option_or}
 use Rattle.std.specs.Result.{result_err}
+use Rattle.std.specs.Str.{bytes_eq}
 use Rattle.mg_value.specs.Value.{Value, null, flag, whole, text, list, object, no_items, item, member_of, item_list}
 use Rattle.mg_value.specs.Results.{◌>>=◌}
 use Rattle.mg_path.specs.Part.{steps_of}
@@ -15,6 +17,7 @@ use Rattle.mg_selector.specs.Reading.{reading}
 use Rattle.mg_selector.specs.declared.error.SelError.{SelError}
 use Rattle.mg_selector.specs.declared.error.SelError.TheVariants as selector_fault
 use Rattle.mg_bookmark.specs.Bookmark.{RowPlace}
+use Rattle.mg_bookmark.specs.Letters.{has_only_letters}
 use Rattle.mg_bookmark.specs.Reading.{bookmark_read}
 use Rattle.mg_index.specs.Choice.{Hint, no_hint, in_document, exactly}
 use Rattle.mg_index.specs.Definition.{Steps, design_document}
@@ -201,6 +204,18 @@ query_with fields m =
 abbrev pub query_of : Value → Result Query QueryError
 query_of v = ok_or (shaped v) Shape >>= query_with (member_of (codes "fields") v)
 
--- the fault that is found without taking memory: a wrong shape, or else the first fault of the selector; `None` if there is neither
+-- ---- the fault that is found without taking memory
+
+-- the fault of a bookmark's text and of a sort. The bookmark `nil` needs no reading, so its fault is that of the sort. Any other text has a
+-- fault if it has a letter that no bookmark has; otherwise the text has to be read, which takes memory, before the sort is looked at
+abbrev pub bookmark_fault : List ℕ → Option QueryError → Option QueryError
+bookmark_fault t of_sort = if bytes_eq t (codes "nil") then of_sort else if has_only_letters t then None else Some BadBookmark
+
+-- the fault of members whose shapes are right: the first fault of the selector, or else that of the bookmark and the sort
+abbrev pub fault_of_shaped : Shaped → Option QueryError
+fault_of_shaped m =
+    option_or (result_err (selector_or_fault (reading m.selector))) (bookmark_fault m.bookmark (result_err (ok_or (one_direction m.directions) MixedSort)))
+
+-- the fault of a body: a wrong shape, or else that of its members; `None` if there is neither
 abbrev pub early_fault : Value → Option QueryError
-early_fault v = result_err (ok_or (shaped v) Shape >>= (λ m. selector_or_fault (reading m.selector)))
+early_fault v = option_map_or fault_of_shaped (shaped v) (Some Shape)

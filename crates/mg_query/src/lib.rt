@@ -1,7 +1,8 @@
 //! Queries: how the body of a `_find` is read, and which page answers it.
 //!
-//! Promises. `Query::read` returns the query or its first fault, and never `NoMemory` if a member has a wrong
-//! shape or the selector a fault (`refused`). `page` returns the definition's answer as values, `page_text`
+//! Promises. `Query::read` returns the query or its first fault, and never `NoMemory` in place of a fault that
+//! is found without memory: a wrong shape, a fault of the selector, a letter that no bookmark has, and a sort in
+//! both directions without a bookmark (`refused`). `page` returns the definition's answer as values, `page_text`
 //! as text, for all histories that the shards represent (`answers`). It requires that the shards have the
 //! indexes of the catalog; they may have others (`indexes`). Each shard hands over the rows that the query
 //! finds there, but at most as many as the page skips and shows (`handed`, `work`). `explain` is the

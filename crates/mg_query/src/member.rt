@@ -14,7 +14,7 @@ use std::alloc::Global;
 const GREATEST_COUNT: i64 = 2_147_483_647;
 
 // The bookmark that stands for the first page.
-const NO_BOOKMARK: &str = "nil";
+pub(crate) const NO_BOOKMARK: &str = "nil";
 
 // The members of a body whose shapes are right, apart from the items of `fields` and `sort`: these are checked later, and the selector and
 // the bookmark are read later.

@@ -60,8 +60,9 @@ impl<'a> Query<'a> {
     ///
     /// Errors, in this order: `Shape` for any other body, or a path of `sort` or `fields` with an empty step; the selector's first fault,
     /// `InvalidOperator` or `BadArg`; `BadBookmark` if the text is not a bookmark; `MixedSort` for a sort in both directions. `NoMemory` if
-    /// an allocation fails, and never in place of a wrong shape or of the selector's fault. Cost: the size of the selector, the sort, the
-    /// fields and the bookmark. Source: `_find` of CouchDB's API reference.
+    /// an allocation fails, and never in place of a fault that is found without memory: a wrong shape, the selector's fault, `BadBookmark`
+    /// for a text with a letter that no bookmark has, and `MixedSort` if the bookmark is `nil`. Cost: the size of the selector, the sort,
+    /// the fields and the bookmark. Source: `_find` of CouchDB's API reference.
     pub fn read(alloc: Global, body: &'a Json) -> Result<Query<'a>, QueryError>
         ensures query { ReadsAs query_view result (query_of (view body.now)) }
         ensures refused { (e : QueryError) → early_fault (view body.now) ≡ Some e → result ≡ Err e }
