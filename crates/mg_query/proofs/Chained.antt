@@ -274,7 +274,7 @@ pages_that_read_back_join ds s q hs served skipped limit back =
     let asked = filter (is_asked q) cs in
     let whole = sorted order asked in
     let climbing = climbs (source_columns s) q whole (rises_sorted order (order_total (source_columns s) q) asked) (apart_sorted order asked (apart_kept (is_asked q) cs (apart_entries (entries hs) (entries_sorted hs)))) in
-    let readable = all_sorted (CanBeReadBack s q) order asked (all_kept (CanBeReadBack s q) (is_asked q) cs back) in
+    let readable = subst (AllByRecursion (CanBeReadBack s q)) (all_after_none whole) back in
     let chosen = choice_served ds (from_first q) s served in
     let all = join ds s q cs chosen skipped limit climbing readable (length whole) [] whole None (codes "nil") (omega arith) refl (all_after_none whole) refl refl in
     (all.pages, all.follow, all.all ∙ ap (map (shown_of q)) (sym (all_after_none whole)))

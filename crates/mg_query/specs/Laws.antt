@@ -61,17 +61,19 @@ abbrev pub CanBeReadBack : Source → Query → Candidate → Type 0
 CanBeReadBack s q c = bookmark_read (bookmark_at s q c) ≡ Some (Some (place_at s q c))
 
 -- If an index serves the query without a bookmark, the query skips nothing, its limit is at least 1, and `Holds` is true of each
--- document, then there are pages that follow one another from the first on. Together they show what the query finds, in order.
+-- document that the query finds, then there are pages that follow one another from the first on. Together they show what the query finds,
+-- in order.
 abbrev pub PagesJoinWhere : (Source → Query → Candidate → Type 0) → Type 0
 PagesJoinWhere Holds =
-    (ds : List IndexDefinition) (s : Source) (q : Query) (hs : Histories) → served_by ds (from_first q) ≡ Ok s → q.skip ≡ 0 → 1 ≤ q.limit → AllByRecursion (Holds s q) (candidates_of hs)
+    (ds : List IndexDefinition) (s : Source) (q : Query) (hs : Histories) → served_by ds (from_first q) ≡ Ok s → q.skip ≡ 0 → 1 ≤ q.limit
+    → AllByRecursion (Holds s q) (candidates_found (source_columns s) (from_first q) (candidates_of hs))
     → (pages : List Page) × Follow ds q (candidates_of hs) (codes "nil") pages
     × (joined (map (λ page. page.docs) pages) ≡ map (shown_of q) (candidates_found (source_columns s) (from_first q) (candidates_of hs)))
 
--- pages join if JSON text can carry the place of each document
+-- pages join if JSON text can carry the place of each document that the query finds
 abbrev pub PagesJoin : Type 0
 PagesJoin = PagesJoinWhere PlaceCanBeSpelled
 
--- pages join if the bookmark of each document is read back as its place, whatever the keys
+-- pages join if the bookmark of each document that the query finds is read back as its place, whatever the keys
 abbrev pub PagesReadBackJoin : Type 0
 PagesReadBackJoin = PagesJoinWhere CanBeReadBack
