@@ -40,8 +40,8 @@ def run(commands, program):
     that says so and their standard error. All that they started has ended then."""
     with tempfile.TemporaryDirectory() as folder:
         commands = commands.replace("/tmp/", f"{folder}/")
-        for port in ("5984", "5985"):
-            commands = commands.replace(port, str(free_port()))
+        ports = {"5984": str(free_port()), "5985": str(free_port())}
+        commands = re.sub("598[45]", lambda port: ports[port.group()], commands)
         commands = KILL + TRY.sub(rf"{program} \1 &", commands).replace("crates/mangod/out/mangod", str(program))
         shell = subprocess.Popen(["bash", "-c", commands], cwd=TOP, stdin=subprocess.DEVNULL, stdout=subprocess.PIPE,
                                  stderr=subprocess.PIPE, text=True, start_new_session=True)
