@@ -10,7 +10,9 @@ program takes the place of `rt try` and of crates/mangod/out/mangod, free ports 
 `command` is the `sh` block of README.md with `printf`, unchanged, which builds and runs the program without proving it: its output must end
 in the bytes of crates/mangod/stdout. Needs `rt`. The last line is 'N passed, M failed'.
 """
+import os
 import re
+import signal
 import subprocess
 import sys
 import tempfile
@@ -34,14 +36,21 @@ def blocks(text, kind):
 
 
 def run(commands, program):
-    """Runs commands in one shell at the top of the repository. Returns their standard output."""
+    """Runs commands in one shell at the top of the repository. Returns their standard output, and if they have not ended in time, a line
+    that says so and their standard error. All that they started has ended then."""
     with tempfile.TemporaryDirectory() as folder:
         commands = commands.replace("/tmp/", f"{folder}/")
-        for port in ("5984", "5985"):
-            commands = commands.replace(port, str(free_port()))
+        ports = {"5984": str(free_port()), "5985": str(free_port())}
+        commands = re.sub("598[45]", lambda port: ports[port.group()], commands)
         commands = KILL + TRY.sub(rf"{program} \1 &", commands).replace("crates/mangod/out/mangod", str(program))
-        done = subprocess.run(["bash", "-c", commands], cwd=TOP, stdin=subprocess.DEVNULL, capture_output=True, text=True, timeout=SECONDS)
-    return done.stdout
+        shell = subprocess.Popen(["bash", "-c", commands], cwd=TOP, stdin=subprocess.DEVNULL, stdout=subprocess.PIPE,
+                                 stderr=subprocess.PIPE, text=True, start_new_session=True)
+        try:
+            return shell.communicate(timeout=SECONDS)[0]
+        except subprocess.TimeoutExpired:
+            os.killpg(shell.pid, signal.SIGKILL)
+            output, errors = shell.communicate()
+            return f"{output}\nnot ended after {SECONDS} seconds; standard error:\n{errors}"
 
 
 def check_readme(program, tally):

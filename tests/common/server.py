@@ -1,6 +1,7 @@
 """Starts programs that listen on a free port of 127.0.0.1."""
 import contextlib
 import dataclasses
+import random
 import resource
 import socket
 import subprocess
@@ -16,8 +17,11 @@ class Launch:
 
 
 def free_port():
-    with socket.create_server(("127.0.0.1", 0)) as server:
-        return server.getsockname()[1]
+    """Returns a port at which a program can listen. The system gives none of these to a client by itself, so none is taken meanwhile."""
+    for port in random.sample(range(10_240, 32_768), 100):
+        with contextlib.suppress(OSError), socket.create_server(("127.0.0.1", port)):
+            return port
+    sys.exit("no port is free")
 
 
 def descriptor_limit(descriptors):

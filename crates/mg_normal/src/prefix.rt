@@ -4,7 +4,7 @@ ghost use Rattle.mg_path.specs.Equal.{path_eq};
 ghost use Rattle.mg_path.specs.Part.{part_of};
 ghost use Rattle.mg_normal.specs.View.{above_steps};
 
-use mg_path::Path;
+use mg_path::{Path, part_of};
 use mg_value::{LentValue, NoMemory, copy_texts};
 use std::alloc::{AllocError, Global};
 use std::sync::Arc;
@@ -44,9 +44,12 @@ pub(crate) fn lengthen(
 pub(crate) fn part_below<L: LentValue>(above: &Option<Arc<Prefix>>, document: L) -> Option<L>
     ensures { option_map L.value result ≡ part_of (above_steps above.now) (L.value document) }
 {
-    match above {
-        Some(prefix) => prefix.path.get_in(part_below(&prefix.above, document)),
-        None => Some(document),
+    let Some(prefix) = above else {
+        return Some(document);
+    };
+    match &prefix.above {
+        None => part_of(prefix.path.steps(), document),
+        Some(_) => prefix.path.get_in(part_below(&prefix.above, document)),
     }
 }
 
