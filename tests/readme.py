@@ -42,7 +42,8 @@ def run(commands, program):
         commands = commands.replace("/tmp/", f"{folder}/")
         ports = {"5984": str(free_port()), "5985": str(free_port())}
         commands = re.sub("598[45]", lambda port: ports[port.group()], commands)
-        commands = KILL + TRY.sub(rf"{program} \1 &", commands).replace("crates/mangod/out/mangod", str(program))
+        commands = commands.replace("crates/mangod/out/mangod", str(program))
+        commands = KILL + TRY.sub(lambda start: f"{program} {start.group(1)} &", commands)
         shell = subprocess.Popen(["bash", "-c", commands], cwd=TOP, stdin=subprocess.DEVNULL, stdout=subprocess.PIPE,
                                  stderr=subprocess.PIPE, text=True, start_new_session=True)
         try:
