@@ -42,7 +42,8 @@ STACK = 1 << 20
 BODY_ROOM = 64 << 20
 BODY_TIMES = 64
 # beside BODY_ROOM, how many times its largest message an input takes that takes more than BODY_TIMES times it
-MORE = {"or_arms": 130, "nor_arms": 130, "negated_choices": 140, "deep_negations": 130, "arms_under_a_path": 140, "deep_arrays": 140,
+MORE = {"or_arms": 130, "nor_arms": 130, "choices": 140, "negated_choices": 140, "deep_negations": 130, "arms_under_a_path": 140,
+        "deep_arrays": 140,
         # these have an atom for each operator, with its argument
         "atoms_under_a_path": 120, "atoms_at_every_depth": 120,
         # most of this is what the database keeps

@@ -77,13 +77,14 @@ def check_short_calls(refusal, command, transcript, name, tally):
 
 
 def check_counts(refusal, command, transcript, tally):
-    """Each reply is one write, however its message came. Messages that come together share reads. The last read finds the end."""
+    """Each reply is one write, but those to messages that come in one read share it. The last read finds the end."""
     for piece in (0, 7, 1):
         refusal.reset(piece=piece, whole_writes=True)
         found = refusal.run(command, transcript.given)
         counts = refusal.calls("reads"), refusal.calls("writes")
         reads = -(-len(transcript.given) // piece) if piece else 1
-        expected = (transcript.text, ENDS["Eof"]), reads + 1, transcript.count()
+        writes = transcript.count() if piece else 1
+        expected = (transcript.text, ENDS["Eof"]), reads + 1, writes
         tally.expect(f"reads of {piece or 'all'} bytes: reads and writes", (found, *counts), expected)
 
 

@@ -3,8 +3,10 @@
 
 usage: tcp.py --program PATH [--shards N] [--workers N] [--full]
 
-The program listens on a free port of 127.0.0.1. Each message and each expected reply is written out here. Prints each fault; the last
-line is 'N passed, M failed'. Needs `curl`. Only --full tests that a message and a reply are cut off after 60 seconds.
+The program listens on a free port of 127.0.0.1. Each message and each expected reply is written out here. Where a reply has to come in
+time, one of five attempts has to keep the limit: a machine that is busy with other things adds to the time, and a client that waits for
+another one would miss the limit at each attempt. Prints each fault; the last line is 'N passed, M failed'. Needs `curl`. Only --full tests
+that a message and a reply are cut off after 60 seconds, and that unread replies take a bounded memory.
 """
 import concurrent.futures
 import http.client
@@ -22,6 +24,7 @@ from common.tally import Tally
 from common.wire import Client, Wire, replies_to
 
 SECONDS = 30
+ATTEMPTS = 5
 
 BODY = '{"docs":[{"_id":"d1","_rev":"1-a","v":1}],"new_edits":false}'
 BULK = post("_bulk_docs", BODY.encode())
@@ -36,6 +39,22 @@ BAD_HEAD = reply(400, '{"error":"bad_head","reason":"Bad request head."}')
 NINE_MEGABYTES = 9_000_000
 TOO_LARGE = reply(413, '{"error":"too_large","reason":"Request too large."}')
 NO_LENGTH = b"HTTP/1.1 411 Length Required"
+
+
+def in_time(limit, work):
+    """Whether one of some attempts takes less than this many seconds; each has to give a true value."""
+    for _ in range(ATTEMPTS):
+        begin = time.monotonic()
+        if not work():
+            return False
+        if time.monotonic() - begin < limit:
+            return True
+    return False
+
+
+def asked_within(port, seconds, want):
+    """Whether a new client gets this reply within some seconds."""
+    return in_time(seconds, lambda: replies_to(port, FIND) == want)
 
 
 def one_after_another(port, tally):
@@ -92,6 +111,14 @@ def a_client_that_pauses(port, tally):
         tally.expect("the silent one", silent.ask(FIND), PAGE)
 
 
+def a_quick_client_that_pauses(port, tally):
+    """A client sends messages without a pause, so that a session stays with it. After a pause it is served as before, several times."""
+    with Wire(port) as wire:
+        for turn in range(5):
+            tally.expect(f"quick messages, turn {turn}", {wire.ask(FIND) for _ in range(100)}, {PAGE})
+            time.sleep(0.1)
+
+
 def pauses_within_a_message(port, tally):
     """A message is sent in parts. After each part is a pause that, between messages, would give the session to others."""
     with Wire(port) as wire:
@@ -109,9 +136,7 @@ def a_hundred_idle(port, tally):
     try:
         for wire in wires[:50]:
             tally.expect("one of fifty", wire.ask(FIND), PAGE)
-        begin = time.monotonic()
-        tally.expect("behind 100", replies_to(port, FIND), PAGE)
-        tally.expect("within 2 seconds", time.monotonic() - begin < 2, True)
+        tally.expect("behind 100, within 2 seconds", asked_within(port, 2, PAGE), True)
         for wire in wires[:50]:
             wire.send(FIND)
         tally.expect("fifty at once", [wire.reply() for wire in wires[:50]], [PAGE] * 50)
@@ -125,25 +150,34 @@ def a_hundred_idle(port, tally):
             wire.close()
 
 
-def busy_clients(port, tally):
-    """Clients that keep all sessions busy without a pause do not keep another client from being served."""
-    last = time.monotonic() + 2
+# how many replies six busy clients may get while another one waits for its own, which is some turns of each client
+MEANWHILE = 2000
 
-    def ask_again_and_again():
+
+def busy_clients(port, tally):
+    """Clients that keep all sessions busy without a pause do not keep each other, or another client, from being served."""
+    served, replies = threading.Event(), [[] for _ in range(6)]
+
+    def ask_again_and_again(found):
         with Wire(port) as wire:
-            replies = set()
-            while time.monotonic() < last:
-                replies.add(wire.ask(FIND))
-            return replies
+            while not (found and served.is_set()):
+                found.append(wire.ask(FIND))
 
     def ask_once_more():
-        time.sleep(0.3)
-        begin = time.monotonic()
-        return replies_to(port, FIND), time.monotonic() - begin < 1
+        try:
+            time.sleep(0.3)
+            for _ in range(ATTEMPTS):
+                before = sum(map(len, replies))
+                found = replies_to(port, FIND), sum(map(len, replies)) - before <= MEANWHILE
+                if found == (PAGE, True):
+                    break
+            return found
+        finally:
+            served.set()
 
-    *served, other = side_by_side([ask_again_and_again] * 6 + [ask_once_more])
+    *_, other = side_by_side([*[lambda found=found: ask_again_and_again(found) for found in replies], ask_once_more])
     tally.expect("one more client", other, (PAGE, True))
-    tally.expect("all of them", served, [{PAGE}] * 6)
+    tally.expect("all of them", [set(found) for found in replies], [{PAGE}] * 6)
 
 
 def refusals_arrive(port, tally):
@@ -278,6 +312,113 @@ def more_clients_than_seats(port, tally):
     tally.expect("twelve clients", side_by_side([lambda number=number: write_and_read(number) for number in range(12)]), [(201, 200)] * 12)
 
 
+LARGE = 400_000
+LARGE_PAGE = b'POST /db/_find HTTP/1.1\r\nContent-Length: 31\r\n\r\n{"selector":{},"limit":1000000}'
+
+
+def large_documents(port):
+    """Writes 24 documents of 400,000 bytes, which one page returns."""
+    client = Client(port)
+    for part in range(4):
+        client.ask("POST", "/db/_bulk_docs", {"docs": [{"_id": f"{part}-{number}", "text": "x" * LARGE} for number in range(6)]})
+    client.close()
+
+
+def slow_wire(port):
+    """A connection with a small buffer for what it receives."""
+    wire = Wire.__new__(Wire)
+    wire.socket = socket.socket()
+    wire.socket.settimeout(90)
+    wire.socket.setsockopt(socket.SOL_SOCKET, socket.SO_RCVBUF, 8192)
+    wire.socket.connect(("127.0.0.1", port))
+    wire.unread, wire.was_reset = b"", False
+    return wire
+
+
+def unfinished_messages(port, tally):
+    """More clients than there are sessions send a part of a message each. Another client is answered at once, and they are when the rest comes."""
+    tally.expect("a document", replies_to(port, BULK), DONE)
+    parts = [place for place in (1, 30, len(FIND) - 10) for _ in range(20)]
+    wires = [Wire(port) for _ in parts]
+    for wire, place in zip(wires, parts):
+        wire.send(FIND[:place])
+    time.sleep(0.1)
+    tally.expect("behind unfinished messages", [asked_within(port, 1, PAGE) for _ in range(5)], [True] * 5)
+    for wire, place in zip(wires, parts):
+        wire.send(FIND[place:])
+    tally.expect("finished messages", [wire.reply() for wire in wires], [PAGE] * len(parts))
+    for wire in wires:
+        wire.close()
+
+
+def unread_replies(port, tally):
+    """More clients than there are sessions do not read a large reply. Another client is answered at once, and they get their replies when
+    they read."""
+    large_documents(port)
+    wires = [slow_wire(port) for _ in range(6)]
+    for wire in wires:
+        wire.send(LARGE_PAGE)
+    time.sleep(1)
+    tally.expect("behind unread replies", [asked_within(port, 1, EMPTY) for _ in range(5)], [True] * 5)
+    pages = side_by_side([wire.reply for wire in wires])
+    tally.expect("replies that are read later", [len(page) > 24 * LARGE and page == pages[0] for page in pages], [True] * len(wires))
+    for wire in wires:
+        wire.close()
+
+
+def pausing_clients(port, tally):
+    """24 clients of one session pause 30 milliseconds before each of their messages. Half of the replies come within 200 milliseconds."""
+
+    def pause_and_ask(last):
+        times = []
+        with Wire(port) as wire:
+            while time.monotonic() < last:
+                time.sleep(0.03)
+                begin = time.monotonic()
+                if wire.ask(FIND) != EMPTY:
+                    return [SECONDS]
+                times.append(time.monotonic() - begin)
+        return times
+
+    def median():
+        last = time.monotonic() + 2
+        times = sorted(sum(side_by_side([lambda: pause_and_ask(last)] * 24), []))
+        return times[len(times) // 2]
+
+    tally.expect("clients that pause", any(median() < 0.2 for _ in range(ATTEMPTS)), True)
+
+
+def many_at_once(port, tally):
+    """500 clients connect, and then all send at once: each is answered, the last one within 5 seconds."""
+
+    def all_answered(wires):
+        for wire in wires:
+            wire.send(FIND)
+        return [wire.reply() for wire in wires] == [EMPTY] * 500
+
+    wires = [Wire(port) for _ in range(500)]
+    tally.expect("five hundred at once, within 5 seconds", in_time(5, lambda: all_answered(wires)), True)
+    for wire in wires:
+        wire.close()
+
+
+def own_writes(port, tally):
+    """On each of eight connections, which go from session to session, each read sees the write that was answered before it, and no older
+    value than a read before it."""
+
+    def write_and_read(number):
+        client, rev, seen = Client(port), {}, []
+        for turn in range(40):
+            status, rows = client.ask("POST", "/db/_bulk_docs", {"docs": [{"_id": f"own{number}", "n": turn, **rev}]})
+            rev = {"_rev": rows[0]["rev"]}
+            seen.append(client.ask("GET", f"/db/own{number}")[1]["n"])
+        client.close()
+        return seen
+
+    found = side_by_side([lambda number=number: write_and_read(number) for number in range(8)])
+    tally.expect("own writes", found, [list(range(40))] * 8)
+
+
 def bad_addresses(launch, tally):
     """The program reports an address at which it cannot listen, and ends."""
     with socket.create_server(("127.0.0.1", 0)) as taken:
@@ -310,48 +451,49 @@ def host_names(launch, tally):
 
 
 def deadlines(launch, tally):
-    """A client that sends its message byte by byte, or reads its reply slowly, holds a session for 60 seconds and no longer."""
+    """A client that sends its message byte by byte, or does not read its reply, is cut off after 60 seconds. Others do not wait for it."""
 
-    def slow_message(connection, turn):
-        connection.sendall(FIND[turn:turn + 1])
+    def slow_message(wire):
+        begin = time.monotonic()
+        for turn in range(75):
+            if not wire.send(FIND[turn:turn + 1]) or wire.more_within(1) is False:
+                break
+        return 55 < time.monotonic() - begin < 70
 
-    def slow_reader(connection, turn):
-        if turn == 0:
-            connection.sendall(b'POST /db/_find HTTP/1.1\r\nContent-Length: 31\r\n\r\n{"selector":{},"limit":1000000}')
-        connection.recv(10_000)
+    def slow_reader(wire):
+        wire.send(LARGE_PAGE)
+        time.sleep(70)
+        return 0 < len(wire.rest()) < 24 * LARGE
 
-    def ask_other(port, begin):
-        with Wire(port, seconds=90) as wire:
-            return wire.ask(FIND), time.monotonic() - begin
+    with listening(launch, 1) as port:
+        large_documents(port)
+        others = lambda: [asked_within(port, 1, EMPTY) and time.sleep(1) is None for _ in range(55)]
+        with Wire(port) as message, slow_wire(port) as reader:
+            found = side_by_side([lambda: slow_message(message), lambda: slow_reader(reader), others])
+    tally.expect("slow clients", found, [True, True, [True] * 55])
 
-    def behind(act):
-        """Returns the reply to another client that waits for the only session, and whether it waited about 60 seconds."""
-        with listening(launch, 1) as port, socket.socket() as connection:
-            client = Client(port)
-            for part in range(4):
-                client.ask("POST", "/db/_bulk_docs", {"docs": [{"_id": f"{part}-{number}", "text": "x" * 400_000} for number in range(6)]})
-            client.close()
-            connection.setsockopt(socket.SOL_SOCKET, socket.SO_RCVBUF, 8192)
-            connection.connect(("127.0.0.1", port))
-            act(connection, 0)
-            begin = time.monotonic()
-            with concurrent.futures.ThreadPoolExecutor(1) as threads:
-                other = threads.submit(ask_other, port, begin)
-                for turn in range(1, 75):
-                    time.sleep(1)
-                    if other.done():
-                        break
-                    act(connection, turn)
-                found, waited = other.result()
-        return found, 55 < waited < 70
 
-    tally.expect("behind slow clients", side_by_side([lambda: behind(slow_message), lambda: behind(slow_reader)]), [(EMPTY, True)] * 2)
+def bounded_memory(launch, tally):
+    """130 clients do not read replies of 9.6 MB. The connections that have been still longest are closed, and the last ones get their replies."""
+    with listening(launch, 2) as port:
+        large_documents(port)
+        wires = []
+        for _ in range(130):
+            wires.append(slow_wire(port))
+            wires[-1].send(LARGE_PAGE)
+            time.sleep(0.1)
+        tally.expect("behind unread replies", asked_within(port, 60, EMPTY), True)
+        tally.expect("the last reply", len(wires[-1].reply()) > 24 * LARGE, True)
+        tally.expect("the first reply", len(wires[0].reply()) < 24 * LARGE, True)
+        for wire in wires:
+            wire.close()
 
 
 # the number of sessions of the program, and the checks made with it
 CHECKS = [(1, [one_after_another, cut_messages, a_client_that_pauses, pauses_within_a_message]), (1, [clients_that_leave, refusals_arrive]),
-          (1, [python_client]), (1, [curl]), (2, [one_after_another, busy_clients]), (4, [a_hundred_idle]), (16, [sixteen_writers]),
-          (5, [whole_bulks]), (2, [more_clients_than_seats, clients_that_leave])]
+          (1, [python_client]), (1, [curl]), (2, [one_after_another, a_quick_client_that_pauses, busy_clients]), (4, [a_hundred_idle]), (16, [sixteen_writers]),
+          (5, [whole_bulks]), (2, [more_clients_than_seats, clients_that_leave]), (1, [unfinished_messages]), (4, [unfinished_messages]),
+          (1, [pausing_clients, unread_replies]), (4, [many_at_once]), (4, [unread_replies]), (8, [own_writes])]
 
 
 def main():
@@ -366,6 +508,7 @@ def main():
     host_names(launch, tally)
     if args.full:
         deadlines(launch, tally)
+        bounded_memory(launch, tally)
     return tally.end()
 
 

@@ -11,9 +11,11 @@ from .documents import BULK, Corpus
 from .program import Program, message
 
 REQUESTS = 100
-SESSIONS = 2
-# a pause in seconds, after which a session waits for the next request; and how long a program may take to become still
-PAUSE, STILL = 0.003, 0.1
+# one session, so that no two threads meet by chance
+SESSIONS = 1
+# A pause in seconds, after which no thread waits for the client any more, so that each piece is an event of its own; the same under valgrind,
+# where a visit takes longer; and how long a program may take to become still.
+PAUSE, LONG_PAUSE, STILL = 0.003, 0.02, 0.1
 FILLER = b"".join(b"X-Filler-%d: %s\r\n" % (number, b"a" * 80) for number in range(40))
 
 
@@ -72,7 +74,7 @@ def system_calls(path):
 
 
 def instructions(path):
-    """Returns the instructions of a request, for each form of its head."""
+    """Returns the instructions of a request of a client that pauses, for each form of its head."""
     with tempfile.TemporaryDirectory() as folder:
         counter = Counter(folder)
         with loaded(path, tool=[*TOOL, *counter.options()]) as (system, connection, text):
@@ -80,8 +82,7 @@ def instructions(path):
             for row, pieces in heads(text).items():
                 def again():
                     for _ in range(REQUESTS):
-                        # a piece is read before the next one is sent
-                        ask(connection, pieces, 0.01 if len(pieces) > 1 else 0)
+                        ask(connection, pieces, LONG_PAUSE)
                 found[row] = round(counter.count(system.process.pid, again, again)["Ir"] / REQUESTS)
             return found
 

@@ -3,7 +3,7 @@ import shutil
 
 
 class Tally:
-    """Counts checks, and prints those that failed."""
+    """Counts checks, and prints those that failed, each on a line that begins with FAILED."""
 
     def __init__(self):
         self.passed = self.failed = 0
@@ -14,13 +14,13 @@ class Tally:
             self.passed += 1
         else:
             self.failed += 1
-            print(f"{name}: {found!r}\n  expected {expected!r}", flush=True)
+            print(f"FAILED {name}: {found!r}\n  expected {expected!r}", flush=True)
 
     def count(self, name, faults):
         """Counts a check, which passes if it has no faults."""
         if faults:
             self.failed += 1
-            print(f"{name}: {'; '.join(map(str, faults))}", flush=True)
+            print(f"FAILED {name}: {'; '.join(map(str, faults))}", flush=True)
         else:
             self.passed += 1
 
@@ -29,13 +29,13 @@ class Tally:
         is_installed = shutil.which(command) is not None
         if not is_installed:
             self.failed += 1
-            print(f"the command {command} is not installed: the checks that need it are left out", flush=True)
+            print(f"FAILED the command {command} is not installed: the checks that need it are left out", flush=True)
         return is_installed
 
     def end(self):
         """Prints the last line, and returns the exit status. A script without a check has failed."""
         if self.passed + self.failed == 0:
             self.failed = 1
-            print("there was no check")
+            print("FAILED there was no check")
         print(f"{self.passed} passed, {self.failed} failed")
         return 1 if self.failed else 0

@@ -26,7 +26,7 @@ wrong_arguments = record { status = 2; line = codes "mangod: usage: mangod DB SH
 abbrev pub no_memory : Exit
 no_memory = record { status = 1; line = codes "mangod: out of memory" }
 
--- the program cannot listen at the address, or cannot open the lobby for another reason than memory
+-- the program cannot listen at the address, or cannot watch the socket for another reason than memory
 abbrev pub cannot_listen : Exit
 cannot_listen = record { status = 1; line = codes "mangod: cannot listen" }
 

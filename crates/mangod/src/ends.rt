@@ -22,7 +22,7 @@ pub(crate) const NO_MEMORY: Exit = Exit {
     line: "mangod: out of memory",
 };
 
-/// The program cannot listen at the address, or cannot open the lobby for another reason than memory.
+/// The program cannot listen at the address, or cannot watch the socket for another reason than memory.
 pub(crate) const CANNOT_LISTEN: Exit = Exit {
     status: 1,
     line: "mangod: cannot listen",

@@ -3,14 +3,12 @@
 
 mod arguments;
 mod config;
-mod connection;
-mod connections;
 mod ends;
-mod faults;
-mod lobby;
-mod pace;
 mod program;
 mod seats;
+mod serving;
+#[cfg(test)]
+mod tests;
 
 use crate::arguments::{sessions, settings};
 use crate::ends::{NO_MEMORY, WRONG_ARGUMENTS};

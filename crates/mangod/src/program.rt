@@ -10,15 +10,14 @@ ghost use Rattle.mangod.specs.Program.{IsEndOfListening, RunsOneSession, RunsWit
 ghost use Rattle.mangod.specs.View.{exit_view, settings_view};
 
 use crate::config::Settings;
-use crate::ends::{CANNOT_LISTEN, Exit, NO_MEMORY, STOPPED, WRONG_ARGUMENTS};
-use crate::lobby::Lobby;
-use crate::seats::serve;
+use crate::ends::{CANNOT_LISTEN, Exit, NO_MEMORY, WRONG_ARGUMENTS};
+use crate::serving::serve;
 use mg_engine::Engine;
 use mg_http::{Device, Solo};
 use mg_live::{CommitLog, Database, Live, WaitForReaders};
 use mg_shard::Md5Placement;
 use mg_value::NoMemory;
-use std::io::{Eprint, ErrorKind, Read, Write};
+use std::io::{Eprint, Read, Write};
 use std::net::{Net, TcpListener, TcpStream};
 use std::sync::Wait;
 use std::sync::ledger::Blank;
@@ -80,7 +79,7 @@ fn hold_session<H: Wait + Threads + Sync + AllocGlobal, R: Read, W: Write>(
 ) -> Exit
     requires reading { has_failed reader.old ≡ false }
     requires writing { has_failed writer.old ≡ false }
-    ensures { RunsOneSession settings.entry.db.now
+    ensures { RunsOneSession (settings_view settings.entry)
         (Consumes (R.remaining (inner_of reader.old)) (R.remaining (inner_of reader.new)))
         (Appends (W.contents (inner_of writer.old)) (W.contents (inner_of writer.new))) (exit_view result) }
 {
@@ -92,8 +91,8 @@ fn hold_session<H: Wait + Threads + Sync + AllocGlobal, R: Read, W: Write>(
     }
 }
 
-// Listens, and holds sessions with the clients that connect, each at a seat of a database that is empty at the start. Returns only if
-// memory runs out at the start or at the end, the address or the lobby cannot be opened, or the listener or the poll fails.
+// Listens, and answers the clients that connect, at the seats of a database that is empty at the start. Returns only if memory runs out at
+// the start or at the end, the address or the edge cannot be opened, or the listener or the poll fails.
 fn listen<
     D: Database + Send + Sync,
     H: Wait
@@ -114,10 +113,9 @@ fn listen<
     requires parts { blank.parts ≡ settings.sessions }
     ensures { IsEndOfListening (exit_view result) }
 {
-    let alloc = rt.alloc();
     let opened = Live::<D, WaitForReaders<H>>::open(
         WaitForReaders(rt),
-        alloc,
+        rt.alloc(),
         blank,
         commit_log,
         settings.db,
@@ -131,22 +129,15 @@ fn listen<
     let Ok(listener) = TcpListener::bind(&rt, settings.addr) else {
         return CANNOT_LISTEN;
     };
-    let lobby = match Lobby::open(&rt, alloc, listener) {
-        Ok(lobby) => lobby,
-        Err(error) => match error.kind() {
-            ErrorKind::OutOfMemory => return NO_MEMORY,
-            _ => return CANNOT_LISTEN,
-        },
-    };
-    let _ = eprintln!(rt; "mangod: listening");
-    match serve(&rt, alloc, &settings, &lobby, seats) {
-        Ok(seats) => {
-            // Whether closing succeeds does not change the exit status: the listener or the poll has failed by then.
-            let _closed = live.close(&rt, seats);
-            STOPPED
-        }
-        Err(NoMemory) => NO_MEMORY,
-    }
+    serve::<D, H>(
+        rt,
+        settings.db,
+        listener,
+        live,
+        seats,
+        settings.workers,
+        None,
+    )
 }
 
 // Makes a service of an empty database. Errors: `NoMemory` if an allocation fails.

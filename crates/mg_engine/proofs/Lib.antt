@@ -10,3 +10,6 @@ mod Pages
 mod Preparing
 pub mod Objects
 mod Entries
+mod Spelled
+mod Carried
+mod Spelling

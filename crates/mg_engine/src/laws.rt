@@ -1,7 +1,7 @@
-//! Laws of executions, each the contract of a function that does nothing.
+//! Laws of executions and of the worlds that they leave, each the contract of a function that does nothing.
 ghost use Rattle.std.specs.Prelude.{◌≡◌, List, map, length, Some};
 ghost use Rattle.mg_engine.specs.Commands.{Answer, Asked};
-ghost use Rattle.mg_engine.specs.Laws.{ReshardsChangeNoReply, ReshardsChangeNoWorld};
+ghost use Rattle.mg_engine.specs.Laws.{PagesJoin, ReshardsChangeNoReply, ReshardsChangeNoWorld};
 ghost use Rattle.mg_engine.specs.Execution.{answered_commands, answers_of};
 
 /// If no command is refused memory, `answered_commands` returns all commands and `answers_of` all answers.
@@ -20,3 +20,12 @@ pub fn reshards_change_no_reply()
 pub fn reshards_change_no_world()
     ensures { ReshardsChangeNoWorld }
 {}
+
+/// Pages join in every world that commands leave, if the code can hold the bodies of the writes and no bulk nests more than 127 deep, as is
+/// true of every body that is read from a JSON text. `mg_query::laws::pages_join` says what it means that pages join, and asks of each
+/// document that JSON text can carry its place; here that is proved.
+pub fn pages_join()
+    ensures { PagesJoin }
+{
+    mg_query::laws::pages_join();
+}

@@ -7,7 +7,7 @@
 //! commands that read. `commit` returns the next engine exactly if the status is 200 or 201 (`next`);
 //! `commit_prepared` does so for a command that `Prepared::of` has prepared, which for a bulk reads the
 //! documents. `run` answers a list of commands; after an `Err` it has executed no command (`none_run`). Laws:
-//! `where_memory_suffices`, `reshards_change_no_reply`, `reshards_change_no_world`.
+//! `where_memory_suffices`, `reshards_change_no_reply`, `reshards_change_no_world`, `pages_join`.
 #![tactic(auto)]
 
 mod body;

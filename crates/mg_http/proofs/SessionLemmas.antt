@@ -1,26 +1,22 @@
--- How the steps of a session compose: what was done before stays true when the session continues.
-use Rattle.std.proofs.Common.{◌≡◌, ◌⊎◌, ℕ, ◌+◌, ◌-◌, ◌<◌, ◌≤◌, List, [], ◌∷◌, ◌++◌, length, take, drop, Option, None, refl, sym, ap, ◌∙◌, subst, append_assoc, append-nil, take-append-drop, drop-drop, arith, length-append, length-drop, inl, inr, Result, Ok, Err, is_ok, cond, Bool, true, false}
+-- How what was said on a connection composes: what was said before stays true when more is received and said.
+use Rattle.std.proofs.Common.{◌≡◌, ◌⊎◌, ℕ, ◌+◌, ◌-◌, ◌<◌, ◌≤◌, List, [], ◌∷◌, ◌++◌, length, take, drop, Option, Some, None, refl, sym, ap, ◌∙◌, subst, append_assoc, append-nil, take-append-drop, drop-drop, arith, length-append, length-drop, inl, inr, cond, Bool, true, false}
 use Rattle.std.specs.Prelude.{slice_range}
-use Rattle.std.specs.Bool.{⊤}
-use Rattle.std.specs.Io.KnownBytes.{Appends, Consumes}
-use Rattle.std.proofs.KnownBytes.{Consumes-nil, Appends-nil, Consumes-trans, Appends-trans}
 use Rattle.std.proofs.lemmas.Grind.{common_steps}
 use Rattle.std.proofs.lemmas.List.{drop-append-le}
 use Rattle.httparse.specs.Grammar.{RequestHead, print_request}
 use Rattle.mg_engine.specs.Commands.{Asked, Answer, refused}
 use Rattle.mg_engine.specs.declared.refusal.Refusal.{Refusal}
-use Rattle.mg_http.specs.declared.sessions.device.IoFault.{IoFault}
 use Rattle.mg_http.specs.declared.request.head.Framed.{Framed}
-use Rattle.mg_http.specs.declared.sessions.inbox.Stop.{Stop}
-use Rattle.mg_http.specs.declared.sessions.inbox.Stop.TheVariants as stop
+use Rattle.mg_http.specs.declared.request.head.Pending.TheVariants as pending
 use Rattle.mg_http.specs.declared.sessions.SessionEnd.{SessionEnd}
-use Rattle.mg_http.specs.declared.sessions.SessionEnd.TheVariants.{Eof, Closed, Refused, ReadFault, WriteFault, Limit}
-use Rattle.mg_http.specs.Device.{WritesBytes}
-use Rattle.mg_http.specs.Message.{HasHead, Begins, IsRefused, IsWaiting}
+use Rattle.mg_http.specs.declared.sessions.SessionEnd.TheVariants as session
+use Rattle.mg_http.specs.declared.sessions.connection.Ending.{Ending}
+use Rattle.mg_http.specs.declared.sessions.connection.Ending.TheVariants.{Closed, Refused, Limit}
+use Rattle.mg_http.specs.Connection.{end_of, IsKept, Stands, Counts}
+use Rattle.mg_http.specs.Message.{HasHead, Begins, IsRefused, IsPartHead, IsWaiting}
 use Rattle.mg_http.specs.Reply.{text_of, reply_text}
-use Rattle.mg_http.specs.Session.{Call, IsHandled, Handles, call_text, Serves, LacksMemory, IsRefusalText, IsSessionEnd, Converses}
-use Rattle.mg_http.specs.Transcript.{IsAtLimit}
-use Rattle.mg_http.specs.Steps.{request_in, message_of, IsFramed, LacksMemoryForHead, Steps, Progress, Counts, StopsWith}
+use Rattle.mg_http.specs.Session.{Call, Handles, call_text, Serves, LacksMemory, IsRefusalText, IsSessionEnd, IsWritten, Converses}
+use Rattle.mg_http.specs.Steps.{request_in, message_of, IsFramed, LacksMemoryForHead, IsPending}
 use Rattle.mg_http.proofs.Forms.{exchange, handling}
 use Rattle.mg_http.proofs.HeadLemmas.{head_long}
 use Rattle.mg_http.proofs.MessageLemmas.{HasHead-append, Begins-append}
@@ -57,7 +53,7 @@ module _ (db : List ℕ) (h : RequestHead) (f : Framed) (bytes : List ℕ) (has 
   head_with more within = rw (drop-append-le f.head_len bytes more within) (HasHead-append bytes h (drop f.head_len bytes) more has)
 
 -- a head has at least one byte
-pub head_counts : (bytes : List ℕ) (h : RequestHead) (len : ℕ) → HasHead bytes h (drop len bytes) → len ≤ length bytes → 1 ≤ len
+head_counts : (bytes : List ℕ) (h : RequestHead) (len : ℕ) → HasHead bytes h (drop len bytes) → len ≤ length bytes → 1 ≤ len
 head_counts bytes h len has within =
     omega (arith, within, head_long h has.reads.0, ap length has.reads.1, length-append (print_request h) (drop len bytes), length-drop len bytes)
 
@@ -68,57 +64,47 @@ refuses_by db bytes refusal omits_body (inl is) = inl (refusal, omits_body, is, 
 refuses_by db bytes refusal omits_body (inr (is, h, after, has, quiet)) =
     inr (omits_body, inr (inr (h, after, has, quiet)), ap (λ (r : Refusal). text_of omits_body (refused r)) is)
 
--- a session that stopped reading ends at its limit only if it may not call its reader again
-pub stops_at_limit : (old new : Option (List ℕ)) (omits_body : Bool) (s : Stop) (end : SessionEnd) → StopsWith old new omits_body s end → end ≡ Limit → s ≡ stop.Limit
-stops_at_limit old new omits_body stop.End end h e = let f : Eof ≡ Limit = sym h.0 ∙ e in cc
-stops_at_limit old new omits_body stop.Failed end h e = let f : ReadFault ≡ Limit = sym h.0 ∙ e in cc
-stops_at_limit old new omits_body stop.Limit end h e = refl
-stops_at_limit old new omits_body stop.NoMemory Refused h e = cc
-stops_at_limit old new omits_body stop.NoMemory WriteFault h e = cc
-stops_at_limit old new omits_body stop.NoMemory Eof h e = absurd h
-stops_at_limit old new omits_body stop.NoMemory Closed h e = absurd h
-stops_at_limit old new omits_body stop.NoMemory ReadFault h e = absurd h
-stops_at_limit old new omits_body stop.NoMemory Limit h e = absurd h
+-- a head that was read stays read when more bytes arrive
+kept_more : (db bytes more : List ℕ) (framed : Option Framed) → IsKept db bytes framed → IsKept db (bytes ++ more) framed
+kept_more db bytes more None h = tt
+kept_more db bytes more (Some f) h =
+    (omega (arith, h.0, length-append bytes more), h.1, h.2, head_with db h.2 f bytes h.3 h.4 more h.0, h.4)
 
--- a session that wrote a refusing text, or a prefix of it, did not end at its limit
-pub refused_counts : {A P : Type 0} (written : Result A IoFault) (end : SessionEnd) → end ≡ cond (is_ok written) Refused WriteFault → end ≡ Limit → P
-refused_counts (Ok a) end e at = let f : Refused ≡ Limit = sym e ∙ at in cc
-refused_counts (Err x) end e at = let f : WriteFault ≡ Limit = sym e ∙ at in cc
+-- an incomplete head, or a whole head before an incomplete body: there may be no memory for more
+pub lacks_after : (db bytes : List ℕ) (f : Framed) → IsPending db bytes (pending.Head f) → IsRefusalText db bytes (reply_text f.omits_body None)
+lacks_after db bytes f h = inr (f.omits_body, lacks_memory db h.2 f bytes h.3 h.4, refl)
 
-pub refused_text : {A : Type 0} (written : Result A IoFault) (end : SessionEnd) (bytes : List ℕ) → end ≡ cond (is_ok written) Refused WriteFault → IsAtLimit end bytes
-refused_text (Ok a) end bytes e = rw e tt
-refused_text (Err x) end bytes e = rw e tt
+pub lacks_within : (db bytes : List ℕ) → IsPartHead bytes → IsRefusalText db bytes (reply_text false None)
+lacks_within db bytes h = inr (false, inr (inl (h, refl)), refl)
 
--- the progress of a step that answered a message
-pub answered_counts : {A : Type 0} (old new : Progress) (came : List ℕ) (written : Result A IoFault) (closes : Bool) (result : Result ⊤ SessionEnd)
-    → result ≡ cond (is_ok written) (cond closes (Err Closed) (Ok tt)) (Err WriteFault)
-    → new.messages + new.held ≤ old.messages + (old.held + length came) → new.reads ≤ old.reads + length came
-    → Counts old new came result
-answered_counts old new came (Ok a) true result e few often = rw e (λ at. let f : Closed ≡ Limit = at in cc)
-answered_counts old new came (Ok a) false result e few often = rw e (few, often)
-answered_counts old new came (Err x) closes result e few often = rw e (λ at. let f : WriteFault ≡ Limit = at in cc)
+pub waits_in_body : (db bytes : List ℕ) (f : Framed) → IsPending db bytes (pending.Head f) → length bytes < f.head_len + f.body_len → IsWaiting db bytes
+waits_in_body db bytes f h short = part_message db h.2 f bytes h.3 h.4 h.0 short
 
--- a session that ends at its limit has read at least 4,294,967,295 bytes
-pub at_limit : (end : SessionEnd) (bytes came held : List ℕ) (messages reads : ℕ) → messages + length held ≤ length bytes → reads ≤ length bytes
-    → (end ≡ Limit → (4294967295 ≤ messages) ⊎ (4294967295 ≤ reads + length came)) → IsAtLimit end (bytes ++ came)
-at_limit Limit bytes came held messages reads few often k =
-    elim (k refl) [
-      | inl many ↦ omega (arith, many, few, length-append bytes came)
-      | inr many ↦ omega (arith, many, often, length-append bytes came)
-    ]
-at_limit Eof bytes came held messages reads few often k = tt
-at_limit Closed bytes came held messages reads few often k = tt
-at_limit Refused bytes came held messages reads few often k = tt
-at_limit ReadFault bytes came held messages reads few often k = tt
-at_limit WriteFault bytes came held messages reads few often k = tt
+-- what is counted before and after
+pub counts_then : (end : Option Ending) (a b c : ℕ) → b ≤ a → Counts end b c → Counts end a c
+counts_then None a b c h k = omega (arith, h, k)
+counts_then (Some Closed) a b c h k = tt
+counts_then (Some Refused) a b c h k = tt
+counts_then (Some Limit) a b c h k = omega (arith, h, k)
+
+pub answered_counts : (db bytes : List ℕ) (f : Framed) (messages : ℕ) (end : Option Ending) → IsPending db bytes (pending.Head f) → f.head_len + f.body_len ≤ length bytes
+    → end ≡ cond f.closes (Some Closed) None → Counts end (messages + length bytes) (messages + 1 + length (drop (f.head_len + f.body_len) bytes))
+answered_counts db bytes f messages end h whole e =
+    elim f.closes as (λ b. end ≡ cond b (Some Closed) None → Counts end (messages + length bytes) (messages + 1 + length (drop (f.head_len + f.body_len) bytes))) [
+      | true ↦ λ is. rw is tt
+      | false ↦ λ is. rw is (omega (arith, head_counts bytes h.2 f.head_len h.3 h.0, whole, length-drop (f.head_len + f.body_len) bytes))
+    ] e
+
+-- what was written before, and then a session
+written_then : (end : SessionEnd) (text written whole : List ℕ) → IsWritten end written whole → IsWritten end (text ++ written) (text ++ whole)
+written_then session.Eof text written whole h = ap (λ (t : List ℕ). text ++ t) h
+written_then session.ReadFault text written whole h = ap (λ (t : List ℕ). text ++ t) h
+written_then session.Limit text written whole h = ap (λ (t : List ℕ). text ++ t) h
+written_then session.Closed text written whole h = ap (λ (t : List ℕ). text ++ t) h
+written_then session.Refused text written whole h = ap (λ (t : List ℕ). text ++ t) h
+written_then session.WriteFault text written whole h = (h.0, append_assoc text written h.0 ∙ ap (λ (t : List ℕ). text ++ t) h.1)
 
 module _ {S : Type 0} (answers : S → Asked → Option Answer → S → Type 0) (db : List ℕ) where
-  -- a session that ends with its first message, or before it
-  pub ends_at : (old : S) (bytes last : List ℕ) (new : S) (end : SessionEnd) → IsSessionEnd answers db end (exchange old bytes last new)
-      → Converses answers db end (exchange old bytes last new)
-  ends_at old bytes last new end h =
-      record { calls = []; text = []; rest = bytes; mid = old; served = (refl, refl, refl); last = last; ended = h; written_is = refl }
-
   -- bytes that come later follow the rest of a sequence of calls
   pub Serves-append : (old : S) (bytes : List ℕ) (calls : List Call) (text rest : List ℕ) (new : S) (more : List ℕ)
       → Serves answers db calls rest (exchange old bytes text new) → Serves answers db calls (rest ++ more) (exchange old (bytes ++ more) text new)
@@ -162,118 +148,44 @@ module _ {S : Type 0} (answers : S → Asked → Option Answer → S → Type 0)
     served = Serves-then old bytes calls text mid between k.calls k.text k.rest k.mid h k.served;
     last = k.last;
     ended = k.ended;
-    written_is = ap (λ (t : List ℕ). text ++ t) k.written_is ∙ sym (append_assoc text k.text k.last);
+    written_is = subst (IsWritten end (text ++ written)) (sym (append_assoc text k.text k.last)) (written_then end text written (k.text ++ k.last) k.written_is);
   }
 
-  -- the step ended the session: what was read and written, and how it ended
-  abbrev pub Promises : Option (List ℕ) → Option (List ℕ) → Option (List ℕ) → Option (List ℕ) → S → List ℕ → S → SessionEnd → Type 0
-  Promises r r' w w' old held new end =
-      (came : List ℕ) × (written : List ℕ) × Consumes r r' came × Appends w w' written × Converses answers db end (exchange old (held ++ came) written new)
+  -- the last text on a connection
+  pub ends_at : (old : S) (bytes last : List ℕ) (new : S) (end : SessionEnd) → IsSessionEnd answers db end (exchange old bytes last new) → IsWritten end last last
+      → Converses answers db end (exchange old bytes last new)
+  ends_at old bytes last new end h all =
+      record { calls = []; text = []; rest = bytes; mid = old; served = (refl, refl, refl); last = last; ended = h; written_is = all }
 
-  -- the step continues the session: what was read and written, and the calls that it served
-  abbrev pub Runs : Option (List ℕ) → Option (List ℕ) → Option (List ℕ) → Option (List ℕ) → S → List ℕ → List ℕ → S → Type 0
-  Runs r r' w w' old before held new =
-      (came : List ℕ) × (written : List ℕ) × Consumes r r' came × Appends w w' written
-      × ((calls : List Call) × Serves answers db calls held (exchange old (before ++ came) written new))
+  -- what was said before, and then more
+  pub stands_then : (end : Option Ending) (a : S) (bytes : List ℕ) (calls : List Call) (text left : List ℕ) (b : S) (later : List ℕ) (c : S) (rest : List ℕ) (framed : Option Framed)
+      → Serves answers db calls left (exchange a bytes text b) → Stands answers db end (exchange b left later c) rest framed
+      → Stands answers db end (exchange a bytes (text ++ later) c) rest framed
+  stands_then None a bytes calls text left b later c rest framed h k = ((calls ++ k.0.0, Serves-then a bytes calls text left b k.0.0 later rest c h k.0.1), k.1)
+  stands_then (Some ending) a bytes calls text left b later c rest framed h k = Converses-then a bytes calls text left b later c (end_of ending) h k
 
-  -- a message was handled, and its reply, or a prefix of it, was written
-  pub handled_one : {A : Type 0} (w w' : Option (List ℕ)) (old : S) (bytes rest : List ℕ) (new : S) (call : Call) (written : Result A IoFault) (closes : Bool)
-      → call.message.closes ≡ closes → Begins db bytes call.message rest → IsHandled answers old call new → WritesBytes w w' (call_text call) written
-      → (text : List ℕ) × Appends w w' text
-      × Steps answers db (exchange old bytes text new) rest (cond (is_ok written) (cond closes (Err Closed) (Ok tt)) (Err WriteFault))
-  handled_one w w' old bytes rest new call (Ok a) true c h k t =
-      (call_text call, t, ends_at old bytes (call_text call) new Closed (call, c, record { after = rest; begins = h; handled = k; text_is = refl }))
-  handled_one w w' old bytes rest new call (Ok a) false c h k t =
+  -- more bytes were received
+  pub stands_more : (end : Option Ending) (a : S) (bytes text : List ℕ) (b : S) (left : List ℕ) (framed : Option Framed) (more : List ℕ) → (more ≡ []) ⊎ (end ≡ None)
+      → Stands answers db end (exchange a bytes text b) left framed → Stands answers db end (exchange a (bytes ++ more) text b) (left ++ more) framed
+  stands_more None a bytes text b left framed more goes_on h = ((h.0.0, Serves-append a bytes h.0.0 text left b more h.0.1), kept_more db left more framed h.1)
+  stands_more (Some ending) a bytes text b left framed more (inl none) h = rw (none, append-nil bytes) h
+  stands_more (Some ending) a bytes text b left framed more (inr is) h = cc
+
+  -- a message was answered
+  answered_by : (closes : Bool) (old : S) (bytes rest : List ℕ) (new : S) (call : Call) (end : Option Ending) → call.message.closes ≡ closes → Begins db bytes call.message rest
+      → Handles answers call.message.request call.message.body (handling old call.reply new) → end ≡ cond closes (Some Closed) None
+      → Stands answers db end (exchange old bytes (call_text call) new) rest None
+  answered_by true old bytes rest new call end c h k e =
+      rw e (ends_at old bytes (call_text call) new session.Closed (call, c, record { after = rest; begins = h; handled = k; text_is = refl }) refl)
+  answered_by false old bytes rest new call end c h k e =
       let one : Serves answers db (call ∷ []) rest (exchange old bytes (call_text call) new) = record { after = rest; later = []; mid = new; begins = h; stays = c; handled = k; text_is = sym (append-nil (call_text call)); others_follow = (refl, refl, refl) } in
-      (call_text call, t, (call ∷ [], one))
-  handled_one w w' old bytes rest new call (Err f) closes c h k t =
-      (t.0, t.2, ends_at old bytes t.0 new WriteFault (call_text call, t.1, inl (call, record { after = rest; begins = h; handled = k; text_is = refl })))
+      rw e ((call ∷ [], one), tt)
 
-  -- a message whose head was read, whose body is there, and whose reply was written
-  abbrev pub answered : {A : Type 0} (r r' w w' : Option (List ℕ)) (old : S) (held came bytes left : List ℕ) (h : RequestHead) (f : Framed) (new : S) (reply : Option Answer)
-      (written : Result A IoFault) (result : Result ⊤ SessionEnd)
-      → HasHead held h (drop f.head_len held) → IsFramed db h f → f.head_len ≤ length held → Consumes r r' came → bytes ≡ held ++ came → f.head_len + f.body_len ≤ length bytes
-      → left ≡ drop (f.head_len + f.body_len) bytes
-      → Handles answers (request_in f.request) (slice_range bytes f.head_len (f.head_len + f.body_len)) (handling old reply new) → WritesBytes w w' (reply_text f.omits_body reply) written
-      → result ≡ cond (is_ok written) (cond f.closes (Err Closed) (Ok tt)) (Err WriteFault)
-      → (came : List ℕ) × (text : List ℕ) × Consumes r r' came × Appends w w' text × Steps answers db (exchange old (held ++ came) text new) left result
-  answered r r' w w' old held came bytes left h f new reply written result has is within read joined there rest handled wrote e =
-      let now : HasHead bytes h (drop f.head_len bytes) = subst (λ (t : List ℕ). HasHead t h (drop f.head_len t)) (sym joined) (head_with db h f held has is came within) in
-      let message = whole_message db h f bytes now is there in
-      let call : Call = record { message = message_of f (slice_range bytes f.head_len (f.head_len + f.body_len)); reply = reply } in
-      let one = handled_one w w' old bytes (drop (f.head_len + f.body_len) bytes) new call written f.closes refl message handled wrote in
-      let last : Steps answers db (exchange old bytes one.0 new) left result =
-      subst (λ (t : List ℕ). Steps answers db (exchange old bytes one.0 new) t result) (sym rest) (subst (Steps answers db (exchange old bytes one.0 new) (drop (f.head_len + f.body_len) bytes)) (sym e) one.2) in
-      (came, one.0, read, one.1, subst (λ (t : List ℕ). Steps answers db (exchange old t one.0 new) left result) joined last)
-
-  -- the session stopped reading within a message or between two
-  pub stopped : (w w' : Option (List ℕ)) (old : S) (bytes : List ℕ) (omits_body : Bool) (s : Stop) (end : SessionEnd) → IsWaiting db bytes → LacksMemory bytes omits_body
-      → StopsWith w w' omits_body s end → (text : List ℕ) × Appends w w' text × Converses answers db end (exchange old bytes text old)
-  stopped w w' old bytes omits_body stop.End end waiting lacks h = ([], rw h.1 (Appends-nil w), rw h.0 (ends_at old bytes [] old Eof (waiting, refl, refl)))
-  stopped w w' old bytes omits_body stop.Failed end waiting lacks h = ([], rw h.1 (Appends-nil w), rw h.0 (ends_at old bytes [] old ReadFault (waiting, refl, refl)))
-  stopped w w' old bytes omits_body stop.Limit end waiting lacks h = ([], rw h.1 (Appends-nil w), rw h.0 (ends_at old bytes [] old Limit (refl, refl)))
-  stopped w w' old bytes omits_body stop.NoMemory Refused waiting lacks h =
-      (reply_text omits_body None, h, ends_at old bytes (reply_text omits_body None) old Refused (inr (omits_body, lacks, refl), refl))
-  stopped w w' old bytes omits_body stop.NoMemory WriteFault waiting lacks h =
-      (h.0, h.2, ends_at old bytes h.0 old WriteFault (reply_text omits_body None, h.1, inr (inr (omits_body, lacks, refl), refl)))
-  stopped w w' old bytes omits_body stop.NoMemory Eof waiting lacks h = absurd h
-  stopped w w' old bytes omits_body stop.NoMemory Closed waiting lacks h = absurd h
-  stopped w w' old bytes omits_body stop.NoMemory ReadFault waiting lacks h = absurd h
-  stopped w w' old bytes omits_body stop.NoMemory Limit waiting lacks h = absurd h
-
-  -- the session stopped reading within a body
-  abbrev pub stopped_in_body : (r r' w w' : Option (List ℕ)) (old : S) (held came bytes : List ℕ) (h : RequestHead) (f : Framed) (s : Stop) (end : SessionEnd)
-      → HasHead held h (drop f.head_len held) → IsFramed db h f → f.head_len ≤ length held → Consumes r r' came → bytes ≡ held ++ came → length bytes < f.head_len + f.body_len
-      → StopsWith w w' f.omits_body s end → Promises r r' w w' old held old end
-  stopped_in_body r r' w w' old held came bytes h f s end has is within read joined short stops =
-      let now : HasHead bytes h (drop f.head_len bytes) = subst (λ (t : List ℕ). HasHead t h (drop f.head_len t)) (sym joined) (head_with db h f held has is came within) in
-      let inside : f.head_len ≤ length bytes = omega (arith, within, ap length joined, length-append held came) in
-      let one = stopped w w' old bytes f.omits_body s end (part_message db h f bytes now is inside short) (lacks_memory db h f bytes now is) stops in
-      (came, one.0, read, one.1, subst (λ (t : List ℕ). Converses answers db end (exchange old t one.0 old)) joined one.2)
-
-  -- the session stopped reading between two messages or within a head
-  abbrev pub stopped_in_head : (r r' w w' : Option (List ℕ)) (old : S) (held came bytes : List ℕ) (s : Stop) (end : SessionEnd)
-      → IsWaiting db held → LacksMemory held false → Consumes r r' came → bytes ≡ held ++ came → bytes ≡ held
-      → StopsWith w w' false s end → Promises r r' w w' old held old end
-  stopped_in_head r r' w w' old held came bytes s end waiting lacks read joined none stops =
-      let one = stopped w w' old held false s end waiting lacks stops in
-      (came, one.0, read, one.1, subst (λ (t : List ℕ). Converses answers db end (exchange old t one.0 old)) (sym none ∙ joined) one.2)
-
-  -- the session reached its limit and wrote nothing
-  abbrev pub limited : (r r' w : Option (List ℕ)) (old : S) (held came : List ℕ) → Consumes r r' came → Promises r r' w w old held old Limit
-  limited r r' w old held came c = (came, [], c, Appends-nil w, ends_at old (held ++ came) [] old Limit (refl, refl))
-
-  -- a refusing text, or a prefix of it, was written
-  pub refuses_now : {A : Type 0} (r w w' : Option (List ℕ)) (old : S) (held text : List ℕ) (written : Result A IoFault) (end : SessionEnd)
-      → IsRefusalText db held text → WritesBytes w w' text written → end ≡ cond (is_ok written) Refused WriteFault → Promises r r w w' old held old end
-  refuses_now r w w' old held text (Ok a) end h k e =
-      ([], text, Consumes-nil r, k, rw (append-nil held, e) (ends_at old held text old Refused (h, refl)))
-  refuses_now r w w' old held text (Err f) end h k e =
-      ([], k.0, Consumes-nil r, k.2, rw (append-nil held, e) (ends_at old held k.0 old WriteFault (text, k.1, inr (h, refl))))
-
-  -- the session has read more bytes and continues
-  abbrev pub reads_on : (r r' w : Option (List ℕ)) (old : S) (held came left : List ℕ) → Consumes r r' came → left ≡ held ++ came
-      → Runs r r' w w old held left old
-  reads_on r r' w old held came left c e = (came, [], c, Appends-nil w, ([], (sym e, refl, refl)))
-
-  module _ (r0 r1 r2 w0 w1 w2 : Option (List ℕ)) (s0 s1 s2 : S) (held : List ℕ)
-      (run : (bytes : List ℕ) × (written : List ℕ) × Consumes r0 r1 bytes × Appends w0 w1 written × ((calls : List Call) × Serves answers db calls held (exchange s0 bytes written s1))) where
-    abbrev pub run_ends : (end : SessionEnd) → Promises r1 r2 w1 w2 s1 held s2 end
-        → (bytes : List ℕ) × (written : List ℕ) × Consumes r0 r2 bytes × Appends w0 w2 written × Converses answers db end (exchange s0 bytes written s2)
-    run_ends end k = (
-      run.0 ++ k.0,
-      run.1 ++ k.1,
-      Consumes-trans r0 r1 r2 run.0 k.0 run.2 k.2,
-      Appends-trans w0 w1 w2 run.1 k.1 run.3 k.3,
-      Converses-then s0 (run.0 ++ k.0) run.4.0 run.1 (held ++ k.0) s1 k.1 s2 end (Serves-append s0 run.0 run.4.0 run.1 held s1 k.0 run.4.1) k.4,
-    )
-
-    abbrev pub run_goes_on : (left : List ℕ) → Runs r1 r2 w1 w2 s1 held left s2
-        → (bytes : List ℕ) × (written : List ℕ) × Consumes r0 r2 bytes × Appends w0 w2 written × ((calls : List Call) × Serves answers db calls left (exchange s0 bytes written s2))
-    run_goes_on left k = (
-      run.0 ++ k.0,
-      run.1 ++ k.1,
-      Consumes-trans r0 r1 r2 run.0 k.0 run.2 k.2,
-      Appends-trans w0 w1 w2 run.1 k.1 run.3 k.3,
-      (run.4.0 ++ k.4.0, Serves-then s0 (run.0 ++ k.0) run.4.0 run.1 (held ++ k.0) s1 k.4.0 k.1 left s2 (Serves-append s0 run.0 run.4.0 run.1 held s1 k.0 run.4.1) k.4.1),
-    )
+  pub answered : (old : S) (bytes : List ℕ) (f : Framed) (reply : Option Answer) (new : S) (end : Option Ending) → IsPending db bytes (pending.Head f)
+      → f.head_len + f.body_len ≤ length bytes
+      → Handles answers (request_in f.request) (slice_range bytes f.head_len (f.head_len + f.body_len)) (handling old reply new)
+      → end ≡ cond f.closes (Some Closed) None
+      → Stands answers db end (exchange old bytes (reply_text f.omits_body reply) new) (drop (f.head_len + f.body_len) bytes) None
+  answered old bytes f reply new end h whole handled e =
+      let message = message_of f (slice_range bytes f.head_len (f.head_len + f.body_len)) in
+      answered_by f.closes old bytes (drop (f.head_len + f.body_len) bytes) new (record { message = message; reply = reply }) end refl (whole_message db h.2 f bytes h.3 h.4 whole) handled e

@@ -6,7 +6,7 @@ use Rattle.mg_engine.specs.World.{World}
 use Rattle.mg_http.specs.declared.request.routes.Endpoint.{Endpoint}
 use Rattle.mg_http.specs.declared.sessions.SessionEnd.{SessionEnd}
 use Rattle.mg_http.specs.declared.sessions.SessionEnd.TheVariants.{Eof, Closed, Refused, ReadFault, WriteFault, Limit}
-use Rattle.mg_http.specs.Session.{Call, HandlesBody, Handles, Serves, IsLastCall, IsSessionEnd, Converses}
+use Rattle.mg_http.specs.Session.{Call, HandlesBody, Handles, Serves, IsLastCall, SaysNothing, SaysLast, IsSessionEnd, Converses}
 use Rattle.mg_http.specs.AtWorld.{AtWorld}
 use Rattle.mg_http.specs.Target.{Request, body, asks, refuses}
 use Rattle.mg_http.proofs.Forms.{exchange, handling}
@@ -35,7 +35,7 @@ module _ {S T : Type 0} (answers : S → Asked → Option Answer → S → Type 
   handled old (asks command) bytes reply new w k h = steps old command reply new w k h
   handled old (refuses refusal) bytes reply new w k h = (w, (k.0, refl), same old new w k.1 h)
 
-  served : (old : S) (bytes : List ℕ) (calls : List Call) (text rest : List ℕ) (new : S) (w : T) → Serves answers db calls rest (exchange old bytes text new) → stands old w
+  pub served : (old : S) (bytes : List ℕ) (calls : List Call) (text rest : List ℕ) (new : S) (w : T) → Serves answers db calls rest (exchange old bytes text new) → stands old w
       → (u : T) × Serves shown db calls rest (exchange w bytes text u) × stands new u
   served old bytes [] text rest new w h st = (w, (h.0, h.1, refl), same old new w h.2 st)
   served old bytes (call ∷ calls) text rest new w h st =
@@ -55,22 +55,27 @@ module _ {S T : Type 0} (answers : S → Asked → Option Answer → S → Type 
         more.2,
       )
 
-  ended : (end : SessionEnd) (old : S) (rest last : List ℕ) (new : S) (w : T) → IsSessionEnd answers db end (exchange old rest last new) → stands old w
-      → (u : T) × IsSessionEnd shown db end (exchange w rest last u) × stands new u
-  ended Eof old rest last new w h st = (w, (h.0, h.1, refl), same old new w h.2 st)
-  ended ReadFault old rest last new w h st = (w, (h.0, h.1, refl), same old new w h.2 st)
-  ended Limit old rest last new w h st = (w, (h.0, refl), same old new w h.1 st)
-  ended Closed old rest last new w (call, closes, answered) st =
+  nothing_said : (old : S) (rest last : List ℕ) (new : S) (w : T) → SaysNothing (exchange old rest last new) → stands old w
+      → (u : T) × SaysNothing (exchange w rest last u) × stands new u
+  nothing_said old rest last new w h st = (w, (h.0, refl), same old new w h.1 st)
+
+  last_said : (old : S) (rest last : List ℕ) (new : S) (w : T) → SaysLast answers db (exchange old rest last new) → stands old w
+      → (u : T) × SaysLast shown db (exchange w rest last u) × stands new u
+  last_said old rest last new w (call, closes, answered) st =
       let one = handled old call.message.request call.message.body call.reply new w answered.handled st in
       let again : IsLastCall shown db call (exchange w rest last one.0) = record { after = answered.after; begins = answered.begins; handled = one.1; text_is = answered.text_is } in
       (one.0, (call, closes, again), one.2)
+
+  ended : (end : SessionEnd) (old : S) (rest last : List ℕ) (new : S) (w : T) → IsSessionEnd answers db end (exchange old rest last new) → stands old w
+      → (u : T) × IsSessionEnd shown db end (exchange w rest last u) × stands new u
+  ended Eof old rest last new w h st = let k = nothing_said old rest last new w h.1 st in (k.0, (h.0, k.1), k.2)
+  ended ReadFault old rest last new w h st = let k = nothing_said old rest last new w h.1 st in (k.0, (h.0, k.1), k.2)
+  ended Limit old rest last new w h st = nothing_said old rest last new w h st
+  ended Closed old rest last new w h st = last_said old rest last new w h st
   ended Refused old rest last new w h st = (w, (h.0, refl), same old new w h.1 st)
-  ended WriteFault old rest last new w (whole, prefix, inl (call, answered)) st =
-      let one = handled old call.message.request call.message.body call.reply new w answered.handled st in
-      let again : IsLastCall shown db call (exchange w rest whole one.0) = record { after = answered.after; begins = answered.begins; handled = one.1; text_is = answered.text_is } in
-      (one.0, (whole, prefix, inl (call, again)), one.2)
-  ended WriteFault old rest last new w (whole, prefix, inr refused) st =
-      (w, (whole, prefix, inr (refused.0, refl)), same old new w refused.1 st)
+  ended WriteFault old rest last new w (inl h) st = let k = nothing_said old rest last new w h st in (k.0, inl k.1, k.2)
+  ended WriteFault old rest last new w (inr (inl h)) st = let k = last_said old rest last new w h st in (k.0, inr (inl k.1), k.2)
+  ended WriteFault old rest last new w (inr (inr h)) st = (w, inr (inr (h.0, refl)), same old new w h.1 st)
 
   pub converses : (old : S) (bytes written : List ℕ) (new : S) (end : SessionEnd) (w : T) → Converses answers db end (exchange old bytes written new) → stands old w
       → (u : T) × Converses shown db end (exchange w bytes written u) × stands new u

@@ -14,7 +14,7 @@ use Rattle.mg_http.specs.Device.{IsBytePrefix}
 use Rattle.mg_http.specs.Head.{framed, unframed, framing_of, omits_body_of, closes_after}
 use Rattle.mg_http.specs.Message.{Message, HasHead, Begins, IsRefused, IsNoHead, CanGoOn}
 use Rattle.mg_http.specs.Reply.{text_of, reply_text}
-use Rattle.mg_http.specs.Session.{Call, Handles, call_text, Serves, IsLastCall, IsSessionEnd, Converses, asked_by}
+use Rattle.mg_http.specs.Session.{Call, Handles, call_text, Serves, IsLastCall, IsSessionEnd, IsWritten, Converses, asked_by}
 use Rattle.mg_http.specs.AtWorld.{AtWorld, ConversesAt, IsTranscriptAt, WroteTranscriptAt}
 use Rattle.mg_http.specs.Target.{Request, body, asks, refuses}
 use Rattle.mg_http.specs.Transcript.{EndsTranscript, IsTranscriptOf, IsTranscript, IsAnswered, EndsAmply, IsAmple, IsAtLimit, WroteAll, WroteTranscript}
@@ -33,6 +33,23 @@ messages_in (call ∷ calls) = call.message ∷ messages_in calls
 prefix_of_prefix : (xs ys zs : List ℕ) → IsBytePrefix xs ys → IsBytePrefix ys zs → IsBytePrefix xs zs
 prefix_of_prefix xs ys zs a b =
     (a.0 ++ b.0, sym (append_assoc xs a.0 b.0) ∙ ap (λ (t : List ℕ). t ++ b.0) a.1 ∙ b.1)
+
+-- a session that wrote all that it had to write, and any session
+all_written : (end : SessionEnd) (written whole : List ℕ) → WroteAll end → IsWritten end written whole → written ≡ whole
+all_written Eof written whole all h = h
+all_written ReadFault written whole all h = h
+all_written Closed written whole all h = h
+all_written Refused written whole all h = h
+all_written Limit written whole all h = h
+all_written WriteFault written whole all h = absurd all
+
+prefix_written : (end : SessionEnd) (written whole : List ℕ) → IsWritten end written whole → IsBytePrefix written whole
+prefix_written WriteFault written whole h = h
+prefix_written Eof written whole h = ([], append-nil written ∙ h)
+prefix_written ReadFault written whole h = ([], append-nil written ∙ h)
+prefix_written Closed written whole h = ([], append-nil written ∙ h)
+prefix_written Refused written whole h = ([], append-nil written ∙ h)
+prefix_written Limit written whole h = ([], append-nil written ∙ h)
 
 module _ {S : Type 0} (answers : S → Asked → Option Answer → S → Type 0) (db : List ℕ) where
   -- a call that has an answer was handled with that answer
@@ -62,8 +79,8 @@ module _ {S : Type 0} (answers : S → Asked → Option Answer → S → Type 0)
   -- the last text is a transcript of the rest of the bytes
   last_speaks : (end : SessionEnd) (w : S) (rest last : List ℕ) (u : S) (e : IsSessionEnd answers db end (exchange w rest last u))
       → EndsAmply answers db end (exchange w rest last u) e → WroteAll end → IsTranscript answers db (passage w rest last)
-  last_speaks Eof w rest last u e ample all = ([], inl (e.0, e.1))
-  last_speaks ReadFault w rest last u e ample all = ([], inl (e.0, e.1))
+  last_speaks Eof w rest last u e ample all = ([], inl (e.0, e.1.0))
+  last_speaks ReadFault w rest last u e ample all = ([], inl (e.0, e.1.0))
   last_speaks Closed w rest last u (call, closes, answered) ample all = (
     call.message ∷ [],
     record {
@@ -87,7 +104,7 @@ module _ {S : Type 0} (answers : S → Asked → Option Answer → S → Type 0)
   whole_transcript w bytes written u end t ample all =
       let last = last_speaks end t.mid t.rest t.last u t.ended ample.last all in
       let ms : List Message = messages_in t.calls ++ last.0 in
-      (ms, subst (λ (x : List ℕ). IsTranscriptOf answers db ms (passage w bytes x)) (sym t.written_is) (speaks w bytes t.calls t.text t.rest t.mid last.0 t.last t.served ample.calls last.1))
+      (ms, subst (λ (x : List ℕ). IsTranscriptOf answers db ms (passage w bytes x)) (sym (all_written end written (t.text ++ t.last) all t.written_is)) (speaks w bytes t.calls t.text t.rest t.mid last.0 t.last t.served ample.calls last.1))
 
   pub holds : (read wrote : List ℕ → Type 0) (old new : S) (end : SessionEnd) (bytes written : List ℕ)
       → read bytes → wrote written → Converses answers db end (exchange old bytes written new) → IsAtLimit end bytes
@@ -157,17 +174,16 @@ module _ (db : List ℕ) where
   -- the last text is a prefix of each transcript of the rest of the bytes, whatever bytes follow
   last_begins : (end : SessionEnd) (w : World) (rest last : List ℕ) (u : World) (e : IsSessionEnd AtWorld db end (exchange w rest last u))
       → EndsAmply AtWorld db end (exchange w rest last u) e → (more : List ℕ) (ms : List Message) (later : List ℕ) → IsTranscriptOf AtWorld db ms (passage w (rest ++ more) later) → IsBytePrefix last later
-  last_begins Eof w rest last u e ample more ms later k = nothing_begins last later e.1
-  last_begins ReadFault w rest last u e ample more ms later k = nothing_begins last later e.1
+  last_begins Eof w rest last u e ample more ms later k = nothing_begins last later e.1.0
+  last_begins ReadFault w rest last u e ample more ms later k = nothing_begins last later e.1.0
   last_begins Limit w rest last u e ample more ms later k = nothing_begins last later e.0
   last_begins Closed w rest last u e ample more ms later k = call_begins w rest more e.0 last u ms later e.2 ample k
   last_begins Refused w rest last u (inl r, same) ample more ms later k = refusal_begins w rest more last ms later r k
   last_begins Refused w rest last u (inr r, same) ample more ms later k = absurd ample
-  last_begins WriteFault w rest last u (whole, prefix, inl a) ample more ms later k =
-      prefix_of_prefix last whole later prefix (call_begins w rest more a.0 whole u ms later a.1 ample k)
-  last_begins WriteFault w rest last u (whole, prefix, inr (inl r, same)) ample more ms later k =
-      prefix_of_prefix last whole later prefix (refusal_begins w rest more whole ms later r k)
-  last_begins WriteFault w rest last u (whole, prefix, inr (inr r, same)) ample more ms later k = absurd ample
+  last_begins WriteFault w rest last u (inl nothing) ample more ms later k = nothing_begins last later nothing.0
+  last_begins WriteFault w rest last u (inr (inl e)) ample more ms later k = call_begins w rest more e.0 last u ms later e.2 ample k
+  last_begins WriteFault w rest last u (inr (inr (inl r, same))) ample more ms later k = refusal_begins w rest more last ms later r k
+  last_begins WriteFault w rest last u (inr (inr (inr r, same))) ample more ms later k = absurd ample
 
   pub prefix_of_transcript : (w : World) (bytes written : List ℕ) (u : World) (end : SessionEnd) (t : ConversesAt db end (exchange w bytes written u))
       → IsAmple AtWorld db end (exchange w bytes written u) t → (more text : List ℕ) → IsTranscriptAt db w (bytes ++ more) text → IsBytePrefix written text
@@ -175,7 +191,8 @@ module _ (db : List ℕ) where
       let served = Serves-append AtWorld db w bytes t.calls t.text t.rest t.mid more t.served in
       let left = follows w (bytes ++ more) t.calls t.text (t.rest ++ more) t.mid k.0 text served ample.calls k.1 in
       let last = last_begins end t.mid t.rest t.last u t.ended ample.last more left.0 left.1 left.3 in
-      (last.0, ap (λ (x : List ℕ). x ++ last.0) t.written_is ∙ append_assoc t.text t.last last.0 ∙ ap (λ (x : List ℕ). t.text ++ x) last.1 ∙ sym left.2)
+      let whole : IsBytePrefix (t.text ++ t.last) text = (last.0, append_assoc t.text t.last last.0 ∙ ap (λ (x : List ℕ). t.text ++ x) last.1 ∙ sym left.2) in
+      prefix_of_prefix written (t.text ++ t.last) text (prefix_written end written (t.text ++ t.last) t.written_is) whole
 
   pub holds_at : (read wrote : List ℕ → Type 0) (w u : World) (end : SessionEnd) (bytes written : List ℕ)
       → read bytes → wrote written → ConversesAt db end (exchange w bytes written u) → IsAtLimit end bytes → WroteTranscriptAt db (course read wrote w u end)

@@ -1,10 +1,10 @@
 pub mod AtWorld
+pub mod Connection
 pub mod Device
-pub mod Gathered
 pub mod Fields
 pub mod Head
-pub mod Inbox
 pub mod Message
+pub mod Output
 pub mod Reply
 pub mod RouteViews
 pub mod Routes
@@ -12,6 +12,7 @@ pub mod Segments
 pub mod Session
 pub mod Significant
 pub mod Solo
+pub mod SoloService
 pub mod Target
 pub mod TargetScan
 pub mod Transcript

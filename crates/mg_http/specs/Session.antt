@@ -109,22 +109,40 @@ IsRefusalText db bytes text =
     ((refusal : Refusal) × (omits_body : Bool) × IsRefused db bytes refusal omits_body × (text ≡ text_of omits_body (refused refusal)))
     ⊎ ((omits_body : Bool) × LacksMemory bytes omits_body × (text ≡ reply_text omits_body None))
 
+-- nothing was left to say, and the service stayed as it was
+abbrev pub SaysNothing : {S : Type 0} → Exchange S → Type 0
+SaysNothing last = (last.text ≡ []) × (last.new ≡ last.old)
+
+-- the text is the reply to a last message, which asks to close
+abbrev pub SaysLast : {S : Type 0} → (S → Asked → Option Answer → S → Type 0) → List ℕ → Exchange S → Type 0
+SaysLast answers db last = (call : Call) × (call.message.closes ≡ true) × IsLastCall answers db call last
+
+-- the text refuses the bytes, or says that memory ran out, and the service stayed as it was
+abbrev pub SaysRefusal : {S : Type 0} → List ℕ → Exchange S → Type 0
+SaysRefusal db last = IsRefusalText db last.bytes last.text × (last.new ≡ last.old)
+
 -- A session may end in this way if `last` is its exchange after the messages that did not end it: the bytes that were left, and the text
--- that was written for them.
+-- that it had to write for them. A write may fail whatever that text is.
 abbrev pub IsSessionEnd : {S : Type 0} → (S → Asked → Option Answer → S → Type 0) → List ℕ → SessionEnd → Exchange S → Type 0
-IsSessionEnd answers db Eof last = IsWaiting db last.bytes × (last.text ≡ []) × (last.new ≡ last.old)
-IsSessionEnd answers db ReadFault last = IsWaiting db last.bytes × (last.text ≡ []) × (last.new ≡ last.old)
-IsSessionEnd answers db Limit last = (last.text ≡ []) × (last.new ≡ last.old)
-IsSessionEnd answers db Closed last = (call : Call) × (call.message.closes ≡ true) × IsLastCall answers db call last
-IsSessionEnd answers db Refused last = IsRefusalText db last.bytes last.text × (last.new ≡ last.old)
-IsSessionEnd answers db WriteFault last =
-    (whole : List ℕ) × IsBytePrefix last.text whole
-    × (((call : Call) × IsLastCall answers db call (record last { text = whole }))
-    ⊎ (IsRefusalText db last.bytes whole × (last.new ≡ last.old)))
+IsSessionEnd answers db Eof last = IsWaiting db last.bytes × SaysNothing last
+IsSessionEnd answers db ReadFault last = IsWaiting db last.bytes × SaysNothing last
+IsSessionEnd answers db Limit last = SaysNothing last
+IsSessionEnd answers db Closed last = SaysLast answers db last
+IsSessionEnd answers db Refused last = SaysRefusal db last
+IsSessionEnd answers db WriteFault last = SaysNothing last ⊎ (SaysLast answers db last ⊎ SaysRefusal db last)
+
+-- a session that ended in this way wrote all that it had to write; at a write fault, a prefix of it
+abbrev pub IsWritten : SessionEnd → List ℕ → List ℕ → Type 0
+IsWritten Eof written whole = written ≡ whole
+IsWritten ReadFault written whole = written ≡ whole
+IsWritten Limit written whole = written ≡ whole
+IsWritten Closed written whole = written ≡ whole
+IsWritten Refused written whole = written ≡ whole
+IsWritten WriteFault written whole = IsBytePrefix written whole
 
 -- A session read these bytes, wrote this text, took the service from the old state to the new one, and had this end. First it served the
--- `calls`, for which it wrote `text`, and which left the state `mid`. `rest` are the bytes that it read after them, and `last` is what it
--- wrote for those.
+-- `calls`, whose replies are `text`, and which left the state `mid`. `rest` are the bytes that it read after them, and `last` is what it
+-- had to write for those.
 pub record Converses
     {S : Type 0} (answers : S → Asked → Option Answer → S → Type 0) (db : List ℕ) (end : SessionEnd) (all : Exchange S) : Type 0 where
   pub calls : List Call
@@ -134,4 +152,4 @@ pub record Converses
   pub served : Serves answers db calls rest (record { old = all.old; bytes = all.bytes; text = text; new = mid })
   pub last : List ℕ
   pub ended : IsSessionEnd answers db end (record { old = mid; bytes = rest; text = last; new = all.new })
-  pub written_is : all.text ≡ text ++ last
+  pub written_is : IsWritten end all.text (text ++ last)

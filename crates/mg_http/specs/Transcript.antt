@@ -63,9 +63,10 @@ EndsAmply answers db Limit last ended = ⊤
 EndsAmply answers db Closed last ended = IsAnswered ended.0
 EndsAmply answers db Refused last (inl refused, same) = ⊤
 EndsAmply answers db Refused last (inr lacking, same) = ⊥
-EndsAmply answers db WriteFault last (whole, prefix, inl answered) = IsAnswered answered.0
-EndsAmply answers db WriteFault last (whole, prefix, inr (inl refused, same)) = ⊤
-EndsAmply answers db WriteFault last (whole, prefix, inr (inr lacking, same)) = ⊥
+EndsAmply answers db WriteFault last (inl nothing) = ⊤
+EndsAmply answers db WriteFault last (inr (inl answered)) = IsAnswered answered.0
+EndsAmply answers db WriteFault last (inr (inr (inl refused, same))) = ⊤
+EndsAmply answers db WriteFault last (inr (inr (inr lacking, same))) = ⊥
 
 -- memory sufficed for a session: none of its replies is out of memory
 pub record IsAmple

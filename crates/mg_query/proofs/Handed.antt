@@ -85,8 +85,8 @@ found_at q a search asks is s e =
     let documents = docs_of s.documents in
     ap (λ o. option_map_or (λ cs. first_matches (search_input search cs) documents) o []) e
     ∙ ap₂ (λ normal range. first_matches (input_of_parts normal range (after_of search) search.take search.direction columns) documents) is.normal (is.range ∙ asks.range)
-    ∙ ap₂ (λ after count. first_matches (input_of_parts a.normal (range_of a.normal.atoms columns) after count search.direction columns) documents) (is.after ∙ asks.after) is.take
-    ∙ ap (λ direction. first_matches (input_of_parts a.normal (range_of a.normal.atoms columns) (option_map row_at q.bookmark) (q.skip + q.limit) direction columns) documents) is.direction
+    ∙ ap₂ (λ after count. first_matches (input_of_parts a.normal.now (range_of a.normal.now.atoms columns) after count search.direction columns) documents) (is.after ∙ asks.after) is.take
+    ∙ ap (λ direction. first_matches (input_of_parts a.normal.now (range_of a.normal.now.atoms columns) (option_map row_at q.bookmark) (q.skip + q.limit) direction columns) documents) is.direction
 
 found_each : (q : Query) (a : Plan) (search : Search) → IsPlanOf q a → IsSearchOf q a search → (shards : List ShardView) → AllByRecursion (λ s. IsInCatalog s.definitions (source_view a.source)) shards
     → map (found_by search) shards ≡ map (rows_asked_of q a) shards

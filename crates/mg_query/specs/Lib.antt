@@ -1,4 +1,5 @@
 pub mod Query
+pub mod Normalized
 pub mod Page
 pub mod View
 pub mod Given

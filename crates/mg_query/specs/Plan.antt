@@ -27,10 +27,10 @@ IsDecidedBy columns normal = (is_some normal.rest ≡ false) × (decides_of norm
 -- the plan is made for the query: it has the query's selector in normal form, the range of its keys in the plan's index, and the row of its
 -- bookmark; `is_decided` is true only if that range decides the whole selector
 pub record IsPlanOf (q : Query) (a : Plan) : Type 0 where
-  pub normal : IsNormalOf q.selector a.normal
-  pub range : a.range ≡ range_of a.normal.atoms (source_columns (source_view a.source))
+  pub normal : IsNormalOf q.selector a.normal.now
+  pub range : a.range ≡ range_of a.normal.now.atoms (source_columns (source_view a.source))
   pub after : a.after ≡ option_map row_at q.bookmark
-  pub decided : a.is_decided ≡ true → IsDecidedBy (source_columns (source_view a.source)) a.normal
+  pub decided : a.is_decided ≡ true → IsDecidedBy (source_columns (source_view a.source)) a.normal.now
 
 -- the search has the query's plan and the plan's range, and each shard has the plan's index
 pub record IsPlanned (s : PageSearch) : Type 0 where
@@ -41,7 +41,7 @@ pub record IsPlanned (s : PageSearch) : Type 0 where
 -- the search has the plan's index, normal form, range and row to begin after, and takes as many rows as the page skips and shows
 pub record IsSearchOf (q : Query) (a : Plan) (s : Search) : Type 0 where
   pub target : (ds : List IndexDefinition) → IsInCatalog ds (source_view a.source) → target_columns s.target ds ≡ Some (source_columns (source_view a.source))
-  pub normal : s.normal.now ≡ a.normal
+  pub normal : s.normal.now ≡ a.normal.now
   pub range : s.range.now ≡ a.range
   pub after : after_of s ≡ a.after
   pub take : s.take ≡ q.skip + q.limit
@@ -49,7 +49,7 @@ pub record IsSearchOf (q : Query) (a : Plan) (s : Search) : Type 0 where
 
 -- the rows that a shard hands over for the query, by its plan
 abbrev pub rows_asked_of : Query → Plan → ShardView → List RowValue
-rows_asked_of q a = shard_rows a.normal (source_columns (source_view a.source)) q
+rows_asked_of q a = shard_rows a.normal.now (source_columns (source_view a.source)) q
 
 -- the hits are the first of all shards together, at most skip + limit; each is of a document of one of the shards
 pub record AreFirst (q : Query) (a : Plan) (shards : List ShardView) (found : List Hit) : Type 0 where

@@ -1,5 +1,5 @@
 -- The index that serves a query, and the answer to it: what the code returns, against the definition.
-use Rattle.std.specs.Prelude.{◌≡◌, List, Option, Some, None, Result, Ok, Err}
+use Rattle.std.specs.Prelude.{◌≡◌, List, Some, Result, Ok, Err}
 use Rattle.mg_index.specs.Catalog.{definition_at}
 use Rattle.mg_index.specs.Choice.{Source, all_docs, defined, id_path, rev_path}
 use Rattle.mg_index.specs.Definition.{IndexDefinition}
@@ -16,6 +16,11 @@ FailsAs NoUsableIndex r = r ≡ Err no_usable_index
 FailsAs BadBookmark r = r ≡ Err bad_bookmark
 FailsAs NoMemory r = Unit {0}
 
+-- the error for why a query is not answered
+abbrev pub error_of : Unanswered → PageError
+error_of no_usable_index = NoUsableIndex
+error_of bad_bookmark = BadBookmark
+
 -- the call returned what the definition gives, or its fault, unless an allocation failed; `item_view` gives what a value of the code stands for
 abbrev pub PageAnswers : {X Y : Type 0} → (X → Y) → Result X PageError → Result Y Unanswered → Type 0
 PageAnswers item_view (Ok x) r = r ≡ Ok (item_view x)
@@ -30,13 +35,6 @@ source_view (code.TheVariants.Defined d) = defined d.now
 abbrev pub IsInCatalog : List IndexDefinition → Source → Type 0
 IsInCatalog ds all_docs = Unit {0}
 IsInCatalog ds (defined d) = definition_at d.ddoc d.name ds ≡ Some d
-
--- for private clauses: the call returned the chosen index, or `NoUsableIndex` if there is none
-abbrev pub IsSourceChosen : Result code.Source PageError → Option Source → Type 0
-IsSourceChosen (Ok s) r = r ≡ Some (source_view s)
-IsSourceChosen (Err NoUsableIndex) r = r ≡ None
-IsSourceChosen (Err BadBookmark) r = ⊥
-IsSourceChosen (Err NoMemory) r = ⊥
 
 -- ---- documents that are objects
 

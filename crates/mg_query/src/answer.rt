@@ -1,5 +1,5 @@
 //! The page that answers a query, as values and as text.
-ghost use Rattle.std.specs.Prelude.{◌≡◌, ◌+◌, ◌<◌, ◌≤◌, List, IfOk, length, map, string_bytes};
+ghost use Rattle.std.specs.Prelude.{◌≡◌, ◌+◌, ◌<◌, ◌≤◌, List, Err, IfOk, length, map, string_bytes};
 ghost use Rattle.mg_value.specs.Text.{compact};
 ghost use Rattle.mg_value.specs.View.{view};
 ghost use Rattle.mg_bookmark.specs.Bookmark.{spelled};
@@ -8,11 +8,11 @@ ghost use Rattle.mg_scan.specs.Hit.{hit_row};
 ghost use Rattle.mg_shard.specs.Shard.{HaveIndexes, shards_view};
 ghost use Rattle.mg_shard.specs.Dealt.{Placing, ShardsStandFor};
 ghost use Rattle.mg_shard.specs.Histories.{Histories};
-ghost use Rattle.mg_query.specs.Page.{Candidate, answer_of, bookmark_after, candidates_of, source_columns, ddoc_of, name_of, page_of, page_value, shown_of};
+ghost use Rattle.mg_query.specs.Page.{Candidate, Unanswered, answer_of, bookmark_after, candidates_of, source_columns, ddoc_of, name_of, page_of, page_value, served_by, shown_of};
 ghost use Rattle.mg_query.specs.Paged.{IsWorkWithin, handed_of, page_view, text_of};
 ghost use Rattle.mg_query.specs.Lent.{LendEach};
 ghost use Rattle.mg_query.specs.View.{query_view};
-ghost use Rattle.mg_query.specs.Served.{PageAnswers, HaveIdsAndRevs, source_view};
+ghost use Rattle.mg_query.specs.Served.{PageAnswers, HaveIdsAndRevs, error_of, source_view};
 
 use crate::error::PageError;
 use crate::found::{after_skip, find, find_page};
@@ -37,7 +37,7 @@ use std::thread::Threads;
 /// last row that is read unless an allocation fails in that shard.
 ///
 /// Errors: `NoUsableIndex` if no index serves the query, then `BadBookmark` if its bookmark is of another index, direction or number of
-/// columns; `NoMemory` if an allocation fails. Cost: the choice of the index; a thread for each worker but one, with at most as many
+/// columns; otherwise `NoMemory` if an allocation fails. Cost: the choice of the index; a thread for each worker but one, with at most as many
 /// workers as shards; in each shard a look-up of where to begin, then, until skip + limit hits are found, for each row of an index a
 /// look-up of its document, and for each document the selector; the merge of the hits; copies of what is shown. Source: `_find` of
 /// CouchDB's API reference.
@@ -56,6 +56,8 @@ pub fn page<R: Threads + Sync, G: Gate + Sync>(
         → ShardsStandFor place (shards_view shards.now) hs → HaveIdsAndRevs (candidates_of hs)
         → PageAnswers (λ r. page_view r.0) result
         (answer_of catalog.now (query_view query.now) (candidates_of hs)) }
+    ensures refused { (why : Unanswered) → served_by catalog.now (query_view query.now) ≡ Err why
+        → result ≡ Err (error_of why) }
     ensures work { IfOk result
         (λ r. IsWorkWithin (length shards.now) (query.now.skip + query.now.limit) r.1) }
     ensures handed { (place : Placing) (hs : Histories)
@@ -101,6 +103,8 @@ pub fn page_text<R: Threads + Sync, G: Gate + Sync>(
         → ShardsStandFor place (shards_view shards.now) hs → HaveIdsAndRevs (candidates_of hs)
         → PageAnswers (λ text. text.items) result
         (text_of (answer_of catalog.now (query_view query.now) (candidates_of hs))) }
+    ensures refused { (why : Unanswered) → served_by catalog.now (query_view query.now) ≡ Err why
+        → result ≡ Err (error_of why) }
 {
     let found = find_page(rt, alloc, query, catalog, shards, workers, gate)?;
     let hits = after_skip(&found.hits, found.skip);

@@ -1,16 +1,16 @@
-ghost use Rattle.std.specs.Prelude.{◌≡◌, ◌<◌, None, Some, IfOk, length};
+ghost use Rattle.std.specs.Prelude.{◌≡◌, ◌<◌, Err, None, Some, IfOk, length};
 ghost use Rattle.mg_value.specs.Value.{list};
 ghost use Rattle.mg_value.specs.View.{view, items_view};
 ghost use Rattle.mg_query.specs.Explain.{explanation_of, explanation_with};
+ghost use Rattle.mg_query.specs.Page.{Unanswered, served_by};
 ghost use Rattle.mg_query.specs.Query.{rendered_fields_of};
 ghost use Rattle.mg_query.specs.View.{optional_view, query_view};
-ghost use Rattle.mg_query.specs.Served.{PageAnswers};
+ghost use Rattle.mg_query.specs.Served.{PageAnswers, error_of};
 
 use crate::error::PageError;
 use crate::query::Query;
 use crate::source::served_by;
 use mg_index::Catalog;
-use mg_normal::Normal;
 use mg_value::{Json, NoMemory, copy_items};
 use std::alloc::Global;
 
@@ -19,19 +19,20 @@ use std::alloc::Global;
 /// (`"all_fields"` if the fields are absent or empty), the index as it is listed, and the range of keys that the query has to read in it.
 ///
 /// Errors: `NoUsableIndex` if no index serves the query, then `BadBookmark` if its bookmark is of another index, direction or number of
-/// columns; `NoMemory` if an allocation fails. Cost: the size of the query; for each definition, the number of its columns times the number
-/// of the query's atoms and sort paths. Source: `_explain` of CouchDB's API reference.
+/// columns; otherwise `NoMemory` if an allocation fails. Cost: the size of the query; for each definition, the number of its columns times
+/// the number of the query's atoms and sort paths. Source: `_explain` of CouchDB's API reference.
 pub fn explain(
     alloc: Global,
     db: &str,
     query: &Query<'_>,
     catalog: &Catalog,
 ) -> Result<Json, PageError>
-    ensures { PageAnswers view result (explanation_of db.now catalog.now (query_view query.now)) }
+    ensures answers { PageAnswers view result (explanation_of db.now catalog.now (query_view query.now)) }
+    ensures refused { (why : Unanswered) → served_by catalog.now (query_view query.now) ≡ Err why
+        → result ≡ Err (error_of why) }
 {
-    let normal = Normal::of(alloc, &query.selector)?;
-    let source = served_by(query, &normal, catalog)?;
-    let range = source.range(alloc, &normal)?;
+    let source = served_by(query, catalog)?;
+    let range = source.range(alloc, &query.normal)?;
     let range = range.to_json(alloc)?;
     let index = source.listed(alloc)?;
     Ok(render_explanation(alloc, db, query, index, range)?)

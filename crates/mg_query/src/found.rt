@@ -1,14 +1,14 @@
 //! What a query finds for its page: the first hits of all shards together; `find_page` may leave out those that the page skips.
-ghost use Rattle.std.specs.Prelude.{◌≡◌, ◌+◌, IfOk, drop, length, option_map};
+ghost use Rattle.std.specs.Prelude.{◌≡◌, ◌+◌, Err, IfOk, drop, length, option_map};
 ghost use Rattle.mg_shard.specs.Shard.{HaveIndexes, shards_view};
 ghost use Rattle.mg_shard.specs.Dealt.{Placing, ShardsStandFor};
 ghost use Rattle.mg_shard.specs.Histories.{Histories};
 ghost use Rattle.mg_query.specs.Plan.{IsPlanOf};
-ghost use Rattle.mg_query.specs.Page.{candidates_of, source_columns, page_candidates, served_by};
+ghost use Rattle.mg_query.specs.Page.{Unanswered, candidates_of, source_columns, page_candidates, served_by};
 ghost use Rattle.mg_query.specs.Paged.{IsWorkWithin, counts_handed};
 ghost use Rattle.mg_query.specs.Lent.{LendEach, row_at};
 ghost use Rattle.mg_query.specs.View.{query_view};
-ghost use Rattle.mg_query.specs.Served.{PageAnswers, HaveIdsAndRevs, IsInCatalog, source_view};
+ghost use Rattle.mg_query.specs.Served.{PageAnswers, HaveIdsAndRevs, IsInCatalog, error_of, source_view};
 
 use crate::error::PageError;
 use crate::page_search::PageSearch;
@@ -50,7 +50,7 @@ pub(crate) struct PageHits<'a> {
 #[derive(Drop)]
 pub(crate) struct Plan<'a> {
     pub(crate) source: Source<'a>,
-    pub(crate) normal: Normal,
+    pub(crate) normal: &'a Normal,
     pub(crate) range: KeyRange,
     pub(crate) after: Option<RowBytes>,
     pub(crate) is_decided: bool,
@@ -62,7 +62,7 @@ pub(crate) struct Plan<'a> {
 pub(crate) fn find<'a, R: Threads + Sync, G: Gate + Sync>(
     rt: &R,
     alloc: Global,
-    query: &Query<'_>,
+    query: &'a Query<'_>,
     catalog: &'a Catalog,
     shards: &'a [Arc<Shard>],
     workers: Workers,
@@ -71,6 +71,8 @@ pub(crate) fn find<'a, R: Threads + Sync, G: Gate + Sync>(
     requires indexes { HaveIndexes catalog.now (shards_view shards.now) }
     ensures source { PageAnswers (λ f. source_view f.source) result
         (served_by catalog.now (query_view query.now)) }
+    ensures refused { (why : Unanswered) → served_by catalog.now (query_view query.now) ≡ Err why
+        → result ≡ Err (error_of why) }
     ensures hits { IfOk result (λ f. (place : Placing) (hs : Histories)
         → ShardsStandFor place (shards_view shards.now) hs → HaveIdsAndRevs (candidates_of hs)
         → LendEach (source_columns (source_view f.source)) (drop query.now.skip f.hits.items)
@@ -107,7 +109,7 @@ pub(crate) fn find<'a, R: Threads + Sync, G: Gate + Sync>(
 pub(crate) fn find_page<'a, R: Threads + Sync, G: Gate + Sync>(
     rt: &R,
     alloc: Global,
-    query: &Query<'_>,
+    query: &'a Query<'_>,
     catalog: &'a Catalog,
     shards: &'a [Arc<Shard>],
     workers: Workers,
@@ -116,6 +118,8 @@ pub(crate) fn find_page<'a, R: Threads + Sync, G: Gate + Sync>(
     requires indexes { HaveIndexes catalog.now (shards_view shards.now) }
     ensures source { PageAnswers (λ f. source_view f.source) result
         (served_by catalog.now (query_view query.now)) }
+    ensures refused { (why : Unanswered) → served_by catalog.now (query_view query.now) ≡ Err why
+        → result ≡ Err (error_of why) }
     ensures hits { IfOk result (λ f. (place : Placing) (hs : Histories)
         → ShardsStandFor place (shards_view shards.now) hs → HaveIdsAndRevs (candidates_of hs)
         → LendEach (source_columns (source_view f.source)) (drop f.skip f.hits.items)
@@ -139,25 +143,27 @@ pub(crate) fn find_page<'a, R: Threads + Sync, G: Gate + Sync>(
     })
 }
 
-// Chooses an index of the catalog for the query, and makes the query's plan. Errors: those of `served_by`, and `NoMemory`.
+// Chooses an index of the catalog for the query, and makes the query's plan. Errors: those of `served_by`, and `NoMemory` for a query that
+// an index serves.
 fn plan_of<'a>(
     alloc: Global,
-    query: &Query<'_>,
+    query: &'a Query<'_>,
     catalog: &'a Catalog,
 ) -> Result<Plan<'a>, PageError>
     ensures answers { PageAnswers (λ a. source_view a.source) result
         (served_by catalog.now (query_view query.now)) }
+    ensures refused { (why : Unanswered) → served_by catalog.now (query_view query.now) ≡ Err why
+        → result ≡ Err (error_of why) }
     ensures listed { IfOk result (λ a. IsInCatalog catalog.now (source_view a.source)) }
     ensures plan { IfOk result (λ a. IsPlanOf (query_view query.now) a) }
 {
-    let normal = Normal::of(alloc, &query.selector)?;
-    let source = served_by(query, &normal, catalog)?;
-    let range = source.range(alloc, &normal)?;
+    let source = served_by(query, catalog)?;
+    let range = source.range(alloc, &query.normal)?;
     let after = after_row(alloc, query)?;
-    let is_decided = source.is_decided(&normal);
+    let is_decided = source.is_decided(&query.normal);
     Ok(Plan {
         source,
-        normal,
+        normal: &query.normal,
         range,
         after,
         is_decided,

@@ -3,10 +3,12 @@
 //! Promises. `Query::read` returns the query or its first fault, and never `NoMemory` in place of a fault that
 //! is found without memory: a wrong shape, a fault of the selector, a letter that no bookmark has, and a sort in
 //! both directions without a bookmark (`refused`). `page` returns the definition's answer as values, `page_text`
-//! as text, for all histories that the shards represent (`answers`). It requires that the shards have the
+//! as text, for all histories that the shards represent (`answers`). They require that the shards have the
 //! indexes of the catalog; they may have others (`indexes`). Each shard hands over the rows that the query
 //! finds there, but at most as many as the page skips and shows (`handed`, `work`). `explain` is the
-//! definition's. Laws: `pages_join`, `pages_that_read_back_join`, `bookmarks_change_nothing_else`.
+//! definition's. A query that no index serves, or whose bookmark is of another index, is refused for that by
+//! `page`, `page_text` and `explain`, and never with `NoMemory` (`refused`). Laws: `pages_join`,
+//! `pages_that_read_back_join`, `bookmarks_change_nothing_else`.
 #![tactic(auto)]
 
 mod answer;
@@ -19,6 +21,7 @@ pub mod laws;
 mod member;
 mod page_search;
 mod query;
+mod reader;
 mod shown;
 mod source;
 mod text;

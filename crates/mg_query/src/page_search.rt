@@ -54,7 +54,7 @@ impl<'a, 'b> PageSearch<'a, 'b> {
     {
         Search {
             target: self.plan.source.target(),
-            normal: &self.plan.normal,
+            normal: self.plan.normal,
             range: self.range,
             after: self.plan.after.as_ref(),
             take: self.row_count(),

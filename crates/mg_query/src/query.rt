@@ -1,17 +1,12 @@
-ghost use Rattle.std.specs.Prelude.{◌≡◌, Err, Some, option_map, unwrap_or, ok_or};
-ghost use Rattle.mg_value.specs.View.{view};
-ghost use Rattle.mg_query.specs.Given.{given_view, query_given};
-ghost use Rattle.mg_query.specs.Query.{early_fault, query_of};
-ghost use Rattle.mg_bookmark.specs.Reading.{bookmark_read};
-ghost use Rattle.mg_bookmark.specs.View.{bookmark_place};
-ghost use Rattle.mg_query.specs.View.{ReadsAs, optional_view, query_view};
+ghost use Rattle.mg_normal.specs.Normal.{IsNormalOf};
+ghost use Rattle.mg_selector.specs.View.{selector_of};
+ghost use Rattle.mg_query.specs.Normalized.{IsNormalOf-prop};
 
 use crate::error::QueryError;
-use crate::fault::fault_of;
-use crate::field::{one_direction, read_directions, read_paths, read_sort_paths};
-use crate::member::{Members, members_in};
-use mg_bookmark::{Bookmark, BookmarkError};
+use crate::reader::{first_fault, query_in};
+use mg_bookmark::Bookmark;
 use mg_index::{Hint, Sort};
+use mg_normal::Normal;
 use mg_path::Path;
 use mg_selector::Sel;
 use mg_value::Json;
@@ -22,6 +17,8 @@ use std::alloc::Global;
 pub struct Query<'a> {
     /// Which documents are asked for.
     pub selector: Sel,
+    /// The selector in its normal form, by which an index is chosen and documents are tested.
+    pub normal: Normal,
     /// The paths of the parts that a page shows of a document; empty if it shows the whole.
     pub fields: Vec<Path>,
     /// How many documents a page has at most.
@@ -42,9 +39,15 @@ pub struct Query<'a> {
     pub given_fields: Option<&'a Json>,
     /// The bookmark's text as it was given; `nil` if it was null or absent.
     pub given_bookmark: &'a str,
+    ghost is_normal: { IsNormalOf (selector_of selector) normal } by { IsNormalOf-prop (selector_of selector) normal },
 }
 
 impl<'a> Query<'a> {
+    ghost use Rattle.std.specs.Prelude.{◌≡◌, Err, Some};
+    ghost use Rattle.mg_value.specs.View.{view};
+    ghost use Rattle.mg_query.specs.Query.{early_fault, query_of};
+    ghost use Rattle.mg_query.specs.View.{ReadsAs, query_view};
+
     /// Reads the body of a `_find` or an `_explain`, an object:
     ///
     /// - `selector`, an object; required.
@@ -71,65 +74,5 @@ impl<'a> Query<'a> {
             Ok(query) => Ok(query),
             Err(fault) => Err(first_fault(body, fault)),
         }
-    }
-}
-
-// The fault of a body that is found without taking memory; if there is none, the fault that was met.
-fn first_fault(body: &Json, met: QueryError) -> QueryError
-    ensures { result ≡ unwrap_or (early_fault (view body.now)) met }
-{
-    fault_of(body).unwrap_or(met)
-}
-
-// Reads the query in a body. Errors: those of `Query::read`, but if an allocation fails, `NoMemory` may be returned although the body has a
-// fault.
-fn query_in(alloc: Global, body: &Json) -> Result<Query<'_>, QueryError>
-    ensures { ReadsAs query_view result (query_of (view body.now)) }
-{
-    match members_in(body) {
-        Some(members) => query_with(alloc, members, body.member("fields")),
-        None => Err(QueryError::Shape),
-    }
-}
-
-// Makes the query of these members; `given_fields` are the fields as they were given. Errors: those of `query_in`.
-fn query_with<'a>(
-    alloc: Global,
-    members: Members<'a>,
-    given_fields: Option<&'a Json>,
-) -> Result<Query<'a>, QueryError>
-    ensures { ReadsAs query_view result (query_given (optional_view given_fields.entry) (given_view members.entry)) }
-{
-    let fields = read_paths(alloc, members.fields)?;
-    let paths = read_sort_paths(alloc, members.sort)?;
-    let directions = read_directions(alloc, members.sort)?;
-    let selector = Sel::read(alloc, members.selector)?;
-    let bookmark = read_bookmark(alloc, members.bookmark)?;
-    let direction = one_direction(&directions)?;
-    let hint = members.hint.to_hint(alloc)?;
-    Ok(Query {
-        selector,
-        fields,
-        limit: members.limit,
-        skip: members.skip,
-        sort: Sort { paths, direction },
-        hint,
-        bookmark,
-        conflicts: members.conflicts,
-        given_selector: members.selector,
-        given_fields,
-        given_bookmark: members.bookmark,
-    })
-}
-
-// Reads the place that a bookmark's text names; `None` for `nil`. Errors: `BadBookmark` if the text is not a bookmark; `NoMemory`.
-fn read_bookmark(alloc: Global, text: &str) -> Result<Option<Bookmark>, QueryError>
-    ensures { ReadsAs (option_map bookmark_place) result
-        (ok_or (bookmark_read text.now) QueryError.BadBookmark) }
-{
-    match Bookmark::decode(alloc, text) {
-        Ok(found) => Ok(found),
-        Err(BookmarkError::Invalid) => Err(QueryError::BadBookmark),
-        Err(BookmarkError::NoMemory) => Err(QueryError::NoMemory),
     }
 }

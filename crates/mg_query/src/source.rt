@@ -1,19 +1,17 @@
 //! Chooses the index that serves a query, and checks that the query's bookmark belongs to it.
-ghost use Rattle.std.specs.Prelude.{◌≡◌, List, Some, true, IfOk, length, option_map};
+ghost use Rattle.std.specs.Prelude.{◌≡◌, List, Err, Some, true, IfOk, IfSome, length, option_map};
 ghost use Rattle.mg_value.specs.View.{view, items_view};
 ghost use Rattle.mg_value.specs.Value.{item_list};
 ghost use Rattle.mg_bookmark.specs.View.{bookmark_place};
 ghost use Rattle.mg_index.specs.Choice.{all_docs, choice_of, id_path};
 ghost use Rattle.mg_index.specs.Definition.{IndexDefinition};
 ghost use Rattle.mg_range.specs.Range.{range_of};
-ghost use Rattle.mg_normal.specs.Normal.{IsNormalOf};
 ghost use Rattle.mg_scan.specs.Found.{target_columns};
-ghost use Rattle.mg_selector.specs.View.{selector_of};
 ghost use Rattle.mg_query.specs.Plan.{IsDecidedBy};
 ghost use Rattle.mg_query.specs.Explain.{listed_source};
-ghost use Rattle.mg_query.specs.Page.{source_columns, ddoc_of, accepts_bookmark, is_same_ddoc, fits_source, name_of, served_by};
+ghost use Rattle.mg_query.specs.Page.{Unanswered, source_columns, ddoc_of, accepts_bookmark, is_same_ddoc, fits_source, name_of, served_by};
 ghost use Rattle.mg_query.specs.View.{query_view};
-ghost use Rattle.mg_query.specs.Served.{PageAnswers, IsSourceChosen, IsInCatalog, source_view};
+ghost use Rattle.mg_query.specs.Served.{PageAnswers, IsInCatalog, error_of, source_view};
 
 use crate::error::PageError;
 use crate::query::Query;
@@ -43,14 +41,16 @@ pub(crate) enum Source<'a> {
 // query's bookmark does not belong to the chosen index.
 pub(crate) fn served_by<'a>(
     query: &Query<'_>,
-    normal: &Normal,
     catalog: &'a Catalog,
 ) -> Result<Source<'a>, PageError>
-    requires { IsNormalOf (selector_of query.now.selector) normal.now }
     ensures answers { PageAnswers source_view result (served_by catalog.now (query_view query.now)) }
+    ensures refused { (why : Unanswered) → served_by catalog.now (query_view query.now) ≡ Err why
+        → result ≡ Err (error_of why) }
     ensures listed { IfOk result (λ s. IsInCatalog catalog.now (source_view s)) }
 {
-    let source = choose_source(query, normal, catalog)?;
+    let Some(source) = choose_source(query, catalog) else {
+        return Err(PageError::NoUsableIndex);
+    };
     if accepts_bookmark(source, query) {
         Ok(source)
     } else {
@@ -58,19 +58,16 @@ pub(crate) fn served_by<'a>(
     }
 }
 
-fn choose_source<'a>(
-    query: &Query<'_>,
-    normal: &Normal,
-    catalog: &'a Catalog,
-) -> Result<Source<'a>, PageError>
-    ensures chosen { IsSourceChosen result (choice_of catalog.now normal.now.atoms
-        (query_view query.now).sort (query_view query.now).hint) }
-    ensures listed { IfOk result (λ s. IsInCatalog catalog.now (source_view s)) }
+// Chooses the usable index that is preferred; `None` if no index is usable.
+fn choose_source<'a>(query: &Query<'_>, catalog: &'a Catalog) -> Option<Source<'a>>
+    ensures chosen { choice_of catalog.now query.now.normal.atoms (query_view query.now).sort
+        (query_view query.now).hint ≡ option_map source_view result }
+    ensures listed { IfSome result (λ s. IsInCatalog catalog.now (source_view s)) }
 {
-    match choose(catalog, normal, &query.sort, &query.hint) {
-        Ok(Choice::AllDocs) => Ok(Source::AllDocs),
-        Ok(Choice::Index(index)) => Ok(Source::Defined(&catalog.list()[index])),
-        Err(_) => Err(PageError::NoUsableIndex),
+    match choose(catalog, &query.normal, &query.sort, &query.hint) {
+        Ok(Choice::AllDocs) => Some(Source::AllDocs),
+        Ok(Choice::Index(index)) => Some(Source::Defined(&catalog.list()[index])),
+        Err(_) => None,
     }
 }
 

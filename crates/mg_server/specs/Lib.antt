@@ -1,2 +1,9 @@
 pub mod Meeting
 pub mod Turns
+pub mod Places
+pub mod GivingBack
+pub mod Closing
+pub mod Limits
+pub mod Faults
+pub mod Visits
+pub mod Connections

@@ -77,8 +77,7 @@ pub trait Conversation<S: Handover> {
         ensures sent { sent self.new ≡ sent self.old }
         ensures told { (moves : Bool) (from now : S) → told moves from self.old now → Meets S.follows moves now service.old
             → told moves from self.new service.new }
-        ensures rests { (moves : Bool) (from now : S) → told moves from self.old now → rests self.new }
-        ensures gives_back { idle self.new → held self.new ≡ 0 };
+        ensures rests { (moves : Bool) (from now : S) → told moves from self.old now → rests self.new };
 
     /// The next bytes to send.
     fn output(&self) -> &[u8]

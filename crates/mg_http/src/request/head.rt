@@ -1,5 +1,5 @@
 //! Reads a head: what it asks for, and how its body is framed.
-ghost use Rattle.std.specs.Prelude.{◌≡◌, ◌==◌, ◌||◌, ℕ, ◌≤◌, List, length, map, All, take, bytes_eq, codes};
+ghost use Rattle.std.specs.Prelude.{◌≡◌, ◌==◌, ◌||◌, ℕ, ◌≤◌, ◌*◌, List, length, map, All, take, bytes_eq, codes};
 ghost use Rattle.std.specs.List.{list_any};
 ghost use Rattle.httparse.specs.Grammar.{RequestHead, NeverHasRequest};
 ghost use Rattle.httparse.specs.Spans.{IsHeaderWithin, header_bytes, IsRequestWithin, IsRequestAt};
@@ -8,7 +8,6 @@ ghost use Rattle.mg_http.specs.Head.{framed_by, refusal_before, framing_by_parts
 ghost use Rattle.mg_http.specs.Steps.{IsHeadRead, request_in, IsBodyFramed, IsFramedBy};
 
 use crate::request::fields::{Length, asks_close, has_field, length_in};
-use crate::request::second_literals::SecondLiterals;
 use crate::request::target::{ParsedRequest, read_target};
 use crate::request::unfinished::ends_in_target;
 use httparse::spans::{HeaderSpan, RequestSpans, parse_request};
@@ -87,7 +86,6 @@ fn frame_body(
 fn read_framing(
     alloc: Global,
     db: &str,
-    literals: &SecondLiterals,
     method: &[u8],
     target: &[u8],
     bytes: &[u8],
@@ -100,7 +98,7 @@ fn read_framing(
     if fields.len() > MAX_FIELDS {
         return Err(Refusal::HeadTooLarge);
     }
-    let request = match read_target(alloc, db, literals, method, target) {
+    let request = match read_target(alloc, db, method, target) {
         Ok(request) => request,
         Err(AllocError) => return Err(Refusal::OutOfMemory),
     };
@@ -152,7 +150,6 @@ fn read_rejected(bytes: &[u8]) -> Pending
 fn read_whole(
     alloc: Global,
     db: &str,
-    literals: &SecondLiterals,
     bytes: &[u8],
     spans: &[HeaderSpan],
     head: RequestSpans,
@@ -164,15 +161,7 @@ fn read_whole(
     let method = head.method.of(bytes);
     let fields = front_of(spans, head.headers);
     let omits_body = is_head_method(method);
-    match read_framing(
-        alloc,
-        db,
-        literals,
-        method,
-        head.path.of(bytes),
-        bytes,
-        fields,
-    ) {
+    match read_framing(alloc, db, method, head.path.of(bytes), bytes, fields) {
         Err(refusal) => Pending::Refused(refusal, omits_body),
         Ok((request, body_len)) => Pending::Head(Framed {
             request,
@@ -184,21 +173,13 @@ fn read_whole(
     }
 }
 
-/// Reads the head that the bytes, at most 16,384, begin with. `spans` is room for the head's fields: so many bytes hold at most 5,461
-/// fields.
-pub(crate) fn read_head(
-    alloc: Global,
-    db: &str,
-    literals: &SecondLiterals,
-    bytes: &[u8],
-    spans: &mut [HeaderSpan],
-) -> Pending
-    requires size { length bytes.now ≤ 16384 }
-    requires room { 5461 ≤ length spans.old }
+/// Reads the head that the bytes begin with. `spans` is room for the head's fields, each of which has at least three bytes.
+pub(crate) fn read_head(alloc: Global, db: &str, bytes: &[u8], spans: &mut [HeaderSpan]) -> Pending
+    requires { length bytes.now ≤ 3 * length spans.old }
     ensures { IsHeadRead db.now bytes.now result }
 {
     match parse_request(bytes, spans) {
-        Ok(Status::Complete(head)) => read_whole(alloc, db, literals, bytes, spans, head),
+        Ok(Status::Complete(head)) => read_whole(alloc, db, bytes, spans, head),
         Ok(Status::Partial) => Pending::Waiting,
         Err(Error::TooManyHeaders) => unreachable!(),
         Err(_) => read_rejected(bytes),

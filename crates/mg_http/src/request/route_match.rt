@@ -12,7 +12,6 @@ ghost use Rattle.mg_http.specs.Walk.{route_after, routes_after, begins_with, any
 
 use crate::request::decode::decode_segment;
 use crate::request::routes::{Action, Route, RouteSegment, all_routes};
-use crate::request::second_literals::SecondLiterals;
 use std::alloc::{AllocError, Global};
 use std::borrow::CowSlice;
 
@@ -156,28 +155,15 @@ fn ends_with_method(route: &Route, method: &[u8]) -> bool
     ends_here(route) && route.method == method
 }
 
-/// Whether some route has the segment as a literal second segment.
-fn is_second_literal(literals: &SecondLiterals, segment: &[u8]) -> bool
-    ensures { result ≡ any_begins_with (literal segment.now) routes }
-{
-    match str::from_utf8(segment) {
-        Ok(text) => literals.has(text),
-        Err(_) => any_begins_with(all_routes(), segment),
-    }
-}
-
 impl RouteMatch {
     /// Begins a match with the first segment, the database's name. No route matches an empty name.
     ///
     /// Errors: out of memory.
     fn new(alloc: Global, name: &[u8]) -> Result<RouteMatch, AllocError>
-        ensures matched { IfOk result (λ p. match_in p ≡ record {
+        ensures { IfOk result (λ p. match_in p ≡ record {
           routes_left = if length name.now == 0 then [] else routes;
           parameters = percent_decode name.now ∷ [];
         }) }
-        ensures routes { IfOk result
-            (λ p. (map route_of (cow_slice_items p.routes) ≡ [])
-            ⊎ (map route_of (cow_slice_items p.routes) ≡ routes)) }
     {
         let mut parameters = Vec::new(alloc);
         parameters.push(decode_segment(alloc, name)?)?;
@@ -191,19 +177,6 @@ impl RouteMatch {
             routes: CowSlice::Borrowed(all_routes()),
             parameters,
         })
-    }
-
-    /// Whether some route that is left has the second segment as a literal. Called right after the database's name.
-    fn has_second(&self, literals: &SecondLiterals, segment: &[u8]) -> bool
-        requires { (map route_of (cow_slice_items self.now.routes) ≡ [])
-            ⊎ (map route_of (cow_slice_items self.now.routes) ≡ routes) }
-        ensures { result
-            ≡ any_begins_with (literal segment.now) (map route_of (cow_slice_items self.now.routes)) }
-    {
-        if self.routes.is_empty() {
-            return false;
-        }
-        is_second_literal(literals, segment)
     }
 
     /// Matches one more segment: as a literal if some route that is left has it (`is_literal`), else as a parameter, which no empty
@@ -240,11 +213,7 @@ impl RouteMatch {
     /// Matches the whole path. No route matches a path that does not begin with a slash.
     ///
     /// Errors: out of memory.
-    pub(crate) fn of(
-        alloc: Global,
-        literals: &SecondLiterals,
-        path: &[u8],
-    ) -> Result<RouteMatch, AllocError>
+    pub(crate) fn of(alloc: Global, path: &[u8]) -> Result<RouteMatch, AllocError>
         ensures { IfOk result (λ p. match_in p ≡ match_of (segments_of path.now)) }
     {
         let mut segments = Segments::new(path);
@@ -255,11 +224,6 @@ impl RouteMatch {
             });
         };
         let mut matched = RouteMatch::new(alloc, name)?;
-        let Some(second) = segments.next() else {
-            return Ok(matched);
-        };
-        let is_literal = matched.has_second(literals, second);
-        matched = matched.enter(alloc, second, is_literal)?;
         for segment in segments {
             let is_literal = any_begins_with(&matched.routes, segment);
             matched = matched.enter(alloc, segment, is_literal)?;

@@ -4,23 +4,44 @@ ghost use Rattle.std.specs.List.{list_all};
 ghost use Rattle.std.specs.Str.{is_utf8};
 ghost use Rattle.mg_http.specs.RouteViews.{match_in};
 ghost use Rattle.mg_http.specs.Target.{path_in, query_in, names, document_asked, drop_asked, request_of};
-ghost use Rattle.mg_http.specs.Steps.{request_in};
+ghost use Rattle.mg_engine.specs.View.{command_view};
+ghost use Rattle.mg_http.specs.Steps.{bodiless_view, request_in};
 ghost use Rattle.mg_http.specs.Walk.{request_at};
 
 use crate::request::decode::asks_conflicts;
 use crate::request::route_match::RouteMatch;
 use crate::request::routes::{Action, Endpoint};
-use crate::request::second_literals::SecondLiterals;
 use mg_engine::{Command, Refusal};
 use std::alloc::{AllocError, Global};
+
+/// A command that needs no body.
+#[derive(Drop)]
+pub enum BodilessCommand {
+    ListIndexes,
+    DropIndex { ddoc: String, name: String },
+    Get { id: String, conflicts: bool },
+}
+
+impl BodilessCommand {
+    /// Returns the service's command.
+    pub(crate) fn into_command(self) -> Command
+        ensures { command_view result ≡ bodiless_view self }
+    {
+        match self {
+            BodilessCommand::ListIndexes => Command::ListIndexes,
+            BodilessCommand::DropIndex { ddoc, name } => Command::DropIndex { ddoc, name },
+            BodilessCommand::Get { id, conflicts } => Command::Get { id, conflicts },
+        }
+    }
+}
 
 /// What the method and the target of a head ask for (`Request` in the definitions).
 #[derive(Drop)]
 pub enum ParsedRequest {
     /// What the endpoint does with the body.
     Body(Endpoint),
-    /// A command; the body is ignored.
-    Asks(Command),
+    /// A command without a body; what the message has as its body is ignored.
+    Asks(BodilessCommand),
     /// A refusal. It is written after the body was read; or at once, if the body lacks a length that it needs, has a Transfer-Encoding or
     /// is too large.
     Refuses(Refusal),
@@ -90,7 +111,7 @@ fn document(
     match parameters {
         [_, id] => {
             let id = String::from_str(alloc, as_text(id))?;
-            Ok(ParsedRequest::Asks(Command::Get { id, conflicts }))
+            Ok(ParsedRequest::Asks(BodilessCommand::Get { id, conflicts }))
         }
         _ => Ok(ParsedRequest::Refuses(Refusal::Missing)),
     }
@@ -113,7 +134,7 @@ fn drop_index(
             let mut ddoc = String::from_str(alloc, prefix)?;
             ddoc.push_str(as_text(rest))?;
             let name = String::from_str(alloc, as_text(name))?;
-            Ok(ParsedRequest::Asks(Command::DropIndex { ddoc, name }))
+            Ok(ParsedRequest::Asks(BodilessCommand::DropIndex { ddoc, name }))
         }
         _ => Ok(ParsedRequest::Refuses(Refusal::Missing)),
     }
@@ -144,7 +165,7 @@ fn request_at(
         Some(Action::Document) => {
             document(alloc, &matched.parameters, asks_conflicts(alloc, query)?)
         }
-        Some(Action::ListIndexes) => Ok(ParsedRequest::Asks(Command::ListIndexes)),
+        Some(Action::ListIndexes) => Ok(ParsedRequest::Asks(BodilessCommand::ListIndexes)),
         Some(Action::DropIndex) => drop_index(alloc, "", &matched.parameters),
         Some(Action::DropDesignIndex) => drop_index(alloc, "_design/", &matched.parameters),
     }
@@ -156,13 +177,12 @@ fn request_at(
 pub(crate) fn read_target(
     alloc: Global,
     db: &str,
-    literals: &SecondLiterals,
     method: &[u8],
     target: &[u8],
 ) -> Result<ParsedRequest, AllocError>
     ensures { IfOk result (λ t. request_in t ≡ request_of db.now method.now target.now) }
 {
     let (path, query) = split_query(target);
-    let matched = RouteMatch::of(alloc, literals, path)?;
+    let matched = RouteMatch::of(alloc, path)?;
     request_at(alloc, db, method, query, matched)
 }

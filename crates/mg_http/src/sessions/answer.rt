@@ -1,4 +1,4 @@
-//! Makes the reply to one message, without writing it.
+//! Makes the reply to one message, without sending it.
 ghost use Rattle.std.specs.Prelude.{◌≡◌, IfOk, Err};
 ghost use Rattle.mg_value.specs.Text.{Reads};
 ghost use Rattle.mg_value.specs.Value.{Value};
@@ -56,14 +56,14 @@ fn answer_body<H: Wait + Threads + Sync, S: Service>(
     rt: &H,
     alloc: Global,
     service: &mut S,
-    buffer: &mut ReadBuffer,
     endpoint: Endpoint,
     body: &[u8],
 ) -> MessageReply
     ensures { HandlesBody S.answers endpoint body.now
         (record { old = service.old; reply = answer_in result; new = service.new }) }
 {
-    match read_command(alloc, endpoint, body, buffer) {
+    let mut buffer = ReadBuffer::new(alloc);
+    match read_command(alloc, endpoint, body, &mut buffer) {
         Ok(command) => MessageReply::Service(service.ask(rt, alloc, command)),
         Err(ReadError::NoMemory) => MessageReply::Service(Reply::NoMemory),
         Err(ReadError::NotJson) => MessageReply::Refusal(Refusal::InvalidJson),
@@ -76,7 +76,6 @@ pub(crate) fn answer_request<H: Wait + Threads + Sync, S: Service>(
     rt: &H,
     alloc: Global,
     service: &mut S,
-    buffer: &mut ReadBuffer,
     request: ParsedRequest,
     body: &[u8],
 ) -> MessageReply
@@ -84,8 +83,10 @@ pub(crate) fn answer_request<H: Wait + Threads + Sync, S: Service>(
         (record { old = service.old; reply = answer_in result; new = service.new }) }
 {
     match request {
-        ParsedRequest::Body(endpoint) => answer_body(rt, alloc, service, buffer, endpoint, body),
-        ParsedRequest::Asks(command) => MessageReply::Service(service.ask(rt, alloc, command)),
+        ParsedRequest::Body(endpoint) => answer_body(rt, alloc, service, endpoint, body),
+        ParsedRequest::Asks(asked) => {
+            MessageReply::Service(service.ask(rt, alloc, asked.into_command()))
+        }
         ParsedRequest::Refuses(refusal) => MessageReply::Refusal(refusal),
     }
 }

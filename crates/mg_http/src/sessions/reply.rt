@@ -1,16 +1,13 @@
-ghost use Rattle.std.specs.Prelude.{◌≡◌, [], true, is_ok, if◌then◌else◌};
-ghost use Rattle.mg_engine.specs.Commands.{refused};
-ghost use Rattle.mg_engine.specs.View.{reply_view};
-ghost use Rattle.mg_http.specs.Device.{inner_of, has_failed, WritesBytes};
-ghost use Rattle.mg_http.specs.Reply.{phrase_of, text_with, text_of, reply_text};
-ghost use Rattle.mg_http.specs.Steps.{answer_in};
+//! The head of a reply.
+ghost use Rattle.std.specs.Prelude.{◌≡◌, ℕ, ◌+◌, ◌≤◌, List, ◌++◌, length, decimal};
+ghost use Rattle.mg_http.specs.Reply.{phrase_of, text_with};
 
-use crate::sessions::answer::MessageReply;
-use crate::sessions::device::{Device, IoFault};
+use arrayvec::ArrayVec;
 use http::StatusCode;
 use itoa::Buffer;
-use mg_engine::{Refusal, Reply};
-use std::io::Write;
+
+/// The head of a reply: its status line, the type and the length of its body, and the empty line.
+pub(crate) type ReplyHead = ArrayVec<u8, 256>;
 
 /// Returns the standard reason phrase of the status; empty if it has none.
 fn phrase(status: u16) -> &'static str
@@ -22,122 +19,46 @@ fn phrase(status: u16) -> &'static str
     }
 }
 
-/// Writes the text of a reply from its parts. Gathers them in `output`: one write usually suffices.
-///
-/// Errors: as for `Device::put`.
-fn write_parts<'a, W: Write>(
-    writer: &mut Device<W>,
-    output: &mut Vec<u8>,
-    code: &'a [u8],
-    phrase: &'a [u8],
-    length: &'a [u8],
-    body: &'a [u8],
-) -> Result<(), IoFault>
-    ensures bytes { WritesBytes (W.contents (inner_of writer.old)) (W.contents (inner_of writer.new))
-        (text_with code.now phrase.now length.now body.now) result }
-    ensures failed { has_failed writer.new ≡ (if is_ok result then has_failed writer.old else true) }
+/// Appends a part, for which there is room.
+fn append(head: &mut ReplyHead, part: &[u8])
+    requires { length head.old.items + length part.now ≤ 256 }
+    ensures { head.new.items ≡ head.old.items ++ part.now }
 {
-    writer.put_all(
-        output,
-        &[
-            b"HTTP/1.1 ",
-            code,
-            b" ",
-            phrase,
-            b"\r\nContent-Type: application/json\r\nContent-Length: ",
-            length,
-            b"\r\n\r\n",
-            body,
-        ],
-    )
+    if head.try_extend_from_slice(part).is_err() {
+        unreachable!()
+    }
 }
 
-/// Returns the body to write: empty if the reply omits it.
-fn body_to_write(omits_body: bool, body: &[u8]) -> &[u8]
-    ensures { result.now ≡ (if omits_body then [] else body.now) }
+/// Returns the head with these parts.
+fn head_with(code: &[u8], phrase: &[u8], size: &[u8]) -> ReplyHead
+    requires code { length code.now ≤ 40 }
+    requires phrase { length phrase.now ≤ 40 }
+    requires size { length size.now ≤ 40 }
+    ensures { (body : List ℕ) → result.items ++ body ≡ text_with code.now phrase.now size.now body }
 {
-    if omits_body { &[] } else { body }
+    let mut head = ReplyHead::new();
+    append(&mut head, b"HTTP/1.1 ");
+    append(&mut head, code);
+    append(&mut head, b" ");
+    append(&mut head, phrase);
+    append(
+        &mut head,
+        b"\r\nContent-Type: application/json\r\nContent-Length: ",
+    );
+    append(&mut head, size);
+    append(&mut head, b"\r\n\r\n");
+    head
 }
 
-/// Writes the text of a reply with this status and body. A reply that omits its body still gives its length.
-///
-/// Errors: as for `Device::put`.
-fn write_text<W: Write>(
-    writer: &mut Device<W>,
-    output: &mut Vec<u8>,
-    omits_body: bool,
-    status: u16,
-    body: &[u8],
-) -> Result<(), IoFault>
-    ensures bytes { WritesBytes (W.contents (inner_of writer.old)) (W.contents (inner_of writer.new))
-        (text_of omits_body (record { status = status; body = body.now })) result }
-    ensures failed { has_failed writer.new ≡ (if is_ok result then has_failed writer.old else true) }
+/// Returns the head of a reply with this status, whose body has this size. Allocates nothing.
+pub(crate) fn head_of(status: u16, size: usize) -> ReplyHead
+    ensures { (body : List ℕ) → result.items ++ body ≡ text_with (decimal status) (phrase_of status) (decimal size) body }
 {
     let mut code = Buffer::new();
-    let mut length = Buffer::new();
-    write_parts(
-        writer,
-        output,
+    let mut digits = Buffer::new();
+    head_with(
         code.format(status).as_bytes(),
         phrase(status).as_bytes(),
-        length.format(body.len()).as_bytes(),
-        body_to_write(omits_body, body),
+        digits.format(size).as_bytes(),
     )
-}
-
-/// Writes a reply of the service.
-///
-/// Errors: as for `Device::put`.
-pub(crate) fn write_reply<W: Write>(
-    writer: &mut Device<W>,
-    output: &mut Vec<u8>,
-    omits_body: bool,
-    reply: &Reply,
-) -> Result<(), IoFault>
-    ensures bytes { WritesBytes (W.contents (inner_of writer.old)) (W.contents (inner_of writer.new))
-        (reply_text omits_body (reply_view reply.now)) result }
-    ensures failed { has_failed writer.new ≡ (if is_ok result then has_failed writer.old else true) }
-{
-    write_text(writer, output, omits_body, reply.status(), reply.body())
-}
-
-/// Writes a refusal as a reply. Allocates nothing but room in `output`.
-///
-/// Errors: as for `Device::put`.
-pub(crate) fn write_refusal<W: Write>(
-    writer: &mut Device<W>,
-    output: &mut Vec<u8>,
-    omits_body: bool,
-    refusal: Refusal,
-) -> Result<(), IoFault>
-    ensures bytes { WritesBytes (W.contents (inner_of writer.old)) (W.contents (inner_of writer.new))
-        (text_of omits_body (refused refusal)) result }
-    ensures failed { has_failed writer.new ≡ (if is_ok result then has_failed writer.old else true) }
-{
-    write_text(
-        writer,
-        output,
-        omits_body,
-        refusal.status(),
-        refusal.body().as_bytes(),
-    )
-}
-
-/// Writes the reply to a message.
-///
-/// Errors: as for `Device::put`.
-pub(crate) fn write_answer<W: Write>(
-    writer: &mut Device<W>,
-    output: &mut Vec<u8>,
-    omits_body: bool,
-    answer: &MessageReply,
-) -> Result<(), IoFault>
-    ensures bytes { WritesBytes (W.contents (inner_of writer.old)) (W.contents (inner_of writer.new))
-        (reply_text omits_body (answer_in answer.now)) result }
-    ensures failed { has_failed writer.new ≡ (if is_ok result then has_failed writer.old else true) }
-{
-    match answer {
-        MessageReply::Service(reply) => write_reply(writer, output, omits_body, reply),
-        MessageReply::Refusal(refusal) => write_refusal(writer, output, omits_body, *refusal),
-    }
 }

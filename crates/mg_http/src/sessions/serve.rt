@@ -4,6 +4,8 @@ ghost use Rattle.mg_engine.specs.Stands.{Stands};
 ghost use Rattle.mg_engine.specs.World.{World};
 ghost use Rattle.mg_http.specs.Device.{inner_of, has_failed};
 ghost use Rattle.mg_http.specs.AtWorld.{WroteTranscriptAt};
+ghost use Rattle.mg_http.specs.SoloService.{SoloAnswers};
+ghost use Rattle.mg_http.specs.Transcript.{WroteTranscript};
 
 use crate::sessions::device::Device;
 use crate::sessions::service::Solo;
@@ -22,7 +24,7 @@ impl<P: Placement + Drop> Solo<P> {
     /// command whose reply is `out_of_memory` changes nothing. Afterwards the engine stands for the world that the commands leave.
     ///
     /// Errors: each error ends the session; see `SessionEnd`. Cost: that of the commands, and one pass over the bytes; a head that arrives
-    /// in several pieces is parsed again for each piece. Holds at most one message and the bytes of one more read, at most 16,384.
+    /// in several pieces is parsed again for each piece. Holds what `session` holds.
     pub fn serve<H: Wait + Threads + Sync, R: Read, W: Write>(
         &mut self,
         rt: &H,
@@ -42,6 +44,15 @@ impl<P: Placement + Drop> Solo<P> {
               end = result;
             })
             × Stands P.place self.new.engine u }
+
+        // The replies are those of this service, whose engine has a number of shards, and which has a number of workers.
+        ensures service { WroteTranscript (SoloAnswers P.place) db.now (record {
+          read = Consumes (R.remaining (inner_of reader.old)) (R.remaining (inner_of reader.new));
+          wrote = Appends (W.contents (inner_of writer.old)) (W.contents (inner_of writer.new));
+          old = self.old;
+          new = self.new;
+          end = result;
+        }) }
         ensures eof { result ≡ SessionEnd.Eof → IsAtEnd (R.remaining (inner_of reader.new)) }
         ensures read_fault { IsTrue (has_failed reader.new) ↔ (result ≡ SessionEnd.ReadFault) }
         ensures write_fault { IsTrue (has_failed writer.new) ↔ (result ≡ SessionEnd.WriteFault) }

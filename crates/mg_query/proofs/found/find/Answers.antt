@@ -34,7 +34,7 @@ returns-clause-hits g c = λ place hs stands whole.
     let first = c.in_ok-hits.ensures.hits in
     let usable = choice_usable ds (atoms_of q.selector) q.sort q.hint s (choice_served ds q s c.in_ok-plan.ensures.answers) in
     lend_first columns q place hs shards q.skip hits stands first.hits
-    (rows_handed q columns plan.normal c.in_ok-plan.ensures.plan.normal c.ranges_are_complete.ensures usable place shards hs stands whole hits first.rows)
+    (rows_handed q columns plan.normal.now c.in_ok-plan.ensures.plan.normal c.ranges_are_complete.ensures usable place shards hs stands whole hits first.rows)
 
 pub returns-clause-handed : goal.returns-clause-handed
 returns-clause-handed g c = λ place hs stands whole.
@@ -46,5 +46,5 @@ returns-clause-handed g c = λ place hs stands whole.
     let shards = shards_view c.args.shards.now in
     let usable = choice_usable ds (atoms_of q.selector) q.sort q.hint s (choice_served ds q s c.in_ok-plan.ensures.answers) in
     c.in_ok-hits.ensures.handed
-    ∙ listed_counts c.ranges_are_complete.ensures q columns plan.normal c.in_ok-plan.ensures.plan.normal usable place shards hs stands whole
+    ∙ listed_counts c.ranges_are_complete.ensures q columns plan.normal.now c.in_ok-plan.ensures.plan.normal usable place shards hs stands whole
     ∙ ap (λ n. counts_handed columns q place n hs) (length-map c.args.shards.now arc_value)

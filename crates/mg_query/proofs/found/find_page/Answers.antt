@@ -30,4 +30,4 @@ returns-clause-hits g c = λ place hs stands whole.
     let first = c.in_ok-hits.ensures in
     let usable = choice_usable ds (atoms_of q.selector) q.sort q.hint s (choice_served ds q s c.in_ok-plan.ensures.answers) in
     lend_first columns q place hs shards c.in_ok-hits.skip hits stands first.hits
-    (first.rows ∙ rows_merged q columns plan.normal c.in_ok-plan.ensures.plan.normal c.ranges_are_complete.ensures usable place shards hs stands whole)
+    (first.rows ∙ rows_merged q columns plan.normal.now c.in_ok-plan.ensures.plan.normal c.ranges_are_complete.ensures usable place shards hs stands whole)

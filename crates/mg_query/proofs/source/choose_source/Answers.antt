@@ -13,4 +13,4 @@ returns-in-Ok-Index-clause-listed c =
     let d : IndexDefinition = c.index-list-index.result in
     let chosen = rw c.in-Ok-Index.field-0-is at c.in-Ok-Index.ensures in
     let same : d ≡ chosen.0 = c.index-list-index.is ∙ ap (λ xs. get_or xs c.in-Ok-Index.index d) c.list.ensures.all ∙ get_or_from_slice_get ds c.in-Ok-Index.index chosen.0 d chosen.1 in
-    choice_listed ds c.args.normal.now.atoms q.sort q.hint (defined d) c.list.ensures.in_order (chosen.2 ∙ ap (λ x. Some (defined x)) (sym same))
+    choice_listed ds c.args.query.now.normal.atoms q.sort q.hint (defined d) c.list.ensures.in_order (chosen.2 ∙ ap (λ x. Some (defined x)) (sym same))

@@ -10,6 +10,6 @@ pub returns-in-Err-NotJson : goal.returns-in-Err-NotJson
 returns-in-Err-NotJson g c =
     inr (inl (c.in-Err-NotJson.ensures.not_json (ap Err c.in-Err-NotJson.field-0-is), refl, refl))
 
-pub returns-in-Err-NotWhole : goal.returns-in-Err-NotWhole
-returns-in-Err-NotWhole g c =
+pub returns : goal.returns
+returns g c =
     inr (inl (c.in-Err-NotWhole.ensures.not_whole (ap Err c.in-Err-NotWhole.field-0-is), refl, refl))

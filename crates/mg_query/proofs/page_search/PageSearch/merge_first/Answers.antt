@@ -21,7 +21,7 @@ merge_items-requires g c =
     let plan = c.args.self.now.plan.now in
     let columns = source_columns (source_view plan.source) in
     subst (λ (lists : List (Vec Hit Global)). All (IsInOrderBy hit_row q.direction) (contents_of lists)) (sym c.deref.ensures.value)
-    (handed_in_order q columns plan.normal c.requires.plan.normal c.in_ok-lists.lists.items (shards_view c.args.self.now.shards.now) c.in_ok-lists.ensures.rows)
+    (handed_in_order q columns plan.normal.now c.requires.plan.normal c.in_ok-lists.lists.items (shards_view c.args.self.now.shards.now) c.in_ok-lists.ensures.rows)
 
 pub returns-clause-hits : goal.returns-clause-hits
 returns-clause-hits g c =
@@ -44,7 +44,7 @@ returns-clause-work g c =
     let lists = c.in_ok-lists.lists.items in
     let merge = merged_same q.direction c.in_ok-hits.hits.items c.row_count.result (q.skip + q.limit) c.deref.result.now lists c.in_ok-hits.ensures.items c.row_count.ensures c.deref.ensures.value in
     subst (λ n. IsWorkWithin n (q.skip + q.limit) c.in_ok-hits.work) (length-map c.args.self.now.shards.now arc_value)
-    (handed_within q columns plan.normal c.requires.plan.normal lists (shards_view c.args.self.now.shards.now) c.in_ok-lists.ensures.rows c.in_ok-hits.hits.items merge c.in_ok-hits.work
+    (handed_within q columns plan.normal.now c.requires.plan.normal lists (shards_view c.args.self.now.shards.now) c.in_ok-lists.ensures.rows c.in_ok-hits.hits.items merge c.in_ok-hits.work
     (c.in_ok-hits.ensures.handed ∙ ap (map (λ (l : Vec Hit Global). length l.items)) c.deref.ensures.value) c.in_ok-hits.ensures.taken)
 
 pub returns-clause-handed : goal.returns-clause-handed

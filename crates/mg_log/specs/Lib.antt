@@ -1,0 +1,9 @@
+pub mod Failures
+pub mod Header
+pub mod Entry
+pub mod Table
+pub mod Rows
+pub mod Log
+pub mod Reading
+pub mod Files
+pub mod Steps

@@ -1,0 +1,7 @@
+mod ClosingLemmas
+mod EntryLemmas
+mod GivingBackLemmas
+mod KnownBytesLemmas
+mod PlaceLemmas
+mod TableLemmas
+mod VisitLemmas

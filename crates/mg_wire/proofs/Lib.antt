@@ -1,0 +1,7 @@
+pub mod BodyLemmas
+pub mod ReplyLemmas
+pub mod HoldLemmas
+pub mod TurnLemmas
+pub mod CarryLemmas
+pub mod ChainLemmas
+pub mod MeetingLemmas

@@ -1,0 +1,36 @@
+-- What is sent of a response.
+use Rattle.std.specs.Prelude.{◌≡◌, ◌⊎◌, ℕ, ◌&&◌, not, true, false, List, [], ◌∷◌, ◌++◌, length, Ok, Some, None, if◌then◌else◌, ◌==◌}
+use Rattle.http1.specs.declared.conn.BodySize.{BodySize}
+use Rattle.http1.specs.declared.conn.BodySize.TheVariants.{Empty, Known}
+use Rattle.http1.specs.declared.error.WriteError.{WriteError}
+use Rattle.http1.specs.declared.error.WriteError.TheVariants.{OutOfMemory}
+use Rattle.http1.specs.declared.server.Server.{Server}
+use Rattle.http1.specs.Fields.{Header, known_fields}
+use Rattle.http1.specs.Head.{is_status_line, head_refusal, response_text}
+use Rattle.http1.specs.Encoder.{encoder_for, body_text, AreAccepted}
+use Rattle.http1.specs.Output.{LacksRoom}
+use Rattle.http1.specs.Conn.{Plan}
+use Rattle.http1.specs.Server.{response_plan, response_refusal, planned_response, peer_minor, IsClosed}
+
+-- a length, as `http1` is given it
+abbrev pub size_for : ℕ → BodySize
+size_for len = if len == 0 then Empty else Known len
+
+-- The head of a response was appended, so that it and then these bytes are the whole response. `next`: the server after it
+pub record Heads (s : Server) (status : ℕ) (fields : List Header) (body_len sent : ℕ) (old new : List ℕ) (next : Server) : Type 0 where
+  pub plan : Plan
+  pub reason : List ℕ
+  pub planned : response_plan s status (size_for body_len) fields ≡ Ok plan
+  pub valid : head_refusal (is_status_line (peer_minor s) status reason) (fields ++ plan.extra) ≡ None
+  pub whole : (piece : List ℕ) → length piece ≡ sent
+      → (new ++ piece ≡ old ++ response_text (peer_minor s) status reason (fields ++ plan.extra) ++ body_text (piece ∷ []) (encoder_for plan.framing) [])
+      × AreAccepted (piece ∷ []) (encoder_for plan.framing) []
+  pub keeps : s.request.expects_continue ≡ false → plan.keep_alive ≡ (s.request.keep_alive && not (known_fields fields).close)
+  pub closes : IsClosed next → plan.keep_alive ≡ false
+  pub goes_on : ¬ (IsClosed next) → plan.keep_alive ≡ true
+
+-- Why no head was appended, where it is said to be for want of memory: it is longer than the room.
+abbrev pub FailsToHead : Server → ℕ → List Header → ℕ → ℕ → ℕ → WriteError → Type 0
+FailsToHead s status fields body_len sent spare e =
+    e ≡ OutOfMemory → (reason : List ℕ) × ((response_refusal s status reason (size_for body_len) fields ≡ Some OutOfMemory)
+    ⊎ LacksRoom spare (length (planned_response s status reason (size_for body_len) fields)))

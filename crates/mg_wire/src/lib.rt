@@ -1,0 +1,27 @@
+//! A connection of HTTP/1.1 as a value, without input or output (RFC 9112, RFC 9110).
+//!
+//! Promises. A `Connection` reads and writes nothing: it is what an edge drives (`mg_server::Conversation`). What
+//! was received begins with the requests that its service was asked, and what was sent and waits to be sent is
+//! their responses, in order, each to its own request, with a `100 Continue` exactly before those that ask for one
+//! (`told`). It has answered each whole request before it reads on (`rests`). A refusal has a reason that holds
+//! whatever bytes follow (`Refuses`). The connection closes after a response only if the request or the response asks
+//! for it, and goes on only if neither does (`keeps_open`). A connection that is idle gives its buffers back.
+#![tactic(auto)]
+
+mod advance;
+mod body;
+mod bounds;
+mod connection;
+mod conversation;
+mod refusal;
+mod reply;
+mod request;
+mod response;
+mod service;
+
+pub use crate::bounds::Bounds;
+pub use crate::connection::{Connection, Ending};
+pub use crate::refusal::Refusal;
+pub use crate::request::{Field, Request};
+pub use crate::response::Response;
+pub use crate::service::Service;
