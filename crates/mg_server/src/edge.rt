@@ -138,7 +138,7 @@ impl<C: Drop, K: Drop> Edge<C, K> {
 
     /// Has the poll watch the socket of a connection that is given back, for writing too if a reply waits. If a thread waited for the client,
     /// what came meanwhile is an event at once. `false`: the system refused.
-    pub(crate) fn watch_again(&self, hand: &mut Hand<Connection<C, K>>) -> bool {
+    fn watch_again(&self, hand: &mut Hand<Connection<C, K>>) -> bool {
         let token = Token(hand.key());
         let connection = hand.item_mut();
         let descriptor: RawFd = connection.descriptor();
@@ -172,7 +172,8 @@ impl<C: Drop, K: Drop> Edge<C, K> {
         self.watchers.load(Ordering::SeqCst) > 0
     }
 
-    /// Gives a connection back to the table. Closes it if there is no room for what it holds.
+    /// Gives a connection back to the table, and has the poll watch its socket. Closes it if the system refuses, or if there is no room for
+    /// what it holds.
     pub(crate) fn give_back<H: Wait>(
         &self,
         rt: &H,
@@ -180,6 +181,10 @@ impl<C: Drop, K: Drop> Edge<C, K> {
         rest: Rest,
         stay: Stay,
     ) {
+        let mut hand = hand;
+        if !self.watch_again(&mut hand) {
+            return self.close(rt, hand);
+        }
         let back = self.table.lock(rt).give_back(hand, rest, stay);
         drop(back);
     }

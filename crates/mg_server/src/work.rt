@@ -251,13 +251,9 @@ fn put_away<H: Wait, S: Learner, C: Conversation<S> + Drop>(
     hand: Hand<Connection<C, S::Seen>>,
     rest: Option<Rest>,
 ) {
-    let mut hand = hand;
     let Some(rest) = rest else {
         return edge.close(rt, hand);
     };
-    if !edge.watch_again(&mut hand) {
-        return edge.close(rt, hand);
-    }
     let stay = stay_of::<S, C>(hand.item());
     edge.give_back(rt, hand, rest, stay);
 }
