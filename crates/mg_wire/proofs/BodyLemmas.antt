@@ -1,12 +1,12 @@
 -- From what the state machine says of each read to how far a request was read.
-use Rattle.std.proofs.Common.{◌≡◌, ◌≢◌, ℕ, ◌+◌, ◌<◌, ◌≤◌, Bool, true, false, not, ◌&&◌, ◌==◌, List, [], ◌++◌, length, map, drop, append_assoc, append-nil, length-append, length-drop, sym, refl, ap, ◌∙◌, subst, subst₂, Result, Ok, ◌-◌, nat_lt, arith}
+use Rattle.std.proofs.Common.{◌≡◌, ◌≢◌, ℕ, ◌+◌, ◌<◌, ◌≤◌, Bool, true, false, not, ◌&&◌, ◌==◌, List, [], ◌++◌, length, map, drop, append_assoc, append-nil, length-append, length-drop, sym, refl, ap, ◌∙◌, subst, subst₂, ◌-◌, arith}
 use Rattle.std.proofs.lemmas.List.{drop-drop}
-use Rattle.httparse.specs.Grammar.{RequestHead, print_request, HasNoRequest}
+use Rattle.httparse.specs.Grammar.{RequestHead}
 use Rattle.httparse.specs.Spans.{span_bytes}
 use Rattle.httparse.specs.declared.spans.Span.{Span}
 use Rattle.httparse.specs.declared.spans.HeaderSpan.{HeaderSpan}
 use Rattle.httparse.specs.declared.spans.RequestSpans.{RequestSpans}
-use Rattle.httparse.proofs.GrammarLemmas.{ReadsRequest-append, request_unique}
+use Rattle.httparse.proofs.GrammarLemmas.{request_unique}
 use Rattle.http1.specs.declared.conn.Limits.{Limits}
 use Rattle.http1.specs.declared.conn.Event.{Event}
 use Rattle.http1.specs.declared.conn.Event.TheVariants.{NeedMore, Head, Informational, Data, End, Paused, Upgraded, Closed}
@@ -24,92 +24,26 @@ use Rattle.http1.specs.Message as Wire
 use Rattle.http1.specs.Conn.{ReadsPiece}
 use Rattle.http1.specs.declared.conn.BodySize.TheVariants.{Known}
 use Rattle.http1.specs.declared.error.ReadError.{ReadError}
-use Rattle.http1.specs.declared.framing.FramingError.{FramingError}
 use Rattle.http1.specs.Conn.{unread_size, is_read}
-use Rattle.http1.specs.ReadError.{BodyError, RequestError}
-use Rattle.http1.specs.Server as Http
-use Rattle.http1.specs.Server.{new_server, reading, writing, expects_continue, has_codings, peer_method, peer_minor, cycle_at, after_piece, ReadsHead, ReadsInBody, ReadsAt, ServerReads, TakesHead, RefusesAt, ServerRefuses}
+use Rattle.http1.specs.ReadError.{BodyError}
+use Rattle.http1.specs.Server.{reading, writing, has_codings, peer_method, peer_minor, cycle_at, after_piece, ReadsInBody, ReadsAt, ServerReads, RefusesAt, ServerRefuses}
 use Rattle.http1.specs.declared.decode.Decoder.TheVariants as Coded
 use Rattle.http1.specs.declared.framing.Framing.{Framing}
-use Rattle.http1.specs.declared.framing.Framing.TheVariants as Framed
 use Rattle.http1.specs.Body.{ReadsBody}
 use Rattle.http1.specs.Framing.{method_kind, request_framing}
 use Rattle.http1.specs.Message.{known_of, AcceptsRequest, ReadsRequestMessage}
-use Rattle.http1.proofs.FramingFacts.{request_has_an_end}
 use Rattle.http1.proofs.OneParse.{body_from_completes, completes_from_body}
-use Rattle.mg_wire.specs.declared.request.Request.{Request}
 use Rattle.mg_wire.specs.declared.request.Field.{Field}
 use Rattle.mg_wire.specs.declared.body.Begun.{Begun}
-use Rattle.mg_wire.specs.Request.{field_parts, HasHeadAt, has_content}
-use Rattle.mg_wire.specs.Refusal.{IsEach, HasNoHead, HasNoEnd}
+use Rattle.mg_wire.specs.Request.{field_parts}
+use Rattle.mg_wire.specs.Refusal.{IsEach, HasNoEnd}
 use Rattle.mg_wire.specs.declared.body.TheConstants.{MAX_FIELDS}
-use Rattle.mg_wire.specs.Body.{HasNoMessage, KeepsHead, Serves, IsBegun, IsFresh, IsWhole}
-
-head_has_bytes : (h : RequestHead) → 0 < length (print_request h)
-unfolding print_request
-head_has_bytes h = simp length-append (omega arith)
-
-pub no_head : (s new : Server) (input : List ℕ) (spans : List HeaderSpan) (len : ℕ) (event : Event RequestSpans)
-    → ((r : RequestSpans) → event ≢ Head r) → ReadsHead s input spans new len event → HasNoRequest input
-no_head s new input spans len NeedMore other found = found.2
-no_head s new input spans len (Head r) other found = absurd (other r refl)
-no_head s new input spans len (Informational r) other found = absurd found
-no_head s new input spans len (Data x) other found = absurd found
-no_head s new input spans len (End count) other found = absurd found
-no_head s new input spans len Paused other found = absurd found
-no_head s new input spans len Upgraded other found = absurd found
-no_head s new input spans len Closed other found = absurd found
-
-until_close : (limits : Limits) (f : Framing) → decoder_for limits f ≡ UntilClose → f ≡ Framed.UntilClose
-until_close limits Framed.NoBody e = cc
-until_close limits (Framed.Length n) e = cc
-until_close limits Framed.Chunked e = cc
-until_close limits Framed.UntilClose e = refl
+use Rattle.mg_wire.specs.Body.{HasNoMessage, KeepsHead, Serves, IsBegun, IsWhole}
 
 stays_sized : (old new : Decoder) (input : List ℕ) (len : ℕ) (piece : List ℕ) → Runs old input new len piece → old ≢ UntilClose → new ≢ UntilClose
 stays_sized (Coded.Length left) new input len piece r sized = λ e. let same : Coded.Length (left - len) ≡ UntilClose = sym r ∙ e in cc
 stays_sized (Coded.Chunked chunks max_len) new input len piece r sized = λ e. let same : Coded.Chunked r.0 max_len ≡ UntilClose = sym r.1 ∙ e in cc
 stays_sized UntilClose new input len piece r sized = absurd (sized refl)
-
-pub begun : (limits : Limits) (input : List ℕ) (spans : List HeaderSpan) (new : Server) (len : ℕ) (r : RequestSpans) (a : Request) (waits : Bool)
-    → waits ≡ expects_continue new → TakesHead (new_server limits) input spans new len r → len ≤ length input → HasHeadAt input spans r a
-    → IsFresh limits input (record { server = new; request = a; at = len; expects_continue = waits })
-begun limits input spans new len r a waits kept t fits is =
-    let first : IsBegun limits input (record { server = new; request = a; at = len; expects_continue = waits }) = record {
-      head = t.head;
-      framing = t.framing;
-      decoder = decoder_for limits t.framing;
-      after = drop len input;
-      accepts = λ more. record {
-        reads = ReadsRequest-append input t.head _ more t.accepts.reads;
-        strict = t.accepts.strict;
-        host = t.accepts.host;
-        framed = t.accepts.framed;
-      };
-      serves = record {
-        method = ap peer_method t.next;
-        minor = ap peer_minor t.next;
-        writing_is = ap writing t.next;
-        stays = ap (λ (s : Server). s.request.keep_alive) t.next;
-        keeps = record {
-          asked = record {
-            method = is.method ∙ t.covered.method;
-            target = is.target ∙ t.covered.path;
-            minor = is.minor ∙ t.covered.version;
-            fields = is.fields ∙ t.covered.fields;
-          };
-          expects = kept ∙ ap expects_continue t.next
-              ∙ ap (λ (f : Result Framing FramingError). nat_lt 0 t.head.minor && ((known_of t.head.fields).expect_continue && has_content f)) (sym t.accepts.framed);
-        };
-      };
-      reading_is = ap reading t.next;
-      within = fits;
-      moved = omega (arith, t.consumed, t.covered.len, head_has_bytes t.head);
-      back = λ more body rest x. subst (λ (got : List ℕ). Completes (decoder_for limits t.framing) (drop len input ++ more) (with_front got body) rest) (sym is.body) x;
-      forth = λ more whole rest x. (whole, ap (λ (got : List ℕ). with_front got whole) (sym is.body), x);
-      sized = λ e. request_has_an_end _ _ _ (t.accepts.framed ∙ ap Ok (until_close limits t.framing e));
-    } in
-    record { begun = first; coded = ap has_codings t.next }
 
 -- a read in the body leaves the rest of the server as it was
 record Follows (s new : Server) (next : Reading) : Type 0 where
@@ -146,6 +80,7 @@ serves_on h b n next x y keeps = record {
   minor = y.minor ∙ x.minor;
   writing_is = y.writes_next;
   stays = y.stays ∙ x.stays;
+  proper = x.proper;
   keeps = keeps;
 }
 
@@ -343,25 +278,3 @@ same_head b n m t v f e h k = record {
   };
   expects = e ∙ k.expects;
 }
-
-pub begun_head : (limits : Limits) (input : List ℕ) (spans : List HeaderSpan) (new : Server) (read : Progress RequestSpans) (r : RequestSpans) (a : Request) (waits : Bool)
-    → waits ≡ expects_continue new → ServerReads (new_server limits) input spans new read → read.event ≡ Head r → read.consumed ≤ length input → HasHeadAt input spans r a
-    → IsFresh limits input (record { server = new; request = a; at = read.consumed; expects_continue = waits })
-begun_head limits input spans new read r a waits kept found is fits asked =
-    begun limits input spans new read.consumed r a waits kept (subst (ReadsHead (new_server limits) input spans new read.consumed) is found) fits asked
-
--- no head is no request
-no_message : (limits : Limits) (input : List ℕ) → HasNoRequest input → HasNoMessage limits input
-no_message limits input none m rest r = none m.head r.after_head r.head.reads
-
--- no head is there yet
-pub no_head_yet : (limits : Limits) (input : List ℕ) (spans : List HeaderSpan) (new : Server) (read : Progress RequestSpans)
-    → ServerReads (new_server limits) input spans new read → ((r : RequestSpans) → read.event ≢ Head r) → HasNoMessage limits input
-no_head_yet limits input spans new read found other = no_message limits input (no_head (new_server limits) new input spans read.consumed read.event other found)
-
--- no head can be read
-pub head_refused : (limits : Limits) (input : List ℕ) (room : ℕ) (e : ReadError) → room ≡ MAX_FIELDS → ServerRefuses (new_server limits) input room e → HasNoHead limits input e
-head_refused limits input room e is found = (
-  subst (λ (k : ℕ). Http.HasNoHead limits input k) is found.0,
-  subst (λ (k : ℕ). RequestError limits.max_head_len input k e) is found.1,
-)

@@ -15,6 +15,7 @@ use Rattle.mg_wire.specs.declared.bounds.Bounds.{Bounds}
 use Rattle.mg_wire.specs.declared.connection.Connection.{Connection}
 use Rattle.mg_wire.specs.declared.connection.Ending.{Ending}
 use Rattle.mg_wire.specs.declared.connection.Ending.TheVariants.{Closed, InputEnded, Refused, NoMemory, Faulty}
+use Rattle.mg_wire.specs.declared.refusal.Refusal.{Refusal}
 use Rattle.mg_wire.specs.Body.{IsBegun}
 use Rattle.mg_wire.specs.Refusal.{Refuses}
 use Rattle.mg_wire.specs.Transcript.{Call, IsTranscript}
@@ -90,39 +91,48 @@ module _ (c n : Connection) (bounds : n.bounds ≡ c.bounds) (came : received n 
     why = x.why;
   }
 
-  ends_same : (ending : Ending) (answered : List Call) (text rest : List ℕ) → EndsFor ending c answered text rest → EndsFor ending n answered text rest
-  ends_same Closed answered text rest x = (calls ∙ x.0, out ∙ x.1, x.2)
-  ends_same InputEnded answered text rest x = (calls ∙ x.0, out ∙ x.1, x.2, subst IsTrue (sym ended) x.3)
-  ends_same (Refused r) answered text rest x = (
+  why_same : n.is_starved ≡ c.is_starved → (rest : List ℕ) (r : Refusal) → Refuses c.bounds c.has_ended c.is_starved rest r
+      → Refuses n.bounds n.has_ended n.is_starved rest r
+  why_same starved rest r x =
+      subst (λ (e : Bool). Refuses n.bounds n.has_ended e rest r) (sym starved)
+      (subst₂ (λ (k : Bounds) (e : Bool). Refuses k e c.is_starved rest r) (sym bounds) (sym ended) x)
+
+  ends_same : n.is_starved ≡ c.is_starved → (ending : Ending) (answered : List Call) (text rest : List ℕ) → EndsFor ending c answered text rest → EndsFor ending n answered text rest
+  ends_same starved Closed answered text rest x = (calls ∙ x.0, out ∙ x.1, x.2)
+  ends_same starved InputEnded answered text rest x = (calls ∙ x.0, out ∙ x.1, x.2, subst IsTrue (sym ended) x.3)
+  ends_same starved (Refused r) answered text rest x = (
     calls ∙ x.0,
     follows_same rest text _ x.1,
-    subst₂ (λ (k : Bounds) (e : Bool). Refuses k e rest r) (sym bounds) (sym ended) x.2,
+    why_same starved rest r x.2,
   )
-  ends_same NoMemory answered text rest x = (calls ∙ x.0, follows_same rest text [] x.1)
-  ends_same (Faulty e) answered text rest x =
+  ends_same starved NoMemory answered text rest x =
+      (calls ∙ x.0, follows_same rest text [] x.1, (x.2.0, why_same starved rest x.2.0 x.2.1))
+  ends_same starved (Faulty e) answered text rest x =
       (lost_same e answered rest x.0, elim x.1 [ inl f ↦ inl (follows_same rest text _ f) | inr f ↦ inr (follows_same rest text _ f) ])
 
-  stands_same : (s : Option Ending) (answered : List Call) (text rest : List ℕ) → Stands s c answered text rest → Stands s n answered text rest
-  stands_same None answered text rest x =
+  stands_same : (s : Option Ending) → (s ≡ None) ⊎ (n.is_starved ≡ c.is_starved) → (answered : List Call) (text rest : List ℕ) → Stands s c answered text rest → Stands s n answered text rest
+  stands_same None starved answered text rest x =
       (calls ∙ x.0, x.1 ∙ sym input, subst (λ (b : Option Begun). StandsAt b n text) (sym begun) (at_same c.begun text x.2), x.3)
-  stands_same (Some ending) answered text rest x = ends_same ending answered text rest x
+  stands_same (Some ending) (inl bad) answered text rest x = cc
+  stands_same (Some ending) (inr starved) answered text rest x = ends_same starved ending answered text rest x
 
-  pub same : n.end ≡ c.end → Holds c → Holds n
-  same state h = record {
+  -- only an end tells whether there was memory for a read
+  pub same : n.end ≡ c.end → (c.end ≡ None) ⊎ (n.is_starved ≡ c.is_starved) → Holds c → Holds n
+  same state starved h = record {
     answered = h.answered;
     text = h.text;
     rest = h.rest;
     transcript = subst₂ (λ (k : Bounds) (stream : List ℕ). IsTranscript k.limits stream h.answered h.text h.rest) (sym bounds) (sym came) h.transcript;
-    stands = subst (λ (s : Option Ending). Stands s n h.answered h.text h.rest) (sym state) (stands_same c.end h.answered h.text h.rest h.stands);
+    stands = subst (λ (s : Option Ending). Stands s n h.answered h.text h.rest) (sym state) (stands_same c.end starved h.answered h.text h.rest h.stands);
   }
 
 pub said_same : (c n : Connection) → n.writes ≡ c.writes → n.output ≡ c.output → n.tail ≡ c.tail → said n ≡ said c
 said_same c n w o t = λ i. flat_map (λ (k : Filled × ℕ). take k.1 k.0.items) (w i).items ++ ((o i).items ++ (t i).items)
 
-pub released : (c n : Connection) → n.bounds ≡ c.bounds → n.reads ≡ c.reads → n.writes ≡ c.writes → n.calls ≡ c.calls → n.has_ended ≡ c.has_ended → n.end ≡ c.end → n.begun ≡ c.begun → n.input.items ≡ c.input.items → n.output.items ≡ c.output.items → n.tail.items ≡ c.tail.items → Holds c → Holds n
-released c n bounds reads writes calls ended state begun input out tail =
+pub released : (c n : Connection) → n.bounds ≡ c.bounds → n.reads ≡ c.reads → n.writes ≡ c.writes → n.calls ≡ c.calls → n.has_ended ≡ c.has_ended → n.end ≡ c.end → n.begun ≡ c.begun → n.input.items ≡ c.input.items → n.output.items ≡ c.output.items → n.tail.items ≡ c.tail.items → (c.end ≡ None) ⊎ (n.is_starved ≡ c.is_starved) → Holds c → Holds n
+released c n bounds reads writes calls ended state begun input out tail starved =
     same c n bounds (λ i. flat_map (λ (r : Filled × ℕ). drop r.1 r.0.items) (reads i).items) (λ i. (calls i).items)
-    (λ i. flat_map (λ (k : Filled × ℕ). take k.1 k.0.items) (writes i).items ++ (out i ++ tail i)) begun ended input state
+    (λ i. flat_map (λ (k : Filled × ℕ). take k.1 k.0.items) (writes i).items ++ (out i ++ tail i)) begun ended input state starved
 
 -- one more read, and one more write
 pub received_more : (c n : Connection) (after : Filled) (len : ℕ) (before more : List ℕ) → n.reads.items ≡ c.reads.items ++ (after, len) ∷ [] → len ≡ length before → after.items ≡ before ++ more → received n ≡ received c ++ more

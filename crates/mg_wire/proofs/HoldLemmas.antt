@@ -19,6 +19,7 @@ pub record Adds (old new : Connection) (more : List ℕ) : Type 0 where
   pub silent : IsSilent old new
   pub calls : new.calls ≡ old.calls
   pub ended : new.has_ended ≡ old.has_ended
+  pub starved : new.is_starved ≡ old.is_starved
   pub bare : old.tail.items ≡ []
   pub tail : new.tail.items ≡ []
   pub out : new.output.items ≡ old.output.items ++ more
@@ -94,17 +95,22 @@ module _ (old new : Connection) (more : List ℕ) (a : Adds old new more) where
     ends_for : (ending : Ending) → new.end ≡ Some ending → EndsFor ending new h.answered h.text h.rest → Holds new
     ends_for ending is s = moved h (subst (λ (t : Option Ending). Stands t new h.answered h.text h.rest) (sym is) s)
 
+    why_now : (r : Refusal) → Refuses old.bounds old.has_ended old.is_starved old.input.items r → Refuses new.bounds new.has_ended new.is_starved h.rest r
+    why_now r why =
+        subst (λ (u : List ℕ). Refuses new.bounds new.has_ended new.is_starved u r) (sym rest_is)
+        (subst (λ (e : Bool). Refuses new.bounds new.has_ended e old.input.items r) (sym a.starved)
+        (subst₂ (λ (k : Bounds) (e : Bool). Refuses k e old.is_starved old.input.items r) (sym a.silent.bounds) (sym a.ended) why))
+
     pub refuses : (r : Refusal) → more ≡ refusal_text r → new.end ≡ Some (Refused r)
-        → Refuses old.bounds old.has_ended old.input.items r → Holds new
+        → Refuses old.bounds old.has_ended old.is_starved old.input.items r → Holds new
     refuses r same is why = ends_for (Refused r) is (
       calls_same (opened h goes_on).0,
       subst (Follows new h.rest h.text) same after,
-      subst (λ (u : List ℕ). Refuses new.bounds new.has_ended u r) (sym rest_is)
-          (subst₂ (λ (k : Bounds) (e : Bool). Refuses k e old.input.items r) (sym a.silent.bounds) (sym a.ended) why),
+      why_now r why,
     )
 
-    pub starves : more ≡ [] → new.end ≡ Some NoMemory → Holds new
-    starves same is = ends_for NoMemory is (calls_same (opened h goes_on).0, subst (Follows new h.rest h.text) same after)
+    pub starves : more ≡ [] → new.end ≡ Some NoMemory → (r : Refusal) → Refuses old.bounds old.has_ended old.is_starved old.input.items r → Holds new
+    starves same is r why = ends_for NoMemory is (calls_same (opened h goes_on).0, subst (Follows new h.rest h.text) same after, (r, why_now r why))
 
     text_at : (b : Option Begun) → old.input.items ≡ [] → StandsAt b old h.text → said old ≡ h.text
     text_at None none s = s

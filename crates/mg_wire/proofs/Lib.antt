@@ -1,3 +1,4 @@
+pub mod StartLemmas
 pub mod BodyLemmas
 pub mod ReplyLemmas
 pub mod HoldLemmas

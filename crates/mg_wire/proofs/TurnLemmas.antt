@@ -49,6 +49,7 @@ turn_grows : (limits : Limits) (stream : List ℕ) (c : Call) (text rest more : 
 turn_grows limits stream c text rest more t = record {
   message = t.message;
   reads = λ later. subst₂ (λ (s r : List ℕ). ReadsRequestMessage limits s t.message r) (sym (append_assoc stream more later)) (sym (append_assoc rest more later)) (t.reads (more ++ later));
+  proper = t.proper;
   asked = t.asked;
   response = t.response;
   spells = t.spells;
@@ -119,6 +120,7 @@ module _ (c n : Connection) (b : Begun) (a : Response) (due : IsDue c b a) (quie
       let turn : Turn c.bounds.limits due.rest (b.request, a) all c.input.items = record {
         message = due.message;
         reads = due.reads;
+        proper = due.serves.proper;
         asked = due.asked;
         response = answer;
         spells = spells b a sent_bytes c.output.items out next heads piece len due.message due.serves is;

@@ -18,6 +18,7 @@ use Rattle.mg_wire.specs.declared.body.Begun.{Begun}
 use Rattle.mg_wire.specs.declared.body.Step.{Step}
 use Rattle.mg_wire.specs.declared.body.Step.TheVariants.{Waits, Goes, Whole}
 use Rattle.mg_wire.specs.Request.{HasHead, IsAsked, asks_to_continue}
+use Rattle.mg_wire.specs.Target.{IsProper}
 
 -- what was kept of the head
 pub record KeepsHead (h : RequestHead) (b : Begun) : Type 0 where
@@ -30,6 +31,7 @@ pub record Serves (h : RequestHead) (b : Begun) : Type 0 where
   pub minor : peer_minor b.server ≡ h.minor
   pub writing_is : writing b.server ≡ Writes.Head
   pub stays : b.server.request.keep_alive ≡ keeps_alive h.minor (known_of h.fields)
+  pub proper : IsProper h
   pub keeps : KeepsHead h b
 
 -- The input begins with a head that was read, and with so much of its body: whatever completes what is left of it, completes it.

@@ -13,6 +13,7 @@ use Rattle.mg_wire.specs.declared.connection.Connection.{Connection}
 use Rattle.mg_wire.specs.declared.connection.Ending.{Ending}
 use Rattle.mg_wire.specs.declared.connection.Ending.TheVariants.{Closed, InputEnded, Refused, NoMemory, Faulty}
 use Rattle.mg_wire.specs.declared.refusal.TheConstants.{FAULT}
+use Rattle.mg_wire.specs.declared.refusal.Refusal.{Refusal}
 use Rattle.mg_wire.specs.declared.reply.TheConstants.{MAX_RESPONSE_FIELDS}
 use Rattle.mg_wire.specs.declared.request.Request.{Request}
 use Rattle.mg_wire.specs.declared.response.Response.{Response}
@@ -69,13 +70,15 @@ pub record IsLost (e : WriteError) (c : Connection) (answered : List Call) (rest
   pub why : (MAX_RESPONSE_FIELDS < length last.1.fields.items)
       ⊎ ((s : Server) × FailsToHead s last.1.status (fields_of last.1) (length last.1.body.items) 0 ROOM e)
 
--- the connection said the responses of the calls that were answered, and why it ends
+-- The connection said the responses of the calls that were answered, and why it ends. `NoMemory`: the next request is refused, for want of
+-- memory or for another reason, and there was no memory to say so.
 abbrev pub EndsFor : Ending → Connection → List Call → List ℕ → List ℕ → Type 0
 EndsFor Closed c answered text rest = (c.calls.items ≡ answered) × (said c ≡ text) × IsClosedBy answered
 EndsFor InputEnded c answered text rest = (c.calls.items ≡ answered) × (said c ≡ text) × (rest ≡ []) × IsTrue c.has_ended
 EndsFor (Refused r) c answered text rest =
-    (c.calls.items ≡ answered) × Follows c rest text (refusal_text r) × Refuses c.bounds c.has_ended rest r
-EndsFor NoMemory c answered text rest = (c.calls.items ≡ answered) × Follows c rest text []
+    (c.calls.items ≡ answered) × Follows c rest text (refusal_text r) × Refuses c.bounds c.has_ended c.is_starved rest r
+EndsFor NoMemory c answered text rest =
+    (c.calls.items ≡ answered) × Follows c rest text [] × ((r : Refusal) × Refuses c.bounds c.has_ended c.is_starved rest r)
 EndsFor (Faulty e) c answered text rest = IsLost e c answered rest × (Follows c rest text [] ⊎ Follows c rest text FAULT.now)
 
 -- the connection goes on after calls that keep it open, and the input is what is not answered; or it ends

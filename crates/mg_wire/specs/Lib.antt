@@ -1,3 +1,4 @@
+pub mod Target
 pub mod Request
 pub mod Response
 pub mod Body

@@ -14,6 +14,7 @@ use Rattle.mg_wire.specs.declared.response.Response.{Response}
 use Rattle.mg_wire.specs.declared.refusal.TheConstants.{CONTINUE}
 use Rattle.mg_wire.specs.Request.{IsAsked, fields_in, asks_to_continue}
 use Rattle.mg_wire.specs.Response.{fields_of}
+use Rattle.mg_wire.specs.Target.{IsProper}
 
 -- a call of the service: what it was asked, and what it responded
 abbrev pub Call : Type 0
@@ -38,6 +39,7 @@ interim_for asks = if asks then CONTINUE.now else []
 pub record Turn (limits : Limits) (stream : List ℕ) (c : Call) (text rest : List ℕ) : Type 0 where
   pub message : Wire.Request
   pub reads : (more : List ℕ) → ReadsRequestMessage limits (stream ++ more) message (rest ++ more)
+  pub proper : IsProper message.head
   pub asked : IsAsked message c.0
   pub response : List ℕ
   pub spells : Spells message.head c.1 response

@@ -50,7 +50,7 @@ impl Connection {
         ensures calls { self.new.calls ≡ self.old.calls }
         ensures ends { self.new.end ≢ None }
         ensures holds { (b : Option Begun) → self.old.tail.items ≡ [] → self.old.end ≡ None
-            → Refuses self.old.bounds self.old.has_ended self.old.input.items refusal
+            → Refuses self.old.bounds self.old.has_ended self.old.is_starved self.old.input.items refusal
             → Holds (record self.old { begun = b }) → Holds self.new }
     {
         match self.output.extend_from_slice(refusal_text(refusal)) {
@@ -114,7 +114,7 @@ impl Connection {
     /// Why the request with this head is refused.
     fn objection(&self, begun: &Begun) -> Option<Refusal>
         ensures { IsFresh self.now.bounds.limits self.now.input.items begun.now
-            → MatchOption result (Unit {0}) (Refuses self.now.bounds self.now.has_ended self.now.input.items) }
+            → MatchOption result (Unit {0}) (Refuses self.now.bounds self.now.has_ended self.now.is_starved self.now.input.items) }
     {
         if begun.server.has_codings() {
             return Some(Refusal::UnknownCoding);
@@ -250,9 +250,12 @@ impl Connection {
         ensures works { self.old.begun ≡ None → IsTrue result → (self.new.begun ≡ None)
             × (self.new.input.items ≡ drop (min begun.at (length self.old.input.items)) self.old.input.items) }
     {
-        if self.output.reserve(ROOM).is_err() {
-            self.close(Ending::NoMemory);
-            return false;
+        match self.output.reserve(ROOM) {
+            Ok(()) => {}
+            Err(_) => {
+                self.close(Ending::NoMemory);
+                return false;
+            }
         }
         let mut response = Response::new(self.alloc);
         service.call(rt, &begun.request, &mut response);

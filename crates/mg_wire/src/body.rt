@@ -6,6 +6,7 @@ ghost use Rattle.mg_wire.specs.Refusal.{Refuses};
 use crate::bounds::Bounds;
 use crate::refusal::Refusal;
 use crate::request::{Request, request_at};
+use crate::target::line_refusal;
 use http1::{Event, Server};
 use httparse::spans::EMPTY_HEADER_SPAN;
 use std::alloc::Global;
@@ -33,27 +34,34 @@ pub(crate) enum Step {
     Whole,
 }
 
-/// Reads the head that the input begins with. `None`: it is not there yet.
+/// Reads the head that the input begins with, and checks its first line. `None`: it is not there yet.
 pub(crate) fn begin(alloc: Global, bounds: Bounds, input: &[u8]) -> Result<Option<Begun>, Refusal>
     ensures read { IfOk result (λ r. MatchOption r (HasNoMessage bounds.limits input.now) (IsFresh bounds.limits input.now)) }
-    ensures refused { (ended : Bool) → IfErr result (Refuses bounds ended input.now) }
+    ensures refused { (ended starved : Bool) → IfErr result (Refuses bounds ended starved input.now) }
 {
     let mut server = Server::new(bounds.limits);
     let mut spans = [EMPTY_HEADER_SPAN; MAX_FIELDS];
     match server.read(input, &mut spans) {
         Ok(read) => match read.event {
-            Event::Head(head) => match request_at(alloc, input, &head, &spans) {
-                Ok(request) => {
-                    let waits = server.expects_continue();
-                    Ok(Some(Begun {
-                        server,
-                        request,
-                        at: read.consumed,
-                        expects_continue: waits,
-                    }))
+            Event::Head(head) => {
+                let method = head.method.of(input);
+                let target = head.path.of(input);
+                match line_refusal(method, target) {
+                    Some(refusal) => Err(refusal),
+                    None => match request_at(alloc, input, &head, &spans) {
+                        Ok(request) => {
+                            let waits = server.expects_continue();
+                            Ok(Some(Begun {
+                                server,
+                                request,
+                                at: read.consumed,
+                                expects_continue: waits,
+                            }))
+                        }
+                        Err(_) => Err(Refusal::NoMemory),
+                    },
                 }
-                Err(_) => Err(Refusal::NoMemory),
-            },
+            }
             _ => Ok(None),
         },
         Err(error) => Err(Refusal::Unreadable(error)),
@@ -65,8 +73,8 @@ impl Begun {
     pub(crate) fn step(&mut self, bounds: Bounds, input: &[u8]) -> Result<Step, Refusal>
         ensures read { IsBegun bounds.limits input.now self.old
             → IfOk result (StepsTo bounds.limits input.now self.old.at self.new) }
-        ensures refused { (ended : Bool) → IsBegun bounds.limits input.now self.old
-            → IfErr result (Refuses bounds ended input.now) }
+        ensures refused { (ended starved : Bool) → IsBegun bounds.limits input.now self.old
+            → IfErr result (Refuses bounds ended starved input.now) }
         ensures kept { self.new.expects_continue ≡ self.old.expects_continue }
         ensures moves { IfOk result (Moves input.now self.old.at self.new.at) }
     {

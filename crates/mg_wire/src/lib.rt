@@ -3,9 +3,11 @@
 //! Promises. A `Connection` reads and writes nothing: it is what an edge drives (`mg_server::Conversation`). What
 //! was received begins with the requests that its service was asked, and what was sent and waits to be sent is
 //! their responses, in order, each to its own request, with a `100 Continue` exactly before those that ask for one
-//! (`told`). It has answered each whole request before it reads on (`rests`). A refusal has a reason that holds
-//! whatever bytes follow (`Refuses`). The connection closes after a response only if the request or the response asks
-//! for it, and goes on only if neither does (`keeps_open`). A connection that is idle gives its buffers back.
+//! (`told`). It has answered each whole request before it reads on (`rests`). A service is asked only requests with
+//! one `Host`, a target of a form that the method may have, and no `CONNECT` (`IsProper`). A refusal has a reason
+//! that holds whatever bytes follow (`Refuses`); want of memory is one only for a read, and for a request whose head
+//! has come. The connection closes after a response only if the request or the response asks for it, and goes on
+//! only if neither does (`keeps_open`). A connection that is idle gives its buffers back.
 #![tactic(auto)]
 
 mod advance;
@@ -18,6 +20,7 @@ mod reply;
 mod request;
 mod response;
 mod service;
+mod target;
 
 pub use crate::bounds::Bounds;
 pub use crate::connection::{Connection, Ending};

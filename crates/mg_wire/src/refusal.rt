@@ -15,6 +15,10 @@ pub enum Refusal {
     BodyTooLarge,
     /// `Transfer-Encoding` lists a coding other than `chunked`: 501.
     UnknownCoding,
+    /// Its target has no form that its method may have: 400.
+    InvalidTarget,
+    /// It is a `CONNECT`: 501.
+    Tunnel,
     /// There was no memory for it: 503.
     NoMemory,
 }
@@ -39,6 +43,12 @@ pub(crate) const FIELDS_TOO_LARGE: &[u8] =
 pub(crate) const UNKNOWN_CODING: &[u8] =
     b"HTTP/1.1 501 Not Implemented\r\ncontent-type: application/json\r\ncontent-length: 63\r\nconnection: close\r\n\r\n{\"error\":\"not_implemented\",\"reason\":\"unknown transfer coding\"}\n";
 
+pub(crate) const INVALID_TARGET: &[u8] =
+    b"HTTP/1.1 400 Bad Request\r\ncontent-type: application/json\r\ncontent-length: 57\r\nconnection: close\r\n\r\n{\"error\":\"bad_request\",\"reason\":\"the target is invalid\"}\n";
+
+pub(crate) const NO_TUNNELS: &[u8] =
+    b"HTTP/1.1 501 Not Implemented\r\ncontent-type: application/json\r\ncontent-length: 63\r\nconnection: close\r\n\r\n{\"error\":\"not_implemented\",\"reason\":\"CONNECT is not answered\"}\n";
+
 pub(crate) const NO_MEMORY: &[u8] =
     b"HTTP/1.1 503 Service Unavailable\r\ncontent-type: application/json\r\ncontent-length: 68\r\nconnection: close\r\n\r\n{\"error\":\"out_of_memory\",\"reason\":\"the server lacks memory for it\"}\n";
 
@@ -54,6 +64,8 @@ pub(crate) fn refusal_text(refusal: Refusal) -> &'static [u8]
         Refusal::Cut => CUT,
         Refusal::BodyTooLarge => TOO_LARGE,
         Refusal::UnknownCoding => UNKNOWN_CODING,
+        Refusal::InvalidTarget => INVALID_TARGET,
+        Refusal::Tunnel => NO_TUNNELS,
         Refusal::NoMemory => NO_MEMORY,
     }
 }

@@ -1,6 +1,8 @@
-use Rattle.std.proofs.Common.{◌≡◌, [], true, false, refl, sym, ap, append-nil, ◌∙◌, arith}
+use Rattle.std.proofs.Common.{◌≡◌, [], true, false, refl, sym, ap, inr, append-nil, ◌∙◌, arith}
 use Rattle.std.proofs.lemmas.Grind.{common_steps}
 use Rattle.mg_wire.specs.Transcript.{interim_for}
+use Rattle.mg_wire.specs.declared.refusal.Refusal.TheVariants.{NoMemory}
+use Rattle.mg_wire.proofs.StartLemmas.{begins_begun}
 use Rattle.mg_wire.proofs.HoldLemmas.{admits, starves}
 use Rattle.mg_wire.proofs.connection.Connection.admit.Goals as goal
 
@@ -11,6 +13,7 @@ returns-then-not-begun-clause-holds c = λ bare first goes_on begun h.
       silent = record { bounds = refl; reads = refl; writes = refl };
       calls = refl;
       ended = refl;
+      starved = refl;
       bare = bare;
       tail = bare;
       out = sym (append-nil _);
@@ -23,6 +26,7 @@ returns-in-Ok-clause-holds c = λ bare first goes_on begun h.
       silent = record { bounds = refl; reads = refl; writes = refl };
       calls = refl;
       ended = refl;
+      starved = refl;
       bare = bare;
       tail = bare;
       out = c.in-Ok.ensures.ok;
@@ -34,7 +38,8 @@ returns-in-Err-clause-holds c = λ bare first goes_on begun h.
       silent = record { bounds = ap (λ k. k.bounds) c.close.ensures; reads = ap (λ k. k.reads) c.close.ensures; writes = ap (λ k. k.writes) c.close.ensures };
       calls = ap (λ k. k.calls) c.close.ensures;
       ended = ap (λ k. k.has_ended) c.close.ensures;
+      starved = ap (λ k. k.is_starved) c.close.ensures;
       bare = bare;
       tail = ap (λ k. k.tail.items) c.close.ensures ∙ bare;
       out = ap (λ k. k.output.items) c.close.ensures ∙ c.in-Err.ensures.err ∙ sym (append-nil _);
-    }) h goes_on refl (ap (λ k. k.end) c.close.ensures)
+    }) h goes_on refl (ap (λ k. k.end) c.close.ensures) NoMemory (inr (begins_begun _ _ c.args.begun begun))

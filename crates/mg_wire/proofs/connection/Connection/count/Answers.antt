@@ -1,4 +1,4 @@
-use Rattle.std.proofs.Common.{◌≡◌, ◌-◌, ℕ, List, [], ◌∷◌, ◌++◌, length, min, refl, ap, ◌∙◌}
+use Rattle.std.proofs.Common.{◌≡◌, ◌-◌, ℕ, List, [], ◌∷◌, ◌++◌, length, min, refl, ap, inr, ◌∙◌}
 use Rattle.bytes.specs.Filled.{Filled}
 use Rattle.mg_wire.proofs.CarryLemmas.{same, sent_more, pending_less, said_kept}
 use Rattle.mg_wire.proofs.connection.Connection.count.Goals as goal
@@ -15,4 +15,4 @@ returns-clause-pending c =
 
 pub returns-clause-holds : goal.returns-clause-holds
 returns-clause-holds c =
-    same c.args.self.now _ refl refl refl (said_kept c.args.self.now (record c.args.self.now { output = c.advance.new.self; tail = c.advance-2.new.self; writes = c.and-self-2.result }) c.args.count (returns-clause-sent c) (returns-clause-pending c)) refl refl refl refl
+    same c.args.self.now _ refl refl refl (said_kept c.args.self.now (record c.args.self.now { output = c.advance.new.self; tail = c.advance-2.new.self; writes = c.and-self-2.result }) c.args.count (returns-clause-sent c) (returns-clause-pending c)) refl refl refl refl (inr refl)

@@ -10,6 +10,7 @@ returns-then-is_empty-clause-holds c = λ bare goes_on none h.
       silent = record { bounds = ap (λ k. k.bounds) c.close.ensures; reads = ap (λ k. k.reads) c.close.ensures; writes = ap (λ k. k.writes) c.close.ensures };
       calls = ap (λ k. k.calls) c.close.ensures;
       ended = ap (λ k. k.has_ended) c.close.ensures;
+      starved = ap (λ k. k.is_starved) c.close.ensures;
       bare = bare;
       tail = ap (λ k. k.tail.items) c.close.ensures ∙ bare;
       out = ap (λ k. k.output.items) c.close.ensures ∙ sym (append-nil _);

@@ -22,6 +22,7 @@ returns-in-Ok-Waits-clause-holds g c = λ bare goes_on none h.
       silent = record { bounds = refl; reads = refl; writes = refl };
       calls = refl;
       ended = refl;
+      starved = refl;
       bare = bare;
       tail = bare;
       out = sym (append-nil _);
@@ -36,6 +37,7 @@ returns-in-Ok-Goes-clause-holds g c = λ bare goes_on none h.
       silent = record { bounds = refl; reads = refl; writes = refl };
       calls = refl;
       ended = refl;
+      starved = refl;
       bare = bare;
       tail = bare;
       out = sym (append-nil _);
@@ -53,7 +55,8 @@ returns-in-Err-clause-holds g c = λ bare goes_on none h.
     let before : Connection = record c.args.self.now { begun = Some c.args.begun } in
     let begun = subst (λ (u : List ℕ). IsBegun before.bounds.limits u c.args.begun) (sym c.as_slice.ensures) (begun_at c.args.self.now c.args.begun goes_on h) in
     c.refuse.ensures.holds (Some c.args.begun) bare goes_on
-    (subst (λ (u : List ℕ). Refuses before.bounds before.has_ended u c.in-Err.refusal) c.as_slice.ensures (c.in-Err.ensures.refused before.has_ended begun)) h
+    (subst (λ (u : List ℕ). Refuses before.bounds before.has_ended before.is_starved u c.in-Err.refusal) c.as_slice.ensures
+    (c.in-Err.ensures.refused before.has_ended before.is_starved begun)) h
 
 pub returns-in-Ok-Waits-clause-rests : goal.returns-in-Ok-Waits-clause-rests
 returns-in-Ok-Waits-clause-rests g c = λ goes_on h no later bare room.

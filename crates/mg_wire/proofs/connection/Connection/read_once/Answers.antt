@@ -1,15 +1,15 @@
-use Rattle.std.proofs.Common.{ℕ, List, ◌++◌, length, refl, ap, ◌∙◌}
+use Rattle.std.proofs.Common.{ℕ, List, ◌++◌, length, refl, ap, inl, ◌∙◌}
 use Rattle.mg_wire.proofs.CarryLemmas.{carry, released, received_more}
 use Rattle.mg_wire.proofs.connection.Connection.read_once.Goals as goal
 
 pub returns-then-is_err-clause-holds : goal.returns-then-is_err-clause-holds
-returns-then-is_err-clause-holds g c = released c.args.self.now _ refl refl refl refl refl refl refl c.reserve.ensures.items refl refl
+returns-then-is_err-clause-holds g c = released c.args.self.now _ refl refl refl refl refl refl refl c.reserve.ensures.items refl refl (inl c.requires)
 
 pub returns-in-Err-clause-holds : goal.returns-in-Err-clause-holds
 returns-in-Err-clause-holds g c =
     let only = c.give_back.ensures.only in
     released c.args.self.now c.give_back.new.self (ap (λ k. k.bounds) only) (ap (λ k. k.reads) only) (ap (λ k. k.writes) only) (ap (λ k. k.calls) only) (ap (λ k. k.has_ended) only) (ap (λ k. k.end) only) (ap (λ k. k.begun) only)
-    (c.give_back.ensures.input ∙ ap (λ b. b.items) c.in-Err.ensures.err.0 ∙ c.reserve.ensures.items) c.give_back.ensures.output c.give_back.ensures.tail
+    (c.give_back.ensures.input ∙ ap (λ b. b.items) c.in-Err.ensures.err.0 ∙ c.reserve.ensures.items) c.give_back.ensures.output c.give_back.ensures.tail (inl c.requires)
 
 pub returns-clause-holds : goal.returns-clause-holds
 returns-clause-holds g c =

@@ -8,6 +8,7 @@ returns-in-Ok-clause-holds c = λ b bare goes_on why h.
       silent = record { bounds = ap (λ k. k.bounds) c.close.ensures; reads = ap (λ k. k.reads) c.close.ensures; writes = ap (λ k. k.writes) c.close.ensures };
       calls = ap (λ k. k.calls) c.close.ensures;
       ended = ap (λ k. k.has_ended) c.close.ensures;
+      starved = ap (λ k. k.is_starved) c.close.ensures;
       bare = bare;
       tail = ap (λ k. k.tail.items) c.close.ensures ∙ bare;
       out = ap (λ k. k.output.items) c.close.ensures ∙ c.in-Ok.ensures.ok;
@@ -19,7 +20,8 @@ returns-in-Err-clause-holds c = λ b bare goes_on why h.
       silent = record { bounds = ap (λ k. k.bounds) c.close-in-Err.ensures; reads = ap (λ k. k.reads) c.close-in-Err.ensures; writes = ap (λ k. k.writes) c.close-in-Err.ensures };
       calls = ap (λ k. k.calls) c.close-in-Err.ensures;
       ended = ap (λ k. k.has_ended) c.close-in-Err.ensures;
+      starved = ap (λ k. k.is_starved) c.close-in-Err.ensures;
       bare = bare;
       tail = ap (λ k. k.tail.items) c.close-in-Err.ensures ∙ bare;
       out = ap (λ k. k.output.items) c.close-in-Err.ensures ∙ c.in-Err.ensures.err ∙ sym (append-nil _);
-    }) h goes_on refl (ap (λ k. k.end) c.close-in-Err.ensures)
+    }) h goes_on refl (ap (λ k. k.end) c.close-in-Err.ensures) c.args.refusal why

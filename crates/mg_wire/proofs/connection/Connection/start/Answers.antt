@@ -25,7 +25,8 @@ returns-in-Ok-None-clause-rests c = λ first no later bare room.
 pub returns-in-Err-clause-holds : goal.returns-in-Err-clause-holds
 returns-in-Err-clause-holds c = λ bare first goes_on h.
     c.refuse.ensures.holds c.args.self.now.begun bare goes_on
-    (subst (λ (u : List ℕ). Refuses c.args.self.now.bounds c.args.self.now.has_ended u c.in-Err.refusal) c.as_slice.ensures (c.in-Err.ensures.refused c.args.self.now.has_ended)) h
+    (subst (λ (u : List ℕ). Refuses c.args.self.now.bounds c.args.self.now.has_ended c.args.self.now.is_starved u c.in-Err.refusal) c.as_slice.ensures
+    (c.in-Err.ensures.refused c.args.self.now.has_ended c.args.self.now.is_starved)) h
 
 pub returns-in-Ok-Some-clause-holds : goal.returns-in-Ok-Some-clause-holds
 returns-in-Ok-Some-clause-holds c = λ bare first goes_on h.
