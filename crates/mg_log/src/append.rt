@@ -71,6 +71,10 @@ impl<S: Alter> Log<S> {
         // `Ok` says that the file was open before the call: then it held what `refused` says of an earlier error.
         ensures was_open { IsHonest S.Store self.new → OnOk result (IsTrue (connection_of S.Store self.old).is_open) }
 
+        // A file that was shut before is shut after `NoMemory` too.
+        ensures stays_shut { IsHonest S.Store self.new → result ≡ Err AppendError.NoMemory
+            → IsTrue (connection_of S.Store self.new).is_open → IsTrue (connection_of S.Store self.old).is_open }
+
         // Only a fault of the disk shuts the file, so after `NoMemory` without one the log is as it was.
         ensures closes { IsHonest S.Store self.new
             → ClosesIfFaulty (connection_of S.Store self.old) (connection_of S.Store self.new) }

@@ -7,7 +7,7 @@
 //! Promises, where the disk has returned what was written (`IsHonest`). `Log::open` and `open_file` give `replay` exactly the commits
 //! of the rows, in their order (`opened`, `found`), of a log with the name that was asked for (`named`), or refuse the file with a
 //! reason. After `Ok` of `append` every outcome of a crash has the commits (`durable`), and a crash within it leaves the rows before
-//! it or those of the whole group (`crash`). After `NoMemory` and `Full` the log goes on as it was (`refused`, `closes`, `was_open`).
+//! it or those of the whole group (`crash`). After `NoMemory` and `Full` the log goes on as it was (`refused`, `closes`, `was_open`, `stays_shut`).
 //! After a fault nothing is asked of the file (`ends`, `lost`), and without one no log is lost (`stays`). `append_last` says the same
 //! of what a crash leaves of the two files.
 //!
@@ -40,6 +40,3 @@ pub use file::open_file;
 pub use header::Header;
 pub use log::Log;
 pub use replay::{Replay, Stopped};
-
-#[cfg(test)]
-mod tests;

@@ -101,6 +101,8 @@ pub(crate) fn write_group<S: Alter>(
     ensures named { IfErr result IsFailure }
     ensures closes { ClosesByFault S.Store conn.old conn.new }
     ensures was_open { HasCleanDisk (state S.Store conn.new) → OnOk result (IsTrue (state S.Store conn.old).is_open) }
+    ensures stays_shut { HasCleanDisk (state S.Store conn.new) → result ≡ Err AppendError.NoMemory
+        → IsTrue (state S.Store conn.new).is_open → IsTrue (state S.Store conn.old).is_open }
     ensures honest { WasClean S.Store conn.old conn.new }
     ensures idle { (state S.Store conn.new).in_transaction ≡ false }
 {

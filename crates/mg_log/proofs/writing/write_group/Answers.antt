@@ -132,3 +132,10 @@ returns-in-Ok-clause-was_open g c =
     let same : c.commit.new.self.0 ≡ c.conn-2-1.given.0 = search rules in
     subst (λ k. HasCleanDisk (state g.S.Store k) → IsTrue s.is_open) same
     (λ clean. (rw c.transaction-tx.ensures.begun at c.insert_all.ensures.was_open) (omega (arith, c.commit.ensures.survives.clean)) (c.in-Ok.ensures.ok clean).1.was_open)
+
+pub returns-in_err-insert_all-clause-stays_shut : goal.returns-in_err-insert_all-clause-stays_shut
+returns-in_err-insert_all-clause-stays_shut g c clean _ =
+    let s = state g.S.Store c.args.conn.now in
+    let same : c.drop-tx.new.self.0 ≡ c.conn-1.given.0 = search rules in
+    subst (λ k. HasCleanDisk (state g.S.Store k) → IsTrue (state g.S.Store k).is_open → IsTrue s.is_open) same
+    (λ clean is_open. (rw c.transaction-tx.ensures.begun at c.insert_all.ensures.was_open) (omega (arith, c.drop-tx.ensures.survives.clean)) ((c.drop-tx.ensures.undone clean).was_open is_open)) clean

@@ -43,6 +43,7 @@ returns-in-Err g c =
       stays = λ _. inr (search rules);
       full = λ _ _ is. absurd (rw is at c.write_group-done.ensures.named);
       closes = c.write_group-done.ensures.closes;
+      stays_shut = c.write_group-done.ensures.stays_shut;
       header = refl;
       honest = c.in-Err.ensures.honest;
     }

@@ -1,5 +1,5 @@
 //! What the tests share: commits, logs in memory, and a replay that keeps what it takes.
-use crate::{Commit, Kind, Log, OpenError, Replay, Stopped};
+use mg_log::{Commit, Kind, Log, OpenError, Replay, Stopped};
 use sqlite::{Alter, Connection, MemStore};
 use std::alloc::Global;
 use std::process::Abort;

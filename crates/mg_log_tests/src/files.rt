@@ -1,6 +1,6 @@
 //! Logs in real files.
-use super::given::{at_most, check, group};
-use crate::{OpenError, open_file};
+use crate::given::{at_most, check, group};
+use mg_log::{OpenError, open_file};
 use sqlite::Unknown;
 use std::fs;
 

@@ -1,7 +1,7 @@
 //! Files in memory that fail: all of a group is left or none of it, and a log that has failed is not used again.
-use super::disks::Full;
-use super::given::{Taken, at_most, check, group, opened};
-use crate::{AppendError, Log, OpenError};
+use crate::disks::Full;
+use crate::given::{Taken, at_most, check, group, opened};
+use mg_log::{AppendError, Log, OpenError};
 use sqlite::{Connection, Error, ErrorCode, FileStore, Files, Options};
 use sqlite_disk::{Crash, Disk, Fuse, Memory};
 use std::alloc::Global;

@@ -1,6 +1,6 @@
 //! Databases that are no log of this name: each is refused by its reason, and the reason has its text.
-use super::given::{at_most, check, in_memory, opened};
-use crate::{AppendError, OpenError};
+use crate::given::{at_most, check, in_memory, opened};
+use mg_log::{AppendError, OpenError};
 use sqlite::{Error, ErrorCode};
 use std::process::Abort;
 

@@ -1,6 +1,6 @@
 //! Logs in memory: what is written is read again, in its order, and stands in the table as the documents show it.
-use super::given::{Taken, at_most, check, commit, group, in_memory, new_log, opened};
-use crate::{Commit, Kind, Log, OpenError};
+use crate::given::{Taken, at_most, check, commit, group, in_memory, new_log, opened};
+use mg_log::{Commit, Kind, Log, OpenError};
 use sqlite::{Connection, MemStore};
 use std::process::Abort;
 
