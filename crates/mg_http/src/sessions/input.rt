@@ -12,6 +12,7 @@ use std::io::Read;
 /// The least room for a read: as much as was read of the message, within these bounds. The buffer doubles, so that bytes are copied a few
 /// times, however small the reads are.
 const FIRST_READ: usize = 1_024;
+
 const NEXT_READ: usize = 16_384;
 /// The memory for one span of a head's fields.
 const SPAN: usize = 32;
