@@ -57,7 +57,7 @@ class Server:
         for kind in set(kinds) & {"get", "equality", "falling", "scan"}:
             for request in self.corpus.requests(kind, 3, "check"):
                 reply = client.reply(client.prepare(request))
-                if not request.answer.fits([one.decode() for one in re.findall(rb"\bd\d{7}|\bcustomer:\d{7}", reply)]):
+                if not request.answer.fits([one.decode() for one in re.findall(rb"\bd\d{7}\b|\bcustomer:\d{7}\b", reply)]):
                     raise SystemExit(f"{self.name}: {request} was answered by {reply[:500]}")
         client.socket.close()
 
