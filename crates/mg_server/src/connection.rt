@@ -135,11 +135,13 @@ impl<C: Drop, K: Drop> Connection<C, K> {
         poll(&mut asked, most) == 0
     }
 
-    /// Waits for the client, for a millisecond at most.
-    pub(crate) fn wait(&mut self) {
-        if self.stays_silent(WAIT_MILLIS) {
+    /// Waits for the client, for a millisecond at most. Whether something has come.
+    pub(crate) fn wait(&mut self) -> bool {
+        let is_silent = self.stays_silent(WAIT_MILLIS);
+        if is_silent {
             self.tempo = Tempo::Slow;
         }
+        !is_silent
     }
 
     /// Whether nothing has begun and nothing has come, as if the event was of bytes that are answered. A visit would take memory to read.

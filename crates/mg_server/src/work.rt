@@ -154,7 +154,8 @@ fn waits_for<S: Learner, C: Conversation<S> + Drop>(
         && (connection.is_awaited || !is_steady || edge.wait_for(connection))
 }
 
-/// Whether this thread visits the connection once more: if more can be done, or after a moment in which the client may have sent more.
+/// Whether this thread visits the connection once more: if more can be done, or if the client sends more within a moment. Where nothing has come
+/// there is no visit, since that would take memory to read, and a refusal would end the connection of a client that asked nothing.
 fn goes_on<S: Learner, C: Conversation<S> + Drop>(
     edge: &Edge<C, S::Seen>,
     connection: &mut Connection<C, S::Seen>,
@@ -164,11 +165,7 @@ fn goes_on<S: Learner, C: Conversation<S> + Drop>(
     if end == End::GoesOn && !(connection.is_awaited && connection.is_silent()) {
         return true;
     }
-    let waits = waits_for::<S, C>(edge, connection, is_steady);
-    if waits {
-        connection.wait();
-    }
-    waits
+    waits_for::<S, C>(edge, connection, is_steady) && connection.wait()
 }
 
 /// Returns what is done after a visit. `is_steady`: the client was quick in some visits before. `last`: when others have their turn.
