@@ -13,7 +13,7 @@ It reads `_changes?style=all_docs` and `_bulk_get?revs=true` of the source, and 
 sides agree on winners and conflicts. Writing the same revisions again changes nothing, so an interrupted run can be repeated.
 
 The checkpoint says how far the source was read, and names a first and a last document that were written. If the target no longer
-has one of these (it was restarted without a journal), everything is copied again from the start. --follow waits for changes, and
+has one of these (a `mangod` was restarted), everything is copied again from the start. --follow waits for changes, and
 continues when a server comes back.
 
 Some documents cannot be copied. --dry-run reads everything, writes nothing, and lists each of them with its remedy. Otherwise the

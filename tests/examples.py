@@ -21,8 +21,8 @@ SECONDS = 60
 EXPECTED = Path(__file__).resolve().parent / "examples"
 # each example, and how many servers it needs
 SERVERS = {"client.py": 1, "replicas.py": 2, "report.sh": 1}
-# examples that other scripts test: compare.py, from_couchdb.py, journal.py, journal_disk.py, journal_messages.py
-ELSEWHERE = ["compare_couchdb.py", "from_couchdb.py", "journal.py", "journal_file.py"]
+# examples that other scripts test: compare.py, from_couchdb.py
+ELSEWHERE = ["compare_couchdb.py", "from_couchdb.py"]
 SHARDS = (1, 4, 64)
 
 

@@ -64,16 +64,17 @@ def per_request(report):
 
 
 def load(system, keeps_revisions=False):
-    """Loads the documents; returns the microseconds of processor time for each. Making the bulks is not counted."""
-    corpus, numbers, used = system.corpus, system.corpus.numbers(), 0
+    """Loads the documents; returns the microseconds of processor time for each, and how many a second. Making the bulks is not counted."""
+    corpus, numbers, used, clock = system.corpus, system.corpus.numbers(), 0, 0
     for at in range(0, corpus.count, BULK):
         part = numbers[at : at + BULK]
-        bulk, before = system.prepare_bulk(part), system.processor()
+        bulk, before, begun = system.prepare_bulk(part), system.processor(), time.monotonic()
         reply = system.send_bulk(bulk, len(part))
+        clock += time.monotonic() - begun
         used += system.processor() - before
         if keeps_revisions and at < EDITED_BULKS * BULK:
             system.keep_revisions(reply)
-    return used / corpus.count * 1e6
+    return {"processor": used / corpus.count * 1e6, "rate": corpus.count / clock}
 
 
 def build(system, which):
@@ -86,8 +87,8 @@ def build(system, which):
 def filled(system, wanted=()):
     """Loads the documents and builds the indexes; yields the rows of a database, each with its figures: processor time and memory."""
     count, empty = system.corpus.count, system.size()
-    used = load(system, any(one.kind == "update" for one in wanted))
-    yield "load", {"processor": used, "bytes": (system.size() - empty) / count}
+    loaded = load(system, any(one.kind == "update" for one in wanted))
+    yield "load", {**loaded, "bytes": (system.size() - empty) / count}
     if "equality" in system.kinds:
         for which in INDEXES:
             yield f"index {which}", build(system, which)

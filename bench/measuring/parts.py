@@ -5,6 +5,7 @@ from . import mariadb, postgres, redis, rust, tarantool
 from .cells import Cell, cells, measure
 from .counted import instructions
 from .documents import Corpus
+from .kept import kept
 from .people import people
 from .program import TUNABLES, Program
 from .room import room
@@ -73,5 +74,5 @@ def other(name):
     return part
 
 
-OURS = {"requests": requests, "people": people, "room": room, "sizes": sizes, "settings": settings, "instructions": instructions}
+OURS = {"requests": requests, "people": people, "room": room, "sizes": sizes, "kept": kept, "settings": settings, "instructions": instructions}
 PARTS = {**OURS, **{name: other(name) for name in OTHERS}}

@@ -108,18 +108,19 @@ class Connection:
 
 class PostgreSQL(Server):
     name, framing = "PostgreSQL", "postgres"
+    table, settings = "UNLOGGED TABLE", SETTINGS
 
-    def __init__(self, corpus):
+    def __init__(self, corpus, room=None):
         self.corpus = corpus
-        self.folder = tempfile.mkdtemp(prefix="bench-postgres-")
+        self.folder = tempfile.mkdtemp(prefix="bench-postgres-", dir=room)
         if os.getuid() == 0:
             shutil.chown(self.folder, "postgres")
         self.data = os.path.join(self.folder, "data")
         self.start("initdb", "-A", "trust", "-U", "postgres", "--no-sync", "--locale=C", "-E", "UTF8").wait()
-        settings = [word for setting, value in SETTINGS.items() for word in ("-c", f"{setting}={value}")]
+        settings = [word for setting, value in self.settings.items() for word in ("-c", f"{setting}={value}")]
         self.process = self.start("postgres", *settings, "-c", f"unix_socket_directories={self.folder}")
         self.connection = self.connected()
-        self.connection.query("CREATE UNLOGGED TABLE docs (id text PRIMARY KEY, body jsonb)")
+        self.connection.query(f"CREATE {self.table} docs (id text PRIMARY KEY, body jsonb)")
         self.wait_until_still()
 
     def start(self, program, *args):

@@ -1,6 +1,7 @@
 """Measures the program, mangod, over TCP with connections that stay open."""
 import json
 import os
+import re
 import socket
 import subprocess
 
@@ -11,6 +12,8 @@ from .server import Server
 USUAL_SESSIONS = 16
 # the settings of the C library that suit large databases best: docs/PERFORMANCE.md says what each does
 TUNABLES = "glibc.malloc.hugetlb=1:glibc.malloc.arena_max=1"
+# the line of a program that listens
+LISTENS = re.compile(rb": listening( at .*)?\n$")
 
 
 def free_port():
@@ -90,12 +93,19 @@ class Program(Server):
     def __init__(self, path, corpus, pair=(1, 1), sessions=USUAL_SESSIONS, tunables=TUNABLES, tool=(), environment=None):
         self.name = "{} {}/{}".format(self.called, *pair) + f", {sessions} sessions" * (sessions != USUAL_SESSIONS)
         self.corpus, self.port = corpus, free_port()
-        args = [*tool, path, "db", *map(str, pair), str(sessions), f"127.0.0.1:{self.port}"]
-        environment = {**os.environ, **(environment or {}), "GLIBC_TUNABLES": tunables}
-        self.process = subprocess.Popen(args, stdin=subprocess.DEVNULL, stderr=subprocess.PIPE, env=environment)
-        if not self.process.stderr.readline().endswith(b": listening\n"):
-            raise SystemExit(f"{path} does not listen")
+        self.environment = {**os.environ, **(environment or {}), "GLIBC_TUNABLES": tunables}
+        self.start([*tool, path, *self.words(pair, sessions)])
         self.loaded, self.revisions, self.edited = self.client(), {}, 0
+
+    def words(self, pair, sessions):
+        """Returns the words of the command line."""
+        return ["db", *map(str, pair), str(sessions), f"127.0.0.1:{self.port}"]
+
+    def start(self, args):
+        """Starts the program, and waits until it listens."""
+        self.process = subprocess.Popen(args, stdin=subprocess.DEVNULL, stderr=subprocess.PIPE, env=self.environment)
+        if not any(LISTENS.search(line) for line in self.process.stderr):
+            raise SystemExit(f"{args} does not listen")
 
     def client(self):
         return Connection(self.port, self.corpus)

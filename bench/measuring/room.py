@@ -23,7 +23,7 @@ def kept(args, add):
                 empty = system.size()
                 if indexed:
                     system.index("price")
-                used = load(system)
+                used = load(system)["processor"]
                 row = f"{'ascending' if order else 'random'} keys{', with an index' * indexed}"
                 add(f"{system.name}, {corpus.title}", row, {"bytes": (system.size() - empty) / corpus.count, "processor": used})
 

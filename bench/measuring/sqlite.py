@@ -42,9 +42,9 @@ def valued(word):
 class SQLite(Server):
     name = "SQLite"
 
-    def __init__(self, corpus):
+    def __init__(self, corpus, room=None):
         self.corpus, self.processes = corpus, []
-        room = "/dev/shm" if os.path.isdir("/dev/shm") and shutil.disk_usage("/dev/shm").free > 4e9 else None
+        room = room or ("/dev/shm" if os.path.isdir("/dev/shm") and shutil.disk_usage("/dev/shm").free > 4e9 else None)
         self.folder = tempfile.TemporaryDirectory(prefix="bench-sqlite-", dir=room)
         self.start(1)
         self.command("sql CREATE TABLE docs (id TEXT PRIMARY KEY, body TEXT)")

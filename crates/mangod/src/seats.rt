@@ -2,12 +2,12 @@
 ghost use Rattle.std.specs.Prelude.{◌≡◌, ◌≤◌, IfOk, map, vec_len};
 
 use mg_http::SeatService;
-use mg_live::{Database, EndsWriter, Seat};
+use mg_live::{Database, Keeper, Seat};
 use mg_value::NoMemory;
 use std::alloc::Global;
 
 /// Makes a service for each seat, with this number of workers. Errors: `NoMemory` if an allocation fails; then all seats are dropped.
-pub(crate) fn services<D: Database, C: EndsWriter>(
+pub(crate) fn services<D: Database, C: Keeper>(
     alloc: Global,
     seats: Vec<Seat<D, C>>,
     workers: usize,
@@ -26,7 +26,7 @@ pub(crate) fn services<D: Database, C: EndsWriter>(
 }
 
 /// Returns the seats of the services. Errors: `NoMemory` if an allocation fails; then all seats are dropped.
-pub(crate) fn seats<D: Database, C: EndsWriter>(
+pub(crate) fn seats<D: Database, C: Keeper>(
     alloc: Global,
     services: Vec<SeatService<D, C>>,
 ) -> Result<Vec<Seat<D, C>>, NoMemory>

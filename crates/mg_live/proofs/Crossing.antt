@@ -37,6 +37,7 @@ use Rattle.mg_live.specs.contracts.seat.Seat as Seat
 use Rattle.mg_live.specs.contracts.snapshot.Snapshot as Snapshot
 use Rattle.mg_live.specs.contracts.tally.Tally as Tally
 use Rattle.mg_live.specs.declared.database.Database as database
+use Rattle.mg_live.specs.declared.database.Keeper as keeper
 use Rattle.mg_shard.proofs.Crossing.{shard_send, shard_sync}
 use Rattle.mg_machine.specs.contracts.point.Point as Point
 use Rattle.mg_shard.specs.contracts.placement.Md5Placement as Md5Placement
@@ -82,9 +83,9 @@ mutex_sync R s = search (sendable, crosses, s) depth 20
 unit_send : IsSend unit
 unit_send = search sendable depth 10
 
--- ---- a database, what ends it, and the placement of its documents
+-- ---- a database, what keeps its commits, and the placement of its documents
 
-module _ (D C P : RattleType) (d : database.Ghosts D.Denot) (l : ledger.Ghosts D.Denot) (p : placement.Ghosts P.Denot) (b : absorb.Ghosts (Snapshot.the_row P).Denot unit.Denot unit.Denot) (c : IsSend C) (s : IsSend P) (y : IsSync P) where
+module _ (D C P : RattleType) (d : database.Ghosts D.Denot) (l : ledger.Ghosts D.Denot) (k : keeper.Ghosts C.Denot) (p : placement.Ghosts P.Denot) (b : absorb.Ghosts (Snapshot.the_row P).Denot unit.Denot unit.Denot) (c : IsSend C) (s : IsSend P) (y : IsSync P) where
   abbrev rule : protocol.Ghosts (SnapshotRule.the_row D P).Denot (Snapshot.the_row P).Denot unit.Denot
   rule = protocol_of.ghosts D P d protocol_of.no_dict l protocol_of.no_dict p protocol_of.no_dict
 
@@ -101,18 +102,18 @@ module _ (D C P : RattleType) (d : database.Ghosts D.Denot) (l : ledger.Ghosts D
   writes_send =
       writer.the_send (Snapshot.the_row P) unit unit (SnapshotRule.the_row D P) Global.the_row unit b rule allocator.ghosts (snapshot_send P s y) unit_send send (snapshot_sync P s y) sync frees
 
-  desk_send : IsSend (Desk.the_row D C P b d l p)
-  desk_send = view_send _ _ _ _ _ (declared_send (desk.the_type D C P b d l p) (log_writer.the_send, (writes_send, (book.the_send D l, (as_row_send (row_field C) c, tt)))))
+  desk_send : IsSend (Desk.the_row D C P b d l k p)
+  desk_send = view_send _ _ _ _ _ (declared_send (desk.the_type D C P b d l k p) (log_writer.the_send, (writes_send, (book.the_send D l, (as_row_send (row_field C) c, tt)))))
 
-  lock_send : IsSend (Mutex.the_row (Desk.the_row D C P b d l p))
-  lock_send = mutex_send (Desk.the_row D C P b d l p) desk_send
+  lock_send : IsSend (Mutex.the_row (Desk.the_row D C P b d l k p))
+  lock_send = mutex_send (Desk.the_row D C P b d l k p) desk_send
 
-  lock_sync : IsSync (Mutex.the_row (Desk.the_row D C P b d l p))
-  lock_sync = mutex_sync (Desk.the_row D C P b d l p) desk_send
+  lock_sync : IsSync (Mutex.the_row (Desk.the_row D C P b d l k p))
+  lock_sync = mutex_sync (Desk.the_row D C P b d l k p) desk_send
 
-  -- a seat is `Send` if what ends its database is `Send`, and the placement of its documents is `Send` and `Sync`
-  pub seat_send_by : IsSend (Seat.the_row D C P d l p b)
-  seat_send_by = view_send _ _ _ _ _ (declared_send (seat.the_type D C P d l p b) (
+  -- a seat is `Send` if what keeps its commits is `Send`, and the placement of its documents is `Send` and `Sync`
+  pub seat_send_by : IsSend (Seat.the_row D C P d l k p b)
+  seat_send_by = view_send _ _ _ _ _ (declared_send (seat.the_type D C P d l k p b) (
     search sendable depth 10,
     (
       send,
@@ -122,7 +123,7 @@ module _ (D C P : RattleType) (d : database.Ghosts D.Denot) (l : ledger.Ghosts D
           tally_send D l,
           (
             option.the_send Reads reads_send,
-            (Arc-send (Mutex.the_row (Desk.the_row D C P b d l p)) lock_send lock_sync, tt),
+            (Arc-send (Mutex.the_row (Desk.the_row D C P b d l k p)) lock_send lock_sync, tt),
           ),
         ),
       ),
@@ -135,6 +136,6 @@ module _ (D C P : RattleType) (d : database.Ghosts D.Denot) (l : ledger.Ghosts D
 pub waiting_send : (R : RattleType) → IsSend R → IsSend (WaitForReaders.the_row R)
 waiting_send R s = declared_send (WaitForReaders.the_type R) (as_row_send (row_field R) s, tt)
 
--- a seat over the program's placement is `Send` if what ends its database is
-pub seat_send : (D C : RattleType) (d : database.Ghosts D.Denot) (l : ledger.Ghosts D.Denot) → IsSend C → IsSend (Seat.the_row D C Md5Placement.the_row d l md5.ghosts (absorb_of.ghosts Md5Placement.the_row))
-seat_send D C d l c = seat_send_by D C Md5Placement.the_row d l md5.ghosts (absorb_of.ghosts Md5Placement.the_row) c (search sendable depth 10) (search sendable depth 10)
+-- a seat over the program's placement is `Send` if what keeps its commits is
+pub seat_send : (D C : RattleType) (d : database.Ghosts D.Denot) (l : ledger.Ghosts D.Denot) (k : keeper.Ghosts C.Denot) → IsSend C → IsSend (Seat.the_row D C Md5Placement.the_row d l k md5.ghosts (absorb_of.ghosts Md5Placement.the_row))
+seat_send D C d l k c = seat_send_by D C Md5Placement.the_row d l k md5.ghosts (absorb_of.ghosts Md5Placement.the_row) c (search sendable depth 10) (search sendable depth 10)

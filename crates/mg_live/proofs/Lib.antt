@@ -1,4 +1,5 @@
 mod Prefixes
 mod Adding
 mod Publishing
+mod Keeping
 pub mod Crossing

@@ -55,7 +55,7 @@ has_room name log c r is taken =
     subst (λ (n : ℕ). n ≢ 18446744073709551615) (length-map log commit_view) (room_for name cs c (answered r (write_reply name cs c) true is taken))
 
 -- the commits after an accepted write
-more : (log after : List Entry) (seat : ℕ) (c : Command) (next : ℕ) → after ≡ log ++ log_entry seat c next ∷ [] → commits_view after ≡ commits_view log ++ (seat, command_view c) ∷ []
+pub more : (log after : List Entry) (seat : ℕ) (c : Command) (next : ℕ) → after ≡ log ++ log_entry seat c next ∷ [] → commits_view after ≡ commits_view log ++ (seat, command_view c) ∷ []
 more log after seat c next is = ap commits_view is ∙ map-append commit_view log (log_entry seat c next ∷ [])
 
 pub one_more : (name : List ℕ) (log after : List Entry) (seat : ℕ) (c : Command) (next : ℕ) (r : Reply) → reply_view r ≡ Some (write_reply name (commits_view log) (command_view c)) → accepts r ≡ true → after ≡ log ++ log_entry seat c next ∷ []

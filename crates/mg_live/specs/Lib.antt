@@ -5,3 +5,4 @@ pub mod SeatView
 pub mod Rules
 pub mod Adding
 pub mod Published
+pub mod Keeping

@@ -5,7 +5,7 @@ ghost use Rattle.mg_engine.specs.Commands.{bulk, create_index, drop_index, expla
 ghost use Rattle.mg_engine.specs.View.{reply_view};
 ghost use Rattle.mg_live.specs.SeatView.{Answered};
 
-use crate::database::{Database, EndsWriter};
+use crate::database::{Database, Keeper};
 use crate::seat::Seat;
 use crate::snapshot::Snapshot;
 use left_right::Absorb;
@@ -19,7 +19,7 @@ use std::thread::Threads;
 
 /// Each call makes a command from copies of its arguments, and returns the reply that `Seat::answer` gives to that command. The reply is
 /// also `NoMemory` if an allocation for a copy fails.
-impl<D: Database, C: EndsWriter, P: Placement + Drop> Seat<D, C, P>
+impl<D: Database, C: Keeper, P: Placement + Drop> Seat<D, C, P>
 where
     Snapshot<P>: Absorb<(), State = ()>,
 {

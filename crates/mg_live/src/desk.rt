@@ -1,19 +1,23 @@
 //! The desk, which the writer's lock guards: the right to add to the commit log; the writer, which publishes all commits; the book of the
-//! tallies, which count them; and what ends the writer.
-ghost use Rattle.std.specs.Prelude.{◌≡◌, ◌≤◌, true, [], length, MatchBool, MatchOption};
+//! tallies, which count them; and what keeps the commits.
+ghost use Rattle.std.specs.Prelude.{◌≡◌, ◌≤◌, true, [], length, IfErr, IfSome, MatchBool, MatchOption};
 ghost use Rattle.mg_engine.specs.Commands.{is_write};
 ghost use Rattle.mg_engine.specs.View.{command_view, reply_view};
 ghost use Rattle.mg_machine.specs.Laws.{IsPrefix};
+ghost use Rattle.mg_machine.specs.Machine.{commands_of};
+ghost use Rattle.mg_live.specs.Keeping.{IsRecordOf};
 ghost use Rattle.mg_live.specs.Published.{Publishes, standing};
 ghost use Rattle.mg_live.specs.Adding.{AddsAfter};
 ghost use Rattle.mg_live.specs.Snapshots.{HasSnapshot, IsSnapshotOf, commits_of};
 ghost use Rattle.mg_live.specs.View.{commits_view};
 
 use crate::commit_log::{LogWriter, Prefix, Write};
-use crate::database::{Database, EndsWriter};
+use crate::database::{Database, Keeper};
 use crate::publication::{SnapshotWriter, publish};
+use crate::record::Record;
 use crate::snapshot::Snapshot;
 use crate::tally::Tally;
+use core::mem::replace;
 use left_right::Absorb;
 use mg_engine::{Prepared, Reply};
 use mg_shard::Placement;
@@ -23,25 +27,25 @@ use std::sync::Wait;
 use std::sync::ledger::{Book, Share};
 use std::thread::Threads;
 
-/// What the writer's lock guards: the right to add to the commit log, the writer, the book of the tallies, and what ends the writer.
-/// Contracts see the published commits, which are all commits of the log.
-pub struct Desk<D: Database, C: EndsWriter, P: Placement + Drop>
+/// What the writer's lock guards: the right to add to the commit log, the writer, the book of the tallies, and what keeps the commits.
+/// Contracts see the published commits, which are all commits of the log, and those that are kept.
+pub struct Desk<D: Database, C: Keeper, P: Placement + Drop>
 where
     Snapshot<P>: Absorb<(), State = ()>,
 {
     log: LogWriter,
     writer: SnapshotWriter<D, P>,
     tally_book: Book<D>,
-    ends: C,
+    keeper: C,
 }
 
-impl<D: Database, C: EndsWriter, P: Placement + Drop> Model for Desk<D, C, P>
+impl<D: Database, C: Keeper, P: Placement + Drop> Model for Desk<D, C, P>
 where
     Snapshot<P>: Absorb<(), State = ()>,
 {
     ghost use Rattle.std.specs.Prelude.{◌≡◌, List, length};
     ghost use Rattle.mg_live.specs.Code.{commits_code};
-    ghost use Rattle.mg_machine.specs.Machine.{Commit};
+    ghost use Rattle.mg_machine.specs.Machine.{Commit, commands_of};
 
     ghost Value = { List Commit };
 
@@ -54,10 +58,11 @@ where
 
     ghost invariant = { λ d. (d.tally_book.total ≡ length (commits_of d.writer.desk.shown.value))
         × IsSnapshotOf P.place D.commit_log D.db D.shards d.writer.desk.shown.value
-        × AddsAfter d.log D.commit_log d.writer.desk.shown.value.prefix.seen.log };
+        × AddsAfter d.log D.commit_log d.writer.desk.shown.value.prefix.seen.log
+        × C.keeps d.keeper (commands_of (commits_of d.writer.desk.shown.value)) };
 }
 
-impl<D: Database, C: EndsWriter, P: Placement + Drop> Drop for Desk<D, C, P>
+impl<D: Database, C: Keeper, P: Placement + Drop> Drop for Desk<D, C, P>
 where
     Snapshot<P>: Absorb<(), State = ()>,
 {
@@ -66,25 +71,26 @@ where
             log: _,
             writer,
             tally_book: _,
-            ends,
+            keeper,
         } = self;
-        ends.end(writer);
+        keeper.end(writer);
     }
 }
 
-impl<D: Database, C: EndsWriter, P: Placement + Drop> Desk<D, C, P>
+impl<D: Database, C: Keeper, P: Placement + Drop> Desk<D, C, P>
 where
     Snapshot<P>: Absorb<(), State = ()>,
 {
     // Makes a desk with no commit.
     pub(crate) fn new(
-        ends: C,
+        keeper: C,
         log: LogWriter,
         writer: SnapshotWriter<D, P>,
         tally_book: Book<D>,
     ) -> Desk<D, C, P>
         requires empty { (writer.desk.shown.value.prefix.seen.log ≡ []) × (tally_book.total ≡ 0) }
         requires log { AddsAfter log D.commit_log [] }
+        requires keeps { C.keeps keeper [] }
         requires here { IsSnapshotOf P.place D.commit_log D.db D.shards writer.desk.shown.value }
         ensures { result ≡ [] }
     {
@@ -92,28 +98,30 @@ where
             log,
             writer,
             tally_book,
-            ends,
+            keeper,
         }
     }
 
-    // Executes a write of a seat, after all published commits, and returns its reply. If the write is accepted, it is published in one
-    // step, and the seat's tally counts it. Unless the reply is `NoMemory`, the seat has then seen what is published. All memory is taken
-    // before the commit is in the commit log, and nothing after that can fail. `publish` may wait for readers; the copy that it replaces
-    // comes back with the reply, so that the caller can drop it without the lock. If nothing was published, `None` comes back.
+    // Executes a write of a seat, after all published commits, and returns its reply. If the write is accepted, it is kept, then published
+    // in one step, and the seat's tally counts it. Unless the reply is `NoMemory`, the seat has then seen what is published. All memory is
+    // taken before the write is kept, and nothing after that can fail. `publish` may wait for readers; the copy that it replaces comes back
+    // with the reply, so that the caller can drop it without the lock. If nothing was published, `None` comes back.
     //
     // The reply is `NoMemory`, and nothing has changed, if an allocation fails, if there are too many references to the engine or to a part
-    // of it, or if the seat has seen more commits than are published.
+    // of it, if the write may not be kept, or if the seat has seen more commits than are published.
     pub(crate) fn write<R: Wait + Threads + Sync>(
         &mut self,
         rt: &R,
         alloc: Global,
         write: Write,
         prepared: Prepared,
+        text: Option<Record>,
         tally: &mut Tally<D>,
         prefix: &mut Prefix,
     ) -> (Reply, Option<Snapshot<P>>)
         requires write { is_write (command_view write.command.value) ≡ true }
         requires prepared { prepared ≡ command_view write.command.value }
+        requires text { IfSome text (λ r. IsRecordOf r (command_view write.command.value)) }
         requires here { prefix.old.seen.book ≡ D.commit_log }
         ensures here { prefix.new.seen.book ≡ D.commit_log }
         ensures publishes { Publishes D.db (write.seat, command_view write.command.value)
@@ -124,7 +132,15 @@ where
         if !prefix.begins(&now.prefix) {
             return (Reply::NoMemory, None);
         }
-        let (reply, next) = now.next::<D, R>(rt, alloc, &mut self.log, write, prepared);
+        let (reply, next) = now.next::<D, C, R>(
+            rt,
+            alloc,
+            &mut self.log,
+            &mut self.keeper,
+            write,
+            prepared,
+            text,
+        );
         match next {
             None => {
                 see_answered(&reply, prefix, &now.prefix);
@@ -137,6 +153,22 @@ where
                 (reply, Some(before))
             }
         }
+    }
+
+    // Has another keeper keep the commits after those of this prefix, which it keeps already. Returns the keeper before.
+    //
+    // Errors: the keeper comes back, and nothing has changed, if the prefix has not all published commits.
+    pub(crate) fn replace_keeper(&mut self, prefix: &Prefix, keeper: C) -> Result<C, C>
+        requires here { prefix.now.seen.book ≡ D.commit_log }
+        requires keeps { C.keeps keeper (commands_of (commits_view prefix.now.seen.log)) }
+        ensures same { self.new ≡ self.old }
+        ensures back { IfErr result (λ k. k ≡ keeper) }
+    {
+        let now = self.writer.published();
+        if prefix.len() != now.prefix.len() || !prefix.begins(&now.prefix) {
+            return Err(keeper);
+        }
+        Ok(replace(&mut self.keeper, keeper))
     }
 
     // Lets a seat catch up with all published commits, and returns true. If the seat has seen more commits than are published, returns

@@ -16,13 +16,16 @@ mod live;
 mod lock;
 mod markers;
 mod publication;
+mod record;
 mod seat;
 mod snapshot;
 mod tally;
 
 pub use commit_log::CommitLog;
-pub use database::{Database, EndsWriter, WaitForReaders};
+pub use database::{Database, Keeper, Lost, WaitForReaders};
 pub use live::{CloseError, Closed, Live};
 pub use mg_machine::{interleave, laws};
+pub use publication::SnapshotWriter;
+pub use record::{Record, RecordKind};
 pub use seat::{Seat, Seen};
 pub use snapshot::Snapshot;

@@ -7,7 +7,7 @@ ghost use Rattle.mg_live.specs.View.{commits_view};
 ghost use Rattle.mg_live.specs.declared.live.CloseError.TheVariants.{Ahead, Missing};
 
 use crate::commit_log::{CommitLog, Prefix};
-use crate::database::{Database, EndsWriter};
+use crate::database::{Database, Keeper};
 use crate::desk::Desk;
 use crate::markers::SnapshotRule;
 use crate::publication::SnapshotWriter;
@@ -27,7 +27,7 @@ use std::sync::{Arc, Mutex, Wait};
 
 /// An open database. Contracts see the number of its seats.
 #[derive(Drop)]
-pub struct Live<D: Database, C: EndsWriter, P: Placement + Drop = Md5Placement>
+pub struct Live<D: Database, C: Keeper, P: Placement + Drop = Md5Placement>
 where
     Snapshot<P>: Absorb<(), State = ()>,
 {
@@ -37,7 +37,7 @@ where
     seats: usize,
 }
 
-impl<D: Database, C: EndsWriter, P: Placement + Drop> Model for Live<D, C, P>
+impl<D: Database, C: Keeper, P: Placement + Drop> Model for Live<D, C, P>
 where
     Snapshot<P>: Absorb<(), State = ()>,
 {
@@ -75,7 +75,7 @@ pub enum CloseError {
 }
 
 // What an empty database begins with: the desk that its seats share, what makes their readers, the empty prefix, and all parts of the ledger.
-struct Opening<D: Database, C: EndsWriter, P: Placement + Drop>
+struct Opening<D: Database, C: Keeper, P: Placement + Drop>
 where
     Snapshot<P>: Absorb<(), State = ()>,
 {
@@ -95,8 +95,8 @@ impl Closed {
 }
 
 // Makes the `Opening` of an empty database with this name, for this number of seats.
-fn begin<D: Database, C: EndsWriter, P: Placement + Drop>(
-    ends: C,
+fn begin<D: Database, C: Keeper, P: Placement + Drop>(
+    keeper: C,
     alloc: Global,
     blank: Blank,
     commit_log: CommitLog,
@@ -110,6 +110,7 @@ where
     requires name { db.now ≡ D.db }
     requires commit_log { commit_log ≡ D.commit_log }
     requires ledger { (blank.name ≡ D.name) × (blank.parts ≡ D.parts) }
+    requires keeps { C.keeps keeper [] }
     requires opened { shards ≡ D.shards }
     requires shards { (1 ≤ shards) × (shards ≤ 64) }
     requires seats { (1 ≤ seats) × (seats ≤ 16) }
@@ -125,7 +126,7 @@ where
     let second = first.again()?;
     let writer: SnapshotWriter<D, P> = Writer::new(alloc, first, second, seats)?;
     let factory = writer.factory().another();
-    let desk = Desk::new(ends, log, writer, tally_book);
+    let desk = Desk::new(keeper, log, writer, tally_book);
     Ok(Opening {
         desk: Mutex::new(desk),
         factory: factory?,
@@ -135,7 +136,7 @@ where
 }
 
 // Adds up how many commits the seats have made. The sum of fewer than 2^64 tallies, each of which is a `u64`, fits into a `u128`.
-fn all_made<D: Database, C: EndsWriter, P: Placement + Drop>(seats: &[Seat<D, C, P>]) -> u128
+fn all_made<D: Database, C: Keeper, P: Placement + Drop>(seats: &[Seat<D, C, P>]) -> u128
 where
     Snapshot<P>: Absorb<(), State = ()>,
     ensures { result ≡ all_tallies seats.now }
@@ -148,7 +149,7 @@ where
 }
 
 // Whether a seat has seen more than `made` commits.
-fn has_seen_more<D: Database, C: EndsWriter, P: Placement + Drop>(
+fn has_seen_more<D: Database, C: Keeper, P: Placement + Drop>(
     seats: &[Seat<D, C, P>],
     made: u128,
 ) -> bool
@@ -166,7 +167,7 @@ where
 
 // Returns the longest prefix of the commit log that a seat has seen; `empty` if there is no seat. What every other seat has seen is a
 // prefix of the result, which has at most `made` commits if each seat has seen at most so many.
-fn longest<D: Database, C: EndsWriter, P: Placement + Drop>(
+fn longest<D: Database, C: Keeper, P: Placement + Drop>(
     empty: &Prefix,
     seats: &[Seat<D, C, P>],
     made: u128,
@@ -187,7 +188,7 @@ where
 }
 
 // Joins the seats' parts of the ledger to `last_share`, and returns them as one. Drops all else that the seats hold.
-fn join_all<D: Database, C: EndsWriter, P: Placement + Drop>(
+fn join_all<D: Database, C: Keeper, P: Placement + Drop>(
     last_share: Share<D>,
     seats: Vec<Seat<D, C, P>>,
 ) -> Share<D>
@@ -205,17 +206,17 @@ where
     all
 }
 
-impl<D: Database, C: EndsWriter, P: Placement + Drop> Live<D, C, P>
+impl<D: Database, C: Keeper, P: Placement + Drop> Live<D, C, P>
 where
     Snapshot<P>: Absorb<(), State = ()>,
 {
     /// Opens an empty database named `db`, with 1 to 64 shards, on which `placement` places the documents, and 1 to 16 seats, which are
-    /// numbered from 0. `blank` is the new ledger of its tallies, with one part for each seat; `commit_log` is its new commit log. `ends`
-    /// ends the writer once this `Live` and all seats are dropped or the database is closed.
+    /// numbered from 0. `blank` is the new ledger of its tallies, with one part for each seat; `commit_log` is its new commit log. `keeper`
+    /// keeps the commits, and ends the writer once this `Live` and all seats are dropped or the database is closed.
     ///
     /// Errors: `NoMemory` if an allocation fails, or if the commit log is not new. Cost: the number of shards and of seats, and the name.
     pub fn open(
-        ends: C,
+        keeper: C,
         alloc: Global,
         blank: Blank,
         commit_log: CommitLog,
@@ -228,6 +229,7 @@ where
         requires commit_log { commit_log ≡ D.commit_log }
         requires ledger { (blank.name ≡ D.name) × (blank.parts ≡ D.parts) }
         requires parts { blank.parts ≡ seats }
+        requires keeps { C.keeps keeper [] }
         requires opened { shards ≡ D.shards }
         requires shards { (1 ≤ shards) × (shards ≤ 64) }
         requires seats { (1 ≤ seats) × (seats ≤ 16) }
@@ -239,7 +241,9 @@ where
             factory,
             prefix,
             mut all,
-        } = begin(ends, alloc, blank, commit_log, db, placement, shards, seats)?;
+        } = begin(
+            keeper, alloc, blank, commit_log, db, placement, shards, seats,
+        )?;
         let desk = Arc::new(alloc, desk)?;
         let mut each = Vec::new(alloc);
         for number in 0..seats {
@@ -266,7 +270,7 @@ where
     ///
     /// Errors: `Missing` if a seat is absent, else `Ahead` if a seat has seen more commits than all seats together have made. An error
     /// hands the database and the seats back. Takes no memory. Cost: the number of seats, and freeing the documents and indexes that no
-    /// snapshot still holds. Waits for the writer's lock, and for what `ends` waits for.
+    /// snapshot still holds. Waits for the writer's lock, and for what its keeper waits for.
     pub fn close<R: Wait>(
         self,
         rt: &R,

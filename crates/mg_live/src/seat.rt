@@ -1,13 +1,14 @@
 //! Seats, at which sessions read and write.
-ghost use Rattle.std.specs.Prelude.{◌≡◌, ◌≤◌, true, false, IfOk, OnErr, OnOk};
+ghost use Rattle.std.specs.Prelude.{◌≡◌, ◌≤◌, true, false, length, IfErr, IfOk, OnErr, OnOk};
 ghost use Rattle.mg_engine.specs.Commands.{is_write};
 ghost use Rattle.mg_engine.specs.View.{command_view, reply_view};
 ghost use Rattle.mg_live.specs.Snapshots.{StandsAfter, HasSnapshot};
+ghost use Rattle.mg_machine.specs.Machine.{commands_of};
 ghost use Rattle.mg_live.specs.View.{commits_view};
 ghost use Rattle.mg_live.specs.SeatView.{Answered, IsLater, SeatReads, Learned, SeatWrites};
 
 use crate::commit_log::{Prefix, Write};
-use crate::database::{Database, EndsWriter};
+use crate::database::{Database, Keeper};
 use crate::desk::Desk;
 use crate::lock;
 use crate::publication::{SnapshotReader, copy_published};
@@ -25,7 +26,7 @@ use std::thread::Threads;
 
 /// A seat at a database. Contracts see its number, the commits that it has seen, and the tally of those that it has made.
 #[derive(Drop)]
-pub struct Seat<D: Database, C: EndsWriter, P: Placement + Drop = Md5Placement>
+pub struct Seat<D: Database, C: Keeper, P: Placement + Drop = Md5Placement>
 where
     Snapshot<P>: Absorb<(), State = ()>,
 {
@@ -37,7 +38,7 @@ where
     pub(crate) desk: Arc<Mutex<Desk<D, C, P>>>,
 }
 
-impl<D: Database, C: EndsWriter, P: Placement + Drop> Model for Seat<D, C, P>
+impl<D: Database, C: Keeper, P: Placement + Drop> Model for Seat<D, C, P>
 where
     Snapshot<P>: Absorb<(), State = ()>,
 {
@@ -92,7 +93,7 @@ impl<D: Database> Seen<D> {
     }
 }
 
-impl<D: Database, C: EndsWriter, P: Placement + Drop> Seat<D, C, P>
+impl<D: Database, C: Keeper, P: Placement + Drop> Seat<D, C, P>
 where
     Snapshot<P>: Absorb<(), State = ()>,
 {
@@ -122,8 +123,8 @@ where
     /// snapshot, and waits for nobody. A write is answered after all commits; if it is accepted, it is one more commit. A write may wait
     /// for the writer's lock, and for seats that take a snapshot.
     ///
-    /// The reply is `NoMemory` if an allocation fails, if there are too many references to the engine or to a part of it, or if the seat
-    /// has seen more commits than are published; a write is then not a commit, and leaves the seat as it was; at a read the seat may have
+    /// The reply is `NoMemory` if an allocation fails, if there are too many references to the engine or to a part of it, if the write may not
+    /// be kept, or if the seat has seen more commits than are published; a write is then not a commit, and leaves the seat as it was; at a read the seat may have
     /// caught up. A write after 18,446,744,073,709,551,615 commits is refused as `TooLarge`. Cost: that of the engine's reply. The
     /// documents of a bulk are read from the body in place.
     pub fn answer<R: Wait + Threads + Sync>(
@@ -166,7 +167,7 @@ where
     }
 
     // Executes a write, after all commits, and returns its reply; `NoMemory` as `answer` says. To hold the lock briefly, the documents of a
-    // bulk are read before the lock is taken, and the copy that `publish` replaces is dropped after the lock is released.
+    // bulk are read and its record is made before the lock is taken, and the copy that `publish` replaces is dropped after the lock is released.
     pub(crate) fn write<R: Wait + Threads + Sync>(
         &mut self,
         rt: &R,
@@ -185,12 +186,15 @@ where
             ..
         } = self;
         let write = Write::of(*number, &command, workers);
+        let Ok(text) = C::record(*alloc, &command) else {
+            return Reply::NoMemory;
+        };
         let Ok(prepared) = Prepared::of(*alloc, command) else {
             return Reply::NoMemory;
         };
         let (reply, before) = {
             let mut desk = lock::take(rt, desk);
-            desk.write(rt, *alloc, write, prepared, tally, prefix)
+            desk.write(rt, *alloc, write, prepared, text, tally, prefix)
         };
         drop(before);
         reply
@@ -211,6 +215,25 @@ where
             return Err(NoMemory);
         }
         Ok(Seen::of(&self.prefix))
+    }
+
+    /// Returns the number of commits that this seat has seen. Takes no lock and no memory. Cost: constant.
+    pub fn count(&self) -> u64
+        ensures { result ≡ length self.now.seen }
+    {
+        self.prefix.len()
+    }
+
+    /// Has another keeper keep the commits after those that this seat has seen, which it keeps already. Returns the keeper before. Waits for
+    /// the writer's lock. Takes no memory.
+    ///
+    /// Errors: the keeper comes back, and nothing has changed, if there are commits that the seat has not seen.
+    pub fn replace_keeper<R: Wait>(&self, rt: &R, keeper: C) -> Result<C, C>
+        requires keeps { C.keeps keeper (commands_of self.now.seen) }
+        ensures back { IfErr result (λ k. k ≡ keeper) }
+    {
+        let mut desk = self.desk.lock(rt);
+        desk.replace_keeper(&self.prefix, keeper)
     }
 
     /// Returns the commits that this seat has seen, for another seat to `learn`. Takes no lock and no memory. Cost: constant.

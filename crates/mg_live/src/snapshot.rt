@@ -5,12 +5,15 @@ ghost use Rattle.mg_engine.specs.Commands.{is_write};
 ghost use Rattle.mg_engine.specs.Settled.{accepts};
 ghost use Rattle.mg_engine.specs.View.{command_view, reply_view};
 ghost use Rattle.mg_live.specs.Published.{WriteLeaves};
+ghost use Rattle.mg_live.specs.Keeping.{IsRecordOf};
 ghost use Rattle.mg_live.specs.Snapshots.{IsSnapshotOf, commits_of, state_of};
+ghost use Rattle.mg_machine.specs.Machine.{commands_of};
 ghost use Rattle.mg_shard.specs.Shard.{shards_view};
 ghost use Rattle.mg_live.specs.Adding.{AddsAfter};
 
 use crate::commit_log::{LogWriter, Prefix, Write};
-use crate::database::Database;
+use crate::database::{Database, Keeper};
+use crate::record::Record;
 use mg_engine::{Prepared, Reply};
 use mg_index::Catalog;
 use mg_machine::Point;
@@ -60,26 +63,32 @@ impl<P: Placement + Drop> Snapshot<P> {
     }
 
     // Executes a write after the commits of this snapshot, which are all entries of the commit log, and returns its reply and the snapshot
-    // after it; `None` unless the write is accepted. An accepted write is the next entry of the commit log. The reply is `NoMemory`, and the
-    // commit log is unchanged, if an allocation fails, or if there are too many references to the engine or to a part of it. Cost: that of
-    // the engine's `commit_prepared`.
-    pub(crate) fn next<D: Database, R: Threads + Sync>(
+    // after it; `None` unless the write is accepted. An accepted write is kept, and is then the next entry of the commit log. The reply is
+    // `NoMemory`, and the commit log is unchanged, if an allocation fails, if there are too many references to the engine or to a part of
+    // it, or if the write may not be kept. Cost: that of the engine's `commit_prepared`, and of keeping.
+    pub(crate) fn next<D: Database, C: Keeper, R: Threads + Sync>(
         &self,
         rt: &R,
         alloc: Global,
         log: &mut LogWriter,
+        keeper: &mut C,
         write: Write,
         prepared: Prepared,
+        text: Option<Record>,
     ) -> (Reply, Option<Snapshot<P>>)
         requires write { is_write (command_view write.command.value) ≡ true }
         requires prepared { prepared ≡ command_view write.command.value }
         requires log { AddsAfter log.old D.commit_log self.now.prefix.seen.log }
         requires here { IsSnapshotOf P.place D.commit_log D.db D.shards self.now }
+        requires text { IfSome text (λ r. IsRecordOf r (command_view write.command.value)) }
+        requires keeps { C.keeps keeper.old (commands_of (commits_of self.now)) }
         ensures next { WriteLeaves D.db (commits_of self.now) (write.seat, command_view write.command.value)
             (reply_view result.0)
             (option_map commits_of result.1) }
         ensures log { MatchOption result.1 (log.new ≡ log.old)
             (λ s. AddsAfter log.new D.commit_log s.prefix.seen.log) }
+        ensures keeps { MatchOption result.1 (C.keeps keeper.new (commands_of (commits_of self.now)))
+            (λ s. C.keeps keeper.new (commands_of (commits_of s))) }
         ensures there { IfSome result.1 (λ s. IsSnapshotOf P.place D.commit_log D.db D.shards s) }
     {
         let Ok((reply, point)) = self
@@ -91,6 +100,9 @@ impl<P: Placement + Drop> Snapshot<P> {
         if !accepts(&reply) {
             return (reply, None);
         }
+        let Ok(()) = keeper.keep(text) else {
+            return (Reply::NoMemory, None);
+        };
         let prefix = log.add(&self.prefix, write);
         (reply, Some(Snapshot { point, prefix }))
     }

@@ -13,6 +13,9 @@ pub trait Learner: Handover {
     fn seen(&self) -> Self::Seen
         ensures { shows result self.now };
 
+    /// Whether the service has failed, and serves nobody any more. Then the edge ends.
+    fn has_failed(&self) -> bool;
+
     /// Learns what a client carries: the service then follows each one that the client has been answered by. It forgets nothing.
     fn learn(&mut self, seen: &Self::Seen)
         ensures learned { (before : Self) → shows seen.now before → Self.follows before self.new }

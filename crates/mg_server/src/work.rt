@@ -80,7 +80,7 @@ fn look<H: Wait + Clock, S: Learner, C: Conversation<S> + Drop>(
     }
 }
 
-/// Watches until something has come on a connection. `None`: the listener or the poll failed.
+/// Watches until something has come on a connection. `None`: the listener, the poll or the service failed.
 fn watch_until<H: Wait + Clock, S: Learner, C: Conversation<S> + Drop>(
     rt: &H,
     edge: &Edge<C, S::Seen>,
@@ -88,6 +88,9 @@ fn watch_until<H: Wait + Clock, S: Learner, C: Conversation<S> + Drop>(
     service: &S,
 ) -> Option<Hand<Connection<C, S::Seen>>> {
     for _ in rt.forever() {
+        if service.has_failed() {
+            return None;
+        }
         match look(rt, edge, watch, service, Watch::<C>::longest_wait()) {
             Found::Came(hand) => return Some(hand),
             Found::Nothing => {}
@@ -271,6 +274,9 @@ fn work<H: Wait + Threads + Clock + Sync, S: Learner, C: Conversation<S> + Drop>
             return;
         };
         serve_hand::<H, S, C>(rt, edge, hand, service);
+        if service.has_failed() {
+            return;
+        }
     }
     unreachable!()
 }

@@ -3,7 +3,7 @@ ghost use Rattle.std.specs.Prelude.{◌≡◌, ◌≤◌, length, string_bytes};
 
 use crate::given::{check, string};
 use mg_engine::Reply;
-use mg_live::{CloseError, CommitLog, Database, EndsWriter, Live, Seat, WaitForReaders};
+use mg_live::{CloseError, CommitLog, Database, Keeper, Live, Seat, WaitForReaders};
 use mg_shard::Md5Placement;
 use mg_value::{Json, read};
 use std::alloc::Global;
@@ -17,7 +17,7 @@ use std::thread::Threads;
 
 // Writes as many bulks of one document at a seat as the next of the numbers says; the threads take them in turn. Writes none if the body
 // cannot be read.
-fn write_bulks<D: Database, C: EndsWriter, R: Wait + Threads + Sync>(
+fn write_bulks<D: Database, C: Keeper, R: Wait + Threads + Sync>(
     rt: &R,
     alloc: Global,
     seat: Seat<D, C>,
@@ -181,7 +181,7 @@ const RESHARDED: &[Call] = &[
     Call(0, Ask::Find, ALL, 200, BOTH),
 ];
 
-fn reply_with<D: Database, C: EndsWriter, R: Wait + Threads + Sync>(
+fn reply_with<D: Database, C: Keeper, R: Wait + Threads + Sync>(
     rt: &R,
     seat: &mut Seat<D, C>,
     ask: Ask,
@@ -196,7 +196,7 @@ fn reply_with<D: Database, C: EndsWriter, R: Wait + Threads + Sync>(
     }
 }
 
-fn reply_to<D: Database, C: EndsWriter, R: Wait + Threads + Sync>(
+fn reply_to<D: Database, C: Keeper, R: Wait + Threads + Sync>(
     rt: &R,
     alloc: Global,
     seat: &mut Seat<D, C>,
@@ -215,7 +215,7 @@ fn reply_to<D: Database, C: EndsWriter, R: Wait + Threads + Sync>(
 
 // Whether the seat gives the expected reply. If the call is refused memory, this is counted and the call is made once more, since it had
 // no effect.
-fn is_answered<D: Database, C: EndsWriter, R: Wait + Threads + Sync>(
+fn is_answered<D: Database, C: Keeper, R: Wait + Threads + Sync>(
     rt: &R,
     alloc: Global,
     seat: &mut Seat<D, C>,
@@ -230,7 +230,7 @@ fn is_answered<D: Database, C: EndsWriter, R: Wait + Threads + Sync>(
     reply.status() == call.3 && reply.body() == call.4.as_bytes()
 }
 
-fn are_answered<D: Database, C: EndsWriter, R: Wait + Threads + Sync>(
+fn are_answered<D: Database, C: Keeper, R: Wait + Threads + Sync>(
     rt: &R,
     alloc: Global,
     a: &mut Seat<D, C>,
@@ -252,7 +252,7 @@ fn are_answered<D: Database, C: EndsWriter, R: Wait + Threads + Sync>(
 }
 
 // Lets the second seat learn what the first has seen; false if `share` was refused memory, which `refused` counts.
-fn teach<D: Database, C: EndsWriter, R: Wait>(
+fn teach<D: Database, C: Keeper, R: Wait>(
     rt: &R,
     a: &mut Seat<D, C>,
     b: &mut Seat<D, C>,
@@ -271,7 +271,7 @@ fn teach<D: Database, C: EndsWriter, R: Wait>(
 }
 
 // Whether the seat's snapshot has no index and one shard; false also if `snapshot` was refused memory, which `refused` counts.
-fn is_bare<D: Database, C: EndsWriter>(seat: &mut Seat<D, C>, refused: &mut u32) -> bool {
+fn is_bare<D: Database, C: Keeper>(seat: &mut Seat<D, C>, refused: &mut u32) -> bool {
     match seat.snapshot() {
         Ok(snapshot) => snapshot.catalog().list().is_empty() && snapshot.shards().len() == 1,
         Err(_) => {
@@ -283,7 +283,7 @@ fn is_bare<D: Database, C: EndsWriter>(seat: &mut Seat<D, C>, refused: &mut u32)
 
 // Whether the two seats give all expected replies to `BEFORE`, `AFTER` and `calls`, and the snapshot of the second then has no index and
 // one shard.
-fn both_answer<D: Database, C: EndsWriter, R: Wait + Threads + Sync>(
+fn both_answer<D: Database, C: Keeper, R: Wait + Threads + Sync>(
     rt: &R,
     alloc: Global,
     a: &mut Seat<D, C>,
@@ -299,7 +299,7 @@ fn both_answer<D: Database, C: EndsWriter, R: Wait + Threads + Sync>(
 }
 
 // Closes the database and returns the number of its commits. A first try, without one of the seats, must be refused.
-fn close<D: Database, C: EndsWriter, R: Wait + Abort>(
+fn close<D: Database, C: Keeper, R: Wait + Abort>(
     rt: &R,
     live: Live<D, C>,
     seats: Vec<Seat<D, C>>,

@@ -2,7 +2,7 @@
 ghost use Rattle.std.specs.Prelude.{◌≡◌, string_bytes};
 
 use crate::given::string;
-use mg_live::{CommitLog, Database, EndsWriter, Live, Seat, WaitForReaders};
+use mg_live::{CommitLog, Database, Keeper, Live, Seat, WaitForReaders};
 use mg_scan::{Gate, Place};
 use mg_shard::Md5Placement;
 use mg_value::read;
@@ -105,7 +105,7 @@ impl During {
 
 // Queries the ids of all documents twice once the writer is ready: without the write, and then held by the gate at its snapshot until the
 // write was answered. Makes no query if the body cannot be read.
-fn ask<D: Database, C: EndsWriter, R: Wait + Threads + Sync>(
+fn ask<D: Database, C: Keeper, R: Wait + Threads + Sync>(
     rt: &R,
     alloc: Global,
     seat: Seat<D, C>,
@@ -126,7 +126,7 @@ fn ask<D: Database, C: EndsWriter, R: Wait + Threads + Sync>(
 
 // Lets the query begin, and makes the write while the query is held. Before a reshard, first writes a document, and then lets the query
 // begin. Does none of this if a body cannot be read.
-fn write<D: Database, C: EndsWriter, R: Wait + Threads + Sync>(
+fn write<D: Database, C: Keeper, R: Wait + Threads + Sync>(
     rt: &R,
     alloc: Global,
     seat: Seat<D, C>,
@@ -159,7 +159,7 @@ fn write<D: Database, C: EndsWriter, R: Wait + Threads + Sync>(
 }
 
 // Queries if this thread is the first to start; otherwise writes.
-fn act<D: Database, C: EndsWriter, R: Wait + Threads + Sync>(
+fn act<D: Database, C: Keeper, R: Wait + Threads + Sync>(
     rt: &R,
     alloc: Global,
     seat: Seat<D, C>,

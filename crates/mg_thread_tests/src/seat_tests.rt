@@ -4,7 +4,7 @@ ghost use Rattle.std.specs.Prelude.{◌≡◌, string_bytes};
 use crate::engine_tests::{DOCUMENTS, IDS, PAGE};
 use crate::given::{json, string};
 use crate::scan_tests::BothBegin;
-use mg_live::{CommitLog, Database, EndsWriter, Live, Seat, WaitForReaders};
+use mg_live::{CommitLog, Database, Keeper, Live, Seat, WaitForReaders};
 use mg_shard::Placement;
 use std::alloc::Global;
 use std::marker::Brand;
@@ -26,7 +26,7 @@ impl Placement for OnFirst {
 }
 
 // Whether the seat writes the documents.
-fn is_written<D: Database, C: EndsWriter, R: Wait + Threads + Sync + Abort>(
+fn is_written<D: Database, C: Keeper, R: Wait + Threads + Sync + Abort>(
     rt: &R,
     alloc: Global,
     seat: &mut Seat<D, C, OnFirst>,
@@ -36,7 +36,7 @@ fn is_written<D: Database, C: EndsWriter, R: Wait + Threads + Sync + Abort>(
 }
 
 // Whether a query at the seat finds all ids.
-fn is_found<D: Database, C: EndsWriter, R: Threads + Sync + Abort>(
+fn is_found<D: Database, C: Keeper, R: Threads + Sync + Abort>(
     rt: &R,
     alloc: Global,
     seat: &mut Seat<D, C, OnFirst>,

@@ -10,7 +10,7 @@ ghost use Rattle.mg_live.specs.SeatView.{Answered};
 
 use left_right::Absorb;
 use mg_engine::{Command, Engine, Reply};
-use mg_live::{Database, EndsWriter, Seat, Seen, Snapshot};
+use mg_live::{Database, Keeper, Seat, Seen, Snapshot};
 use mg_server::{Handover, Learner};
 use mg_shard::{Md5Placement, Placement};
 use std::alloc::Global;
@@ -59,7 +59,7 @@ impl<P> Handover for Solo<P> {
 
 /// A seat at a database that other sessions use too, and the number of workers, 1 to 32, with which it answers.
 #[derive(Drop)]
-pub struct SeatService<D: Database, C: EndsWriter, P: Placement + Drop = Md5Placement>
+pub struct SeatService<D: Database, C: Keeper, P: Placement + Drop = Md5Placement>
 where
     Snapshot<P>: Absorb<(), State = ()>,
 {
@@ -69,7 +69,7 @@ where
     ghost most_workers: { workers ≤ 32 },
 }
 
-impl<D: Database, C: EndsWriter, P: Placement + Drop> Service for SeatService<D, C, P>
+impl<D: Database, C: Keeper, P: Placement + Drop> Service for SeatService<D, C, P>
 where
     Snapshot<P>: Absorb<(), State = ()>,
 {
@@ -82,7 +82,7 @@ where
     }
 }
 
-impl<D: Database, C: EndsWriter, P: Placement + Drop> Handover for SeatService<D, C, P>
+impl<D: Database, C: Keeper, P: Placement + Drop> Handover for SeatService<D, C, P>
 where
     Snapshot<P>: Absorb<(), State = ()>,
 {
@@ -94,7 +94,7 @@ where
     ghost onward = { λ a b c p q. in_turn a.seat.seen b.seat.seen c.seat.seen p q };
 }
 
-impl<D: Database, C: EndsWriter, P: Placement + Drop> Learner for SeatService<D, C, P>
+impl<D: Database, C: Keeper, P: Placement + Drop> Learner for SeatService<D, C, P>
 where
     Snapshot<P>: Absorb<(), State = ()>,
 {
@@ -105,6 +105,10 @@ where
 
     fn seen(&self) -> Seen<D> {
         self.seat.seen()
+    }
+
+    fn has_failed(&self) -> bool {
+        false
     }
 
     fn learn(&mut self, seen: &Seen<D>) {

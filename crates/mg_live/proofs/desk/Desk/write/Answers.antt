@@ -1,7 +1,7 @@
 use Rattle.std.proofs.Common.{◌≡◌, ◌∷◌, [], None, Some, length, length-append, ap, refl, sym, ◌∙◌, arith}
 use Rattle.mg_engine.specs.View.{command_view, reply_view}
 use Rattle.mg_machine.specs.Laws.{IsPrefix}
-use Rattle.mg_machine.specs.Machine.{Commit}
+use Rattle.mg_machine.specs.Machine.{Commit, commands_of}
 use Rattle.mg_live.specs.Adding.{AddsAfter}
 use Rattle.mg_live.specs.Published.{WriteLeaves, standing}
 use Rattle.mg_live.specs.View.{commits_view}
@@ -31,7 +31,8 @@ invariant_of-self-in-Some g c =
     let adds : AddsAfter c.next-reply.new.log g.D.Database.commit_log c.in-Some.next.prefix.seen.log = rw c.in-Some.is at c.next-reply.ensures.log in
     let one = added db cs write reply (commits_of c.in-Some.next) next in
     let before : c.self.inside.tally_book.total ≡ length cs = c.self.invariant.0 ∙ ap (λ s. length (commits_of s)) (sym c.published-now.ensures) in
-    rw c.publish-before.ensures (omega (arith, c.add.ensures.tally_book, before, length-append cs (write ∷ []), ap length one), there, adds)
+    let keeps : g.C.Keeper.keeps c.next-reply.new.keeper (commands_of (commits_of c.in-Some.next)) = rw c.in-Some.is at c.next-reply.ensures.keeps in
+    rw c.publish-before.ensures (omega (arith, c.add.ensures.tally_book, before, length-append cs (write ∷ []), ap length one), there, adds, keeps)
 
 pub returns-in-Some-clause-publishes : goal.returns-in-Some-clause-publishes
 returns-in-Some-clause-publishes g c =

@@ -1,0 +1,35 @@
+-- The service of a seat whose commits are kept may be sent to another thread.
+use denote.Param.Send.{IsSend, sendable}
+use denote.Param.SendFields.{declared_send}
+use denote.RattleType.{RattleType}
+use Rattle.std.proofs.Crossing.{crosses}
+use Rattle.std.proofs.option.Option.TheSendSync as option
+use Rattle.std.specs.declared.sync.ledger.Ledger as ledger
+use Rattle.sqlite_disk.proofs.modelled.Modelled.TheSendSync as modelled
+use Rattle.std.proofs.fs.File.TheSendSync as file
+use Rattle.sqlite_disk.specs.contracts.start.Unknown as Unknown
+use Rattle.sqlite_std_file.specs.contracts.host.Host as Host
+use Rattle.sqlite_store.proofs.store.FileStore.TheSendSync as file_store
+use Rattle.mg_http.proofs.Crossing.{service_send}
+use Rattle.mg_live.proofs.Crossing.{waiting_send}
+use Rattle.mg_live.specs.contracts.publication.SnapshotAbsorbUnit.TheImpl as absorb_of
+use Rattle.mg_live.specs.declared.database.Database as database
+use Rattle.mg_live.specs.declared.database.Keeper as keeper
+use Rattle.mg_log.proofs.log.Log.TheSendSync as log
+use Rattle.mg_shard.specs.contracts.placement.Md5Placement as Md5Placement
+use Rattle.mg_shard.specs.contracts.placement.Md5PlacementPlacement.TheImpl as md5
+use Rattle.mango_server.specs.contracts.keeper.FileKeeper as FileKeeper
+use Rattle.mango_server.specs.contracts.service.StoredService as StoredService
+
+host_send : IsSend Host.the_row
+host_send = declared_send Host.the_type (search (sendable, crosses, file.the_send) depth 20, (search (sendable, crosses) depth 20, tt))
+
+pub keeper_send : (H : RattleType) → IsSend H → IsSend (FileKeeper.the_row H)
+keeper_send H s = declared_send (FileKeeper.the_type H) (
+  option.the_send _ (log.the_send _ _ (file_store.the_send _ _ (modelled.the_send Host.the_row Unknown.the_row _ _ host_send))),
+  (search sendable depth 10, (search (sendable, crosses) depth 10, (waiting_send H s, tt))),
+)
+
+module _ (D C : RattleType) (d : database.Ghosts D.Denot) (l : ledger.Ghosts D.Denot) (k : keeper.Ghosts C.Denot) where
+  pub stored_send : IsSend C → IsSend (StoredService.the_row D C Md5Placement.the_row k (absorb_of.ghosts Md5Placement.the_row) d l md5.ghosts)
+  stored_send c = declared_send (StoredService.the_type D C Md5Placement.the_row k (absorb_of.ghosts Md5Placement.the_row) d l md5.ghosts) (service_send D C d l k c, (search (sendable, crosses) depth 10, tt))

@@ -1,0 +1,184 @@
+//! Opens the file and serves its database.
+ghost use Rattle.std.specs.Prelude.{◌≡◌, ◌≤◌, ℕ, []};
+ghost use Rattle.mg_live.specs.SeatView.{new_seats};
+
+use crate::config::Settings;
+use crate::ends::Exit;
+use crate::keeper::FileKeeper;
+use crate::replay::replayed;
+use crate::service::StoredService;
+use mg_http::{Connection, SeatService};
+use mg_live::{CommitLog, Database, Live, Seat, Seen};
+use mg_server::Edge;
+use mg_shard::Md5Placement;
+use mg_value::NoMemory;
+use std::alloc::Global;
+use std::io::{Eprint, ErrorKind};
+use std::net::{Net, TcpListener, TcpStream};
+use std::sync::atomic::{AtomicBool, Ordering};
+use std::sync::ledger::Blank;
+use std::sync::{Arc, Wait};
+use std::thread::Threads;
+use std::time::Clock;
+
+/// Makes a service for each seat. Errors: `NoMemory` if an allocation fails; then all seats are dropped.
+fn services<D: Database, H: Wait + Drop>(
+    alloc: Global,
+    seats: Vec<Seat<D, FileKeeper<H>>>,
+    workers: usize,
+    lost: &Arc<AtomicBool>,
+) -> Result<Vec<StoredService<D, FileKeeper<H>>>, NoMemory>
+    requires { (1 ≤ workers) × (workers ≤ 32) }
+{
+    let mut services = Vec::with_capacity(alloc, seats.len())?;
+    for seat in seats {
+        let service = SeatService { seat, workers };
+        let lost = Arc::try_clone(lost)?;
+        services.push(StoredService { service, lost })?;
+    }
+    Ok(services)
+}
+
+/// Opens the file at a seat that has seen nothing, executes its commits there, and has it keep those that come. Returns the seat.
+///
+/// Errors: how the program ends.
+fn stored<D: Database, H: Wait + Threads + Sync + Copy + Drop + AllocGlobal + Eprint>(
+    host: HostRuntime,
+    rt: H,
+    settings: Settings<'_>,
+    seat: Seat<D, FileKeeper<H>>,
+    lost: Arc<AtomicBool>,
+) -> Result<Seat<D, FileKeeper<H>>, Exit>
+    requires fresh { seat.seen ≡ [] }
+{
+    let opened = replayed(host, rt, settings.file, settings.db, seat, settings.workers);
+    let (log, seat) = match opened {
+        Ok(opened) => opened,
+        Err(error) => {
+            let _ = eprintln!(rt; "mango_server: {}: {error}", settings.file);
+            return Err(Exit::REFUSED);
+        }
+    };
+    let _ = eprintln!(rt;
+        "mango_server: {} has {} commits",
+        settings.file,
+        log.count()
+    );
+    match seat.replace_keeper(&rt, FileKeeper::in_file(rt, log, lost)) {
+        Ok(_) => Ok(seat),
+        Err(_) => Err(Exit::STORAGE),
+    }
+}
+
+/// Serves the database in a file, until the file can no longer be written or the listener fails. Returns how the program ends. The commit
+/// log and the ledger are those of the database `D`.
+pub(crate) fn serve_file<
+    D: Database + Send + Sync,
+    H: Wait
+        + Threads
+        + Send
+        + Sync
+        + Copy
+        + Drop
+        + AllocGlobal
+        + Clock
+        + Eprint
+        + Net<Listener = TcpListener, Stream = TcpStream>,
+>(host: HostRuntime, rt: H, settings: Settings<'_>, blank: Blank, commit_log: CommitLog) -> Exit
+    requires name { settings.db.now ≡ D.db }
+    requires opened { settings.shards ≡ D.shards }
+    requires commit_log { commit_log ≡ D.commit_log }
+    requires ledger { (blank.name ≡ D.name) × (blank.parts ≡ D.parts) }
+    requires parts { blank.parts ≡ settings.sessions }
+{
+    let alloc = rt.alloc();
+    let Ok(lost) = Arc::new(alloc, AtomicBool::new(false)) else {
+        return Exit::NO_MEMORY;
+    };
+    let Ok(opening) = Arc::try_clone(&lost) else {
+        return Exit::NO_MEMORY;
+    };
+    let opened = Live::<D, FileKeeper<H>>::open(
+        FileKeeper::nowhere(rt, opening),
+        alloc,
+        blank,
+        commit_log,
+        settings.db,
+        Md5Placement,
+        settings.shards,
+        settings.sessions,
+    );
+    let Ok((_live, seats)) = opened else {
+        return Exit::NO_MEMORY;
+    };
+    match with_file(host, rt, settings, seats, &lost) {
+        Ok(services) => listen(rt, settings, services, &lost),
+        Err(exit) => exit,
+    }
+}
+
+/// Opens the file at the last of the seats, which have seen nothing, and makes a service for each seat.
+///
+/// Errors: how the program ends.
+fn with_file<D: Database, H: Wait + Threads + Sync + Copy + Drop + AllocGlobal + Eprint>(
+    host: HostRuntime,
+    rt: H,
+    settings: Settings<'_>,
+    mut seats: Vec<Seat<D, FileKeeper<H>>>,
+    lost: &Arc<AtomicBool>,
+) -> Result<Vec<StoredService<D, FileKeeper<H>>>, Exit>
+    requires fresh { (n : ℕ) × (seats.items ≡ new_seats n) }
+{
+    let (Some(seat), Ok(keeping)) = (seats.pop(), Arc::try_clone(lost)) else {
+        return Err(Exit::NO_MEMORY);
+    };
+    let seat = stored(host, rt, settings, seat, keeping)?;
+    if seats.push(seat).is_err() {
+        return Err(Exit::NO_MEMORY);
+    }
+    match services(rt.alloc(), seats, settings.workers, lost) {
+        Ok(services) => Ok(services),
+        Err(NoMemory) => Err(Exit::NO_MEMORY),
+    }
+}
+
+/// Listens, and serves the clients that connect.
+fn listen<
+    D: Database + Send + Sync,
+    H: Wait
+        + Threads
+        + Send
+        + Sync
+        + Copy
+        + Drop
+        + AllocGlobal
+        + Clock
+        + Eprint
+        + Net<Listener = TcpListener, Stream = TcpStream>,
+>(
+    rt: H,
+    settings: Settings<'_>,
+    services: Vec<StoredService<D, FileKeeper<H>>>,
+    lost: &Arc<AtomicBool>,
+) -> Exit {
+    let Ok(listener) = TcpListener::bind(&rt, settings.listen) else {
+        return Exit::CANNOT_LISTEN;
+    };
+    let first = Connection::new(rt.alloc(), settings.db);
+    let edge = match Edge::<Connection<'_>, Seen<D>>::open(&rt, rt.alloc(), listener, first) {
+        Ok(edge) => edge,
+        Err(error) => match error.kind() {
+            ErrorKind::OutOfMemory => return Exit::NO_MEMORY,
+            _ => return Exit::CANNOT_LISTEN,
+        },
+    };
+    let _ = eprintln!(rt; "mango_server: listening at {}", settings.listen);
+    let served = mg_server::serve::<H, StoredService<D, FileKeeper<H>>, Connection<'_>>(
+        &rt, &edge, services,
+    );
+    match served {
+        Ok(_) if lost.load(Ordering::SeqCst) => Exit::STORAGE,
+        Ok(_) => Exit::STOPPED,
+        Err(_) => Exit::NO_MEMORY,
+    }
+}

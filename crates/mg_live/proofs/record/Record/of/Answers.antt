@@ -1,0 +1,16 @@
+use Rattle.std.proofs.Common.{string_bytes}
+use Rattle.mg_engine.specs.View.{command_view}
+use Rattle.mg_live.specs.Keeping.{dropped_value}
+use Rattle.mg_live.proofs.Keeping.{has_compact}
+use Rattle.mg_live.proofs.record.Record.of.Goals as goal
+
+pub returns-in_ok-recorded-in-Bulk-clause-write : goal.returns-in_ok-recorded-in-Bulk-clause-write
+returns-in_ok-recorded-in-Bulk-clause-write c =
+    let text = c.in_ok-text-in-Bulk.text.items in
+    c.in_ok-recorded-in-Bulk.ensures (command_view c.args.command.now) (λ utf8. rw c.in-Bulk.is (has_compact text c.in-Bulk.body utf8 (rw c.part.ensures at c.in_ok-text-in-Bulk.ensures)))
+
+pub returns-in_ok-recorded-in-DropIndex-clause-write : goal.returns-in_ok-recorded-in-DropIndex-clause-write
+returns-in_ok-recorded-in-DropIndex-clause-write c =
+    let text = c.in_ok-text-in-DropIndex.text.items in
+    let value = dropped_value (string_bytes c.in-DropIndex.ddoc) (string_bytes c.in-DropIndex.name) in
+    c.in_ok-recorded-in-DropIndex.ensures (command_view c.args.command.now) (λ utf8. rw c.in-DropIndex.is (has_compact text value utf8 (rw (c.as_str.ensures.value, c.as_str-in-DropIndex.ensures.value) at c.in_ok-text-in-DropIndex.ensures)))
