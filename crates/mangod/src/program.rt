@@ -1,7 +1,7 @@
 //! Runs the program with its arguments, over an input and an output or over TCP.
 ghost use Rattle.std.specs.Prelude.{◌≡◌, IfOk, false, option_map};
 ghost use Rattle.std.specs.Io.KnownBytes.{Appends, Consumes};
-ghost use Rattle.mg_http.specs.Device.{inner_of, has_failed};
+ghost use Rattle.mg_http.specs.Device.{inner_of, has_failed, was_starved};
 ghost use Rattle.mangod.specs.Arguments.{name_in, sessions_in, shards_in};
 ghost use Rattle.mg_engine.specs.Stands.{Stands, shard_count};
 ghost use Rattle.mg_engine.specs.World.{empty_world};
@@ -58,7 +58,8 @@ pub(crate) fn run<
     requires writing { has_failed writer.old ≡ false }
     ensures { RunsWith (option_map settings_view asked.entry)
         (Consumes (R.remaining (inner_of reader.old)) (R.remaining (inner_of reader.new)))
-        (Appends (W.contents (inner_of writer.old)) (W.contents (inner_of writer.new))) (exit_view result) }
+        (Appends (W.contents (inner_of writer.old)) (W.contents (inner_of writer.new)))
+        (was_starved reader.new) (exit_view result) }
 {
     let Some(settings) = asked else {
         return WRONG_ARGUMENTS;
@@ -81,7 +82,8 @@ fn hold_session<H: Wait + Threads + Sync + AllocGlobal, R: Read, W: Write>(
     requires writing { has_failed writer.old ≡ false }
     ensures { RunsOneSession (settings_view settings.entry)
         (Consumes (R.remaining (inner_of reader.old)) (R.remaining (inner_of reader.new)))
-        (Appends (W.contents (inner_of writer.old)) (W.contents (inner_of writer.new))) (exit_view result) }
+        (Appends (W.contents (inner_of writer.old)) (W.contents (inner_of writer.new)))
+        (was_starved reader.new) (exit_view result) }
 {
     match solo(rt, &settings) {
         Ok(mut service) => {

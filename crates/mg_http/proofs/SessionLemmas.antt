@@ -1,6 +1,6 @@
 -- How what was said on a connection composes: what was said before stays true when more is received and said.
 use Rattle.std.proofs.Common.{◌≡◌, ◌⊎◌, ℕ, ◌+◌, ◌-◌, ◌<◌, ◌≤◌, List, [], ◌∷◌, ◌++◌, length, take, drop, Option, Some, None, refl, sym, ap, ◌∙◌, subst, append_assoc, append-nil, take-append-drop, drop-drop, arith, length-append, length-drop, inl, inr, cond, Bool, true, false}
-use Rattle.std.specs.Prelude.{slice_range}
+use Rattle.std.specs.Prelude.{slice_range, IsTrue}
 use Rattle.std.proofs.lemmas.Grind.{common_steps}
 use Rattle.std.proofs.lemmas.List.{drop-append-le}
 use Rattle.httparse.specs.Grammar.{RequestHead, print_request}
@@ -45,8 +45,8 @@ module _ (db : List ℕ) (h : RequestHead) (f : Framed) (bytes : List ℕ) (has 
       inr (h, drop f.head_len bytes, request_in f.request, f.body_len, has, is.framing, omega (arith, within, short, length-drop f.head_len bytes))
 
   -- there may be no memory after a complete head
-  pub lacks_memory : LacksMemory bytes f.omits_body
-  lacks_memory = inr (inr (h, drop f.head_len bytes, has, is.omits_body))
+  pub lacks_memory : (starved : Bool) → LacksMemory starved bytes f.omits_body
+  lacks_memory starved = inr (h, drop f.head_len bytes, has, is.omits_body)
 
   -- the bytes still begin with the head when more arrive
   pub head_with : (more : List ℕ) → f.head_len ≤ length bytes → HasHead (bytes ++ more) h (drop f.head_len (bytes ++ more))
@@ -58,11 +58,11 @@ head_counts bytes h len has within =
     omega (arith, within, head_long h has.reads.0, ap length has.reads.1, length-append (print_request h) (drop len bytes), length-drop len bytes)
 
 -- the text of a refusal refuses the bytes, or says that memory ran out
-pub refuses_by : (db bytes : List ℕ) (refusal : Refusal) (omits_body : Bool) → IsRefused db bytes refusal omits_body ⊎ LacksMemoryForHead bytes refusal omits_body
-    → IsRefusalText db bytes (text_of omits_body (refused refusal))
-refuses_by db bytes refusal omits_body (inl is) = inl (refusal, omits_body, is, refl)
-refuses_by db bytes refusal omits_body (inr (is, h, after, has, quiet)) =
-    inr (omits_body, inr (inr (h, after, has, quiet)), ap (λ (r : Refusal). text_of omits_body (refused r)) is)
+pub refuses_by : (db : List ℕ) (starved : Bool) (bytes : List ℕ) (refusal : Refusal) (omits_body : Bool)
+    → IsRefused db bytes refusal omits_body ⊎ LacksMemoryForHead bytes refusal omits_body → IsRefusalText db starved bytes (text_of omits_body (refused refusal))
+refuses_by db starved bytes refusal omits_body (inl is) = inl (refusal, omits_body, is, refl)
+refuses_by db starved bytes refusal omits_body (inr (is, h, after, has, quiet)) =
+    inr (omits_body, inr (h, after, has, quiet), ap (λ (r : Refusal). text_of omits_body (refused r)) is)
 
 -- a head that was read stays read when more bytes arrive
 kept_more : (db bytes more : List ℕ) (framed : Option Framed) → IsKept db bytes framed → IsKept db (bytes ++ more) framed
@@ -71,11 +71,12 @@ kept_more db bytes more (Some f) h =
     (omega (arith, h.0, length-append bytes more), h.1, h.2, head_with db h.2 f bytes h.3 h.4 more h.0, h.4)
 
 -- an incomplete head, or a whole head before an incomplete body: there may be no memory for more
-pub lacks_after : (db bytes : List ℕ) (f : Framed) → IsPending db bytes (pending.Head f) → IsRefusalText db bytes (reply_text f.omits_body None)
-lacks_after db bytes f h = inr (f.omits_body, lacks_memory db h.2 f bytes h.3 h.4, refl)
+pub lacks_after : (db bytes : List ℕ) (f : Framed) → IsPending db bytes (pending.Head f) → (starved : Bool) → IsTrue starved
+    → IsRefusalText db starved bytes (reply_text f.omits_body None)
+lacks_after db bytes f h starved is = inr (f.omits_body, lacks_memory db h.2 f bytes h.3 h.4 starved, refl)
 
-pub lacks_within : (db bytes : List ℕ) → IsPartHead bytes → IsRefusalText db bytes (reply_text false None)
-lacks_within db bytes h = inr (false, inr (inl (h, refl)), refl)
+pub lacks_within : (db bytes : List ℕ) → IsPartHead bytes → (starved : Bool) → IsTrue starved → IsRefusalText db starved bytes (reply_text false None)
+lacks_within db bytes h starved is = inr (false, inl (is, h, refl), refl)
 
 pub waits_in_body : (db bytes : List ℕ) (f : Framed) → IsPending db bytes (pending.Head f) → length bytes < f.head_len + f.body_len → IsWaiting db bytes
 waits_in_body db bytes f h short = part_message db h.2 f bytes h.3 h.4 h.0 short
@@ -137,10 +138,10 @@ module _ {S : Type 0} (answers : S → Asked → Option Answer → S → Type 0)
   }
 
   -- a sequence of calls and then a session are a session
-  pub Converses-then : (old : S) (bytes : List ℕ) (calls : List Call) (text mid : List ℕ) (between : S) (written : List ℕ) (new : S) (end : SessionEnd)
-      → Serves answers db calls mid (exchange old bytes text between) → Converses answers db end (exchange between mid written new)
-      → Converses answers db end (exchange old bytes (text ++ written) new)
-  Converses-then old bytes calls text mid between written new end h k = record {
+  pub Converses-then : (old : S) (bytes : List ℕ) (calls : List Call) (text mid : List ℕ) (between : S) (written : List ℕ) (new : S) (starved : Bool) (end : SessionEnd)
+      → Serves answers db calls mid (exchange old bytes text between) → Converses answers db starved end (exchange between mid written new)
+      → Converses answers db starved end (exchange old bytes (text ++ written) new)
+  Converses-then old bytes calls text mid between written new starved end h k = record {
     calls = calls ++ k.calls;
     text = text ++ k.text;
     rest = k.rest;
@@ -152,40 +153,41 @@ module _ {S : Type 0} (answers : S → Asked → Option Answer → S → Type 0)
   }
 
   -- the last text on a connection
-  pub ends_at : (old : S) (bytes last : List ℕ) (new : S) (end : SessionEnd) → IsSessionEnd answers db end (exchange old bytes last new) → IsWritten end last last
-      → Converses answers db end (exchange old bytes last new)
-  ends_at old bytes last new end h all =
+  pub ends_at : (old : S) (bytes last : List ℕ) (new : S) (starved : Bool) (end : SessionEnd) → IsSessionEnd answers db starved end (exchange old bytes last new) → IsWritten end last last
+      → Converses answers db starved end (exchange old bytes last new)
+  ends_at old bytes last new starved end h all =
       record { calls = []; text = []; rest = bytes; mid = old; served = (refl, refl, refl); last = last; ended = h; written_is = all }
 
   -- what was said before, and then more
-  pub stands_then : (end : Option Ending) (a : S) (bytes : List ℕ) (calls : List Call) (text left : List ℕ) (b : S) (later : List ℕ) (c : S) (rest : List ℕ) (framed : Option Framed)
-      → Serves answers db calls left (exchange a bytes text b) → Stands answers db end (exchange b left later c) rest framed
-      → Stands answers db end (exchange a bytes (text ++ later) c) rest framed
-  stands_then None a bytes calls text left b later c rest framed h k = ((calls ++ k.0.0, Serves-then a bytes calls text left b k.0.0 later rest c h k.0.1), k.1)
-  stands_then (Some ending) a bytes calls text left b later c rest framed h k = Converses-then a bytes calls text left b later c (end_of ending) h k
+  pub stands_then : (starved : Bool) (end : Option Ending) (a : S) (bytes : List ℕ) (calls : List Call) (text left : List ℕ) (b : S) (later : List ℕ) (c : S) (rest : List ℕ)
+      (framed : Option Framed) → Serves answers db calls left (exchange a bytes text b) → Stands answers db starved end (exchange b left later c) rest framed
+      → Stands answers db starved end (exchange a bytes (text ++ later) c) rest framed
+  stands_then starved None a bytes calls text left b later c rest framed h k = ((calls ++ k.0.0, Serves-then a bytes calls text left b k.0.0 later rest c h k.0.1), k.1)
+  stands_then starved (Some ending) a bytes calls text left b later c rest framed h k = Converses-then a bytes calls text left b later c starved (end_of ending) h k
 
   -- more bytes were received
-  pub stands_more : (end : Option Ending) (a : S) (bytes text : List ℕ) (b : S) (left : List ℕ) (framed : Option Framed) (more : List ℕ) → (more ≡ []) ⊎ (end ≡ None)
-      → Stands answers db end (exchange a bytes text b) left framed → Stands answers db end (exchange a (bytes ++ more) text b) (left ++ more) framed
-  stands_more None a bytes text b left framed more goes_on h = ((h.0.0, Serves-append a bytes h.0.0 text left b more h.0.1), kept_more db left more framed h.1)
-  stands_more (Some ending) a bytes text b left framed more (inl none) h = rw (none, append-nil bytes) h
-  stands_more (Some ending) a bytes text b left framed more (inr is) h = cc
+  pub stands_more : (starved now : Bool) (end : Option Ending) (a : S) (bytes text : List ℕ) (b : S) (left : List ℕ) (framed : Option Framed) (more : List ℕ)
+      → ((more ≡ []) × (now ≡ starved)) ⊎ (end ≡ None)
+      → Stands answers db starved end (exchange a bytes text b) left framed → Stands answers db now end (exchange a (bytes ++ more) text b) (left ++ more) framed
+  stands_more starved now None a bytes text b left framed more goes_on h = ((h.0.0, Serves-append a bytes h.0.0 text left b more h.0.1), kept_more db left more framed h.1)
+  stands_more starved now (Some ending) a bytes text b left framed more (inl (none, same)) h = rw (none, append-nil bytes, same) h
+  stands_more starved now (Some ending) a bytes text b left framed more (inr is) h = cc
 
   -- a message was answered
-  answered_by : (closes : Bool) (old : S) (bytes rest : List ℕ) (new : S) (call : Call) (end : Option Ending) → call.message.closes ≡ closes → Begins db bytes call.message rest
-      → Handles answers call.message.request call.message.body (handling old call.reply new) → end ≡ cond closes (Some Closed) None
-      → Stands answers db end (exchange old bytes (call_text call) new) rest None
-  answered_by true old bytes rest new call end c h k e =
-      rw e (ends_at old bytes (call_text call) new session.Closed (call, c, record { after = rest; begins = h; handled = k; text_is = refl }) refl)
-  answered_by false old bytes rest new call end c h k e =
+  answered_by : (closes : Bool) (old : S) (bytes rest : List ℕ) (new : S) (call : Call) (starved : Bool) (end : Option Ending) → call.message.closes ≡ closes
+      → Begins db bytes call.message rest → Handles answers call.message.request call.message.body (handling old call.reply new) → end ≡ cond closes (Some Closed) None
+      → Stands answers db starved end (exchange old bytes (call_text call) new) rest None
+  answered_by true old bytes rest new call starved end c h k e =
+      rw e (ends_at old bytes (call_text call) new starved session.Closed (call, c, record { after = rest; begins = h; handled = k; text_is = refl }) refl)
+  answered_by false old bytes rest new call starved end c h k e =
       let one : Serves answers db (call ∷ []) rest (exchange old bytes (call_text call) new) = record { after = rest; later = []; mid = new; begins = h; stays = c; handled = k; text_is = sym (append-nil (call_text call)); others_follow = (refl, refl, refl) } in
       rw e ((call ∷ [], one), tt)
 
-  pub answered : (old : S) (bytes : List ℕ) (f : Framed) (reply : Option Answer) (new : S) (end : Option Ending) → IsPending db bytes (pending.Head f)
+  pub answered : (old : S) (bytes : List ℕ) (f : Framed) (reply : Option Answer) (new : S) (starved : Bool) (end : Option Ending) → IsPending db bytes (pending.Head f)
       → f.head_len + f.body_len ≤ length bytes
       → Handles answers (request_in f.request) (slice_range bytes f.head_len (f.head_len + f.body_len)) (handling old reply new)
       → end ≡ cond f.closes (Some Closed) None
-      → Stands answers db end (exchange old bytes (reply_text f.omits_body reply) new) (drop (f.head_len + f.body_len) bytes) None
-  answered old bytes f reply new end h whole handled e =
+      → Stands answers db starved end (exchange old bytes (reply_text f.omits_body reply) new) (drop (f.head_len + f.body_len) bytes) None
+  answered old bytes f reply new starved end h whole handled e =
       let message = message_of f (slice_range bytes f.head_len (f.head_len + f.body_len)) in
-      answered_by f.closes old bytes (drop (f.head_len + f.body_len) bytes) new (record { message = message; reply = reply }) end refl (whole_message db h.2 f bytes h.3 h.4 whole) handled e
+      answered_by f.closes old bytes (drop (f.head_len + f.body_len) bytes) new (record { message = message; reply = reply }) starved end refl (whole_message db h.2 f bytes h.3 h.4 whole) handled e

@@ -1,5 +1,5 @@
 -- If the states of a service stand for others, such as worlds, its sessions are sessions of the others.
-use Rattle.std.proofs.Common.{◌≡◌, ℕ, List, [], ◌∷◌, Option, Some, None, refl, inl, inr, subst, sym}
+use Rattle.std.proofs.Common.{◌≡◌, ℕ, Bool, List, [], ◌∷◌, Option, Some, None, refl, inl, inr, subst, sym}
 use Rattle.mg_engine.specs.Commands.{Asked, Answer, next}
 use Rattle.mg_engine.specs.Execution.{Answers}
 use Rattle.mg_engine.specs.World.{World}
@@ -66,22 +66,22 @@ module _ {S T : Type 0} (answers : S → Asked → Option Answer → S → Type 
       let again : IsLastCall shown db call (exchange w rest last one.0) = record { after = answered.after; begins = answered.begins; handled = one.1; text_is = answered.text_is } in
       (one.0, (call, closes, again), one.2)
 
-  ended : (end : SessionEnd) (old : S) (rest last : List ℕ) (new : S) (w : T) → IsSessionEnd answers db end (exchange old rest last new) → stands old w
-      → (u : T) × IsSessionEnd shown db end (exchange w rest last u) × stands new u
-  ended Eof old rest last new w h st = let k = nothing_said old rest last new w h.1 st in (k.0, (h.0, k.1), k.2)
-  ended ReadFault old rest last new w h st = let k = nothing_said old rest last new w h.1 st in (k.0, (h.0, k.1), k.2)
-  ended Limit old rest last new w h st = nothing_said old rest last new w h st
-  ended Closed old rest last new w h st = last_said old rest last new w h st
-  ended Refused old rest last new w h st = (w, (h.0, refl), same old new w h.1 st)
-  ended WriteFault old rest last new w (inl h) st = let k = nothing_said old rest last new w h st in (k.0, inl k.1, k.2)
-  ended WriteFault old rest last new w (inr (inl h)) st = let k = last_said old rest last new w h st in (k.0, inr (inl k.1), k.2)
-  ended WriteFault old rest last new w (inr (inr h)) st = (w, inr (inr (h.0, refl)), same old new w h.1 st)
+  ended : (starved : Bool) (end : SessionEnd) (old : S) (rest last : List ℕ) (new : S) (w : T) → IsSessionEnd answers db starved end (exchange old rest last new) → stands old w
+      → (u : T) × IsSessionEnd shown db starved end (exchange w rest last u) × stands new u
+  ended starved Eof old rest last new w h st = let k = nothing_said old rest last new w h.1 st in (k.0, (h.0, k.1, h.2), k.2)
+  ended starved ReadFault old rest last new w h st = let k = nothing_said old rest last new w h.1 st in (k.0, (h.0, k.1, h.2), k.2)
+  ended starved Limit old rest last new w h st = nothing_said old rest last new w h st
+  ended starved Closed old rest last new w h st = last_said old rest last new w h st
+  ended starved Refused old rest last new w h st = (w, (h.0, refl), same old new w h.1 st)
+  ended starved WriteFault old rest last new w (inl h) st = let k = nothing_said old rest last new w h st in (k.0, inl k.1, k.2)
+  ended starved WriteFault old rest last new w (inr (inl h)) st = let k = last_said old rest last new w h st in (k.0, inr (inl k.1), k.2)
+  ended starved WriteFault old rest last new w (inr (inr h)) st = (w, inr (inr (h.0, refl)), same old new w h.1 st)
 
-  pub converses : (old : S) (bytes written : List ℕ) (new : S) (end : SessionEnd) (w : T) → Converses answers db end (exchange old bytes written new) → stands old w
-      → (u : T) × Converses shown db end (exchange w bytes written u) × stands new u
-  converses old bytes written new end w h st =
+  pub converses : (old : S) (bytes written : List ℕ) (new : S) (starved : Bool) (end : SessionEnd) (w : T) → Converses answers db starved end (exchange old bytes written new)
+      → stands old w → (u : T) × Converses shown db starved end (exchange w bytes written u) × stands new u
+  converses old bytes written new starved end w h st =
       let first = served old bytes h.calls h.text h.rest h.mid w h.served st in
-      let last = ended end h.mid h.rest h.last new first.0 h.ended first.2 in (
+      let last = ended starved end h.mid h.rest h.last new first.0 h.ended first.2 in (
         last.0,
         record { calls = h.calls; text = h.text; rest = h.rest; mid = first.0; served = first.1; last = h.last; ended = last.1; written_is = h.written_is },
         last.2,

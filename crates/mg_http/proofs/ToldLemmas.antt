@@ -1,8 +1,7 @@
 -- What is told of a connection stays true when it answers, receives and sends.
 use Rattle.std.proofs.Common.{◌≡◌, ◌⊎◌, ℕ, ◌+◌, ◌≤◌, List, [], ◌∷◌, ◌++◌, length, drop, Option, Some, None, refl, sym, ap, ◌∙◌, append_assoc, append-nil, arith, length-append, inl, inr, cond, Bool, true, false}
-use Rattle.std.specs.Prelude.{slice_range}
-use Rattle.mg_engine.specs.Commands.{Asked, Answer, refused}
-use Rattle.mg_engine.specs.declared.refusal.Refusal.TheVariants.{OutOfMemory}
+use Rattle.std.specs.Prelude.{slice_range, IsTrue, IsFalse}
+use Rattle.mg_engine.specs.Commands.{Asked, Answer}
 use Rattle.mg_http.specs.declared.request.head.Framed.{Framed}
 use Rattle.mg_http.specs.declared.request.head.Pending.TheVariants as pending
 use Rattle.mg_http.specs.declared.sessions.SessionEnd.{SessionEnd}
@@ -10,9 +9,9 @@ use Rattle.mg_http.specs.declared.sessions.SessionEnd.TheVariants as session
 use Rattle.mg_http.specs.declared.sessions.connection.Connection.{Connection}
 use Rattle.mg_http.specs.declared.sessions.connection.Ending.{Ending}
 use Rattle.mg_http.specs.declared.sessions.connection.Ending.TheVariants.{Closed, Refused, Limit}
-use Rattle.mg_http.specs.Connection.{unanswered, received, sent, waiting, said, end_of, IsKept, Stands, progress, Counts, Told, AnswersMet, ToldMet, IsReady, IsQuiet, Runs, Transfers, Rests, EndsBy}
+use Rattle.mg_http.specs.Connection.{unanswered, received, sent, waiting, said, end_of, IsKept, Stands, progress, Counts, Told, AnswersMet, ToldMet, IsReady, IsQuiet, Runs, Transfers, GoesOnUnlessStarved, Rests, EndsBy}
 use Rattle.mg_http.specs.Message.{IsWaiting}
-use Rattle.mg_http.specs.Reply.{text_of, reply_text}
+use Rattle.mg_http.specs.Reply.{reply_text}
 use Rattle.mg_http.specs.Session.{Handles, IsRefusalText, IsSessionEnd, IsWritten, Converses}
 use Rattle.mg_http.specs.Steps.{request_in, IsPending}
 use Rattle.mg_http.specs.Transcript.{IsAtLimit}
@@ -32,32 +31,34 @@ counts_more (Some Refused) n m left more bytes is k = tt
 counts_more (Some Limit) n m left more bytes is k = omega (arith, is, k, length-append bytes more)
 
 -- a connection that waited, or ended for want of memory, rests
-pub rests_wait : (d e : Connection) (text : List ℕ) → (e ≡ d) ⊎ ((e ≡ record d { output = e.output; end = Some Refused }) × (waiting e ≡ waiting d ++ text))
-    → IsWaiting d.db.now (unanswered d) → Rests e
-rests_wait d e text (inl went) h = rw went (λ goes_on room. h)
-rests_wait d e text (inr (only, said)) h = λ goes_on room. absurd (some_none Refused (sym (ap (λ (x : Connection). x.end) only) ∙ goes_on))
+pub rests_wait : (omits_body : Bool) (d e : Connection) → GoesOnUnlessStarved omits_body d e → IsWaiting d.db.now (unanswered d) → Rests e
+rests_wait omits_body d e (inl (fed, went)) h = rw went (λ goes_on room. (h, fed))
+rests_wait omits_body d e (inr (starved, only, said)) h = λ goes_on room. absurd (some_none Refused (sym (ap (λ (x : Connection). x.end) only) ∙ goes_on))
 
--- all that was received is answered, and all answers are sent
+-- all that was received is answered, all answers are sent, and the last read got memory: this one, or the one before it
 pub paused : (c d : Connection) (more : List ℕ) → Transfers c d more → length more ≡ 0 → c.end ≡ None → waiting c ≡ [] → waiting d ≡ [] → Rests c
-    → (d.end ≡ None) × (waiting d ≡ []) × IsWaiting d.db.now (unanswered d)
-paused c d [] moved none is sent_before sent_now rests =
-    (moved.end ∙ is, sent_now, rw (moved.db, moved.left, append-nil (unanswered c)) (rests is (room_if_sent c.output sent_before)))
-paused c d (x ∷ more) moved none is sent_before sent_now rests = absurd (omega (arith, none))
+    → IsFalse d.is_starved ⊎ (d.is_starved ≡ c.is_starved) → (d.end ≡ None) × (waiting d ≡ []) × IsWaiting d.db.now (unanswered d) × IsFalse d.is_starved
+paused c d [] moved none is sent_before sent_now rests fed =
+    let was = rests is (room_if_sent c.output sent_before) in
+    let now : IsFalse d.is_starved = elim fed [ inl is ↦ is | inr same ↦ same ∙ was.1 ] in
+    (moved.end ∙ is, sent_now, rw (moved.db, moved.left, append-nil (unanswered c)) was.0, now)
+paused c d (x ∷ more) moved none is sent_before sent_now rests fed = absurd (omega (arith, none))
 
 module _ {S : Type 0} (answers : S → Asked → Option Answer → S → Type 0) where
   -- a text was said, and then the connection goes on or has ended
   runs_to : (c d : Connection) (s t : S) (text : List ℕ) (end : Option Ending) → d.end ≡ end → waiting d ≡ waiting c ++ text
-      → Stands answers c.db.now end (exchange s (unanswered c) text t) (unanswered d) d.framed → Counts end (progress c) (progress d) → Runs answers c s d t
+      → Stands answers c.db.now d.is_starved end (exchange s (unanswered c) text t) (unanswered d) d.framed → Counts end (progress c) (progress d) → Runs answers c s d t
   runs_to c d s t text end is waits stands counts = record { text = text; waits = waits; stands = rw is stands; counts = rw is counts }
 
   -- the connection ends with a last text
-  pub runs_out : (c d : Connection) (s : S) (text : List ℕ) → d.end ≡ Some Refused → waiting d ≡ waiting c ++ text → IsRefusalText c.db.now (unanswered c) text
-      → Runs answers c s d s
-  runs_out c d s text is waits refuses = runs_to c d s s text (Some Refused) is waits (ends_at answers c.db.now s (unanswered c) text s session.Refused (refuses, refl) refl) tt
+  pub runs_out : (c d : Connection) (s : S) (text : List ℕ) → d.end ≡ Some Refused → waiting d ≡ waiting c ++ text
+      → IsRefusalText c.db.now d.is_starved (unanswered c) text → Runs answers c s d s
+  runs_out c d s text is waits refuses =
+      runs_to c d s s text (Some Refused) is waits (ends_at answers c.db.now s (unanswered c) text s d.is_starved session.Refused (refuses, refl) refl) tt
 
   pub runs_to_limit : (c d : Connection) (s : S) → d.end ≡ Some Limit → waiting d ≡ waiting c → 4294967295 ≤ c.messages → Runs answers c s d s
   runs_to_limit c d s is waits many =
-      runs_to c d s s [] (Some Limit) is (waits ∙ sym (append-nil (waiting c))) (ends_at answers c.db.now s (unanswered c) [] s session.Limit (refl, refl) refl) (omega (arith, many))
+      runs_to c d s s [] (Some Limit) is (waits ∙ sym (append-nil (waiting c))) (ends_at answers c.db.now s (unanswered c) [] s d.is_starved session.Limit (refl, refl) refl) (omega (arith, many))
 
   -- the connection read a head, and goes on
   runs_on : (c d : Connection) (s : S) → d.end ≡ None → waiting d ≡ waiting c → unanswered d ≡ unanswered c → progress d ≡ progress c
@@ -67,11 +68,12 @@ module _ {S : Type 0} (answers : S → Asked → Option Answer → S → Type 0)
 
   -- the connection waits for more bytes, or ends for want of memory
   pub runs_wait : (c d e : Connection) (s : S) (omits_body : Bool) → d.end ≡ None → waiting d ≡ waiting c → unanswered d ≡ unanswered c → progress d ≡ progress c
-      → IsKept c.db.now (unanswered d) d.framed → IsRefusalText c.db.now (unanswered c) (reply_text omits_body None)
-      → (e ≡ d) ⊎ ((e ≡ record d { output = e.output; end = Some Refused }) × (waiting e ≡ waiting d ++ text_of omits_body (refused OutOfMemory))) → Runs answers c s e s
-  runs_wait c d e s omits_body is waits same count kept lacks (inl went) = rw went (runs_on c d s is waits same count kept)
-  runs_wait c d e s omits_body is waits same count kept lacks (inr (only, text)) =
-      runs_out c e s (reply_text omits_body None) (ap (λ (x : Connection). x.end) only) (text ∙ ap (λ (w : List ℕ). w ++ reply_text omits_body None) waits) lacks
+      → IsKept c.db.now (unanswered d) d.framed → ((starved : Bool) → IsTrue starved → IsRefusalText c.db.now starved (unanswered c) (reply_text omits_body None))
+      → GoesOnUnlessStarved omits_body d e → Runs answers c s e s
+  runs_wait c d e s omits_body is waits same count kept lacks (inl (fed, went)) = rw went (runs_on c d s is waits same count kept)
+  runs_wait c d e s omits_body is waits same count kept lacks (inr (starved, only, text)) =
+      runs_out c e s (reply_text omits_body None) (ap (λ (x : Connection). x.end) only) (text ∙ ap (λ (w : List ℕ). w ++ reply_text omits_body None) waits)
+      (lacks e.is_starved (ap (λ (x : Connection). x.is_starved) only ∙ starved))
 
   -- the connection answered a message
   pub runs_answer : (c d : Connection) (s t : S) (f : Framed) (reply : Option Answer) (end : ℕ) → IsPending c.db.now (unanswered c) (pending.Head f) → end ≡ f.head_len + f.body_len
@@ -82,13 +84,13 @@ module _ {S : Type 0} (answers : S → Asked → Option Answer → S → Type 0)
       record {
         text = reply_text f.omits_body reply;
         waits = waits;
-        stands = rw (left, none, is) (answered answers c.db.now s (unanswered c) f reply t d.end head long (rw is at handled) closes);
+        stands = rw (left, none, is) (answered answers c.db.now s (unanswered c) f reply t d.is_starved d.end head long (rw is at handled) closes);
         counts = rw (messages, left, is) (answered_counts c.db.now (unanswered c) f c.messages d.end head long closes);
       }
 
   -- what such a connection said, if it goes on or has ended
   runs_at : (end : Option Ending) (a b : Connection) (s t : S) → b.end ≡ end → (h : Runs answers a s b t)
-      → Stands answers a.db.now end (exchange s (unanswered a) h.text t) (unanswered b) b.framed × Counts end (progress a) (progress b)
+      → Stands answers a.db.now b.is_starved end (exchange s (unanswered a) h.text t) (unanswered b) b.framed × Counts end (progress a) (progress b)
   runs_at end a b s t is h = (rw is at h.stands, rw is at h.counts)
 
   -- some answers, and then others
@@ -98,7 +100,7 @@ module _ {S : Type 0} (answers : S → Asked → Option Answer → S → Type 0)
       record {
         text = h.text ++ k.text;
         waits = k.waits ∙ ap (λ (x : List ℕ). x ++ k.text) h.waits ∙ append_assoc (waiting a) h.text k.text;
-        stands = stands_then answers a.db.now c.end s (unanswered a) first.0.0.0 h.text (unanswered b) t k.text u (unanswered c) c.framed first.0.0.1 (rw db at k.stands);
+        stands = stands_then answers a.db.now c.is_starved c.end s (unanswered a) first.0.0.0 h.text (unanswered b) t k.text u (unanswered c) c.framed first.0.0.1 (rw db at k.stands);
         counts = counts_then c.end (progress a) (progress b) (progress c) first.1 k.counts;
       }
 
@@ -118,7 +120,7 @@ module _ {S : Type 0} (answers : S → Asked → Option Answer → S → Type 0)
   -- ---- from the beginning
 
   told_at : (end : Option Ending) (from : S) (c : Connection) (now : S) → c.end ≡ end → Told answers from c now
-      → Stands answers c.db.now end (exchange from (received c) (said c) now) (unanswered c) c.framed × Counts end (length (received c)) (progress c)
+      → Stands answers c.db.now c.is_starved end (exchange from (received c) (said c) now) (unanswered c) c.framed × Counts end (length (received c)) (progress c)
   told_at end from c now is h = (rw is at h.stands, rw is at h.counts)
 
   pub told_ready : (from : S) (c : Connection) (now : S) → c.end ≡ None → Told answers from c now → IsReady c
@@ -134,7 +136,7 @@ module _ {S : Type 0} (answers : S → Asked → Option Answer → S → Type 0)
   pub told_runs : (from : S) (c : Connection) (s : S) (d : Connection) (t : S) → c.end ≡ None → IsQuiet c d → Told answers from c s → Runs answers c s d t → Told answers from d t
   told_runs from c s d t goes_on quiet h k =
       let first = told_at None from c s goes_on h in
-      let all = stands_then answers c.db.now d.end from (received c) first.0.0.0 (said c) (unanswered c) s k.text t (unanswered d) d.framed first.0.0.1 k.stands in
+      let all = stands_then answers c.db.now d.is_starved d.end from (received c) first.0.0.0 (said c) (unanswered c) s k.text t (unanswered d) d.framed first.0.0.1 k.stands in
       record {
         stands = rw (quiet.db, quiet.reads, quiet.writes, k.waits, ← append_assoc (sent c) (waiting c) k.text) all;
         counts = rw quiet.reads (counts_then d.end (length (received c)) (progress c) (progress d) first.1 k.counts);
@@ -142,51 +144,51 @@ module _ {S : Type 0} (answers : S → Asked → Option Answer → S → Type 0)
 
   pub told_transfers : (from : S) (c : Connection) (s : S) (d : Connection) (more : List ℕ) → Transfers c d more → Told answers from c s → Told answers from d s
   told_transfers from c s d more t h = record {
-    stands = rw (t.db, t.end, t.framed, t.came, t.left, t.says) (stands_more answers c.db.now c.end from (received c) (said c) s (unanswered c) c.framed more t.goes_on h.stands);
+    stands = rw (t.db, t.end, t.framed, t.came, t.left, t.says) (stands_more answers c.db.now c.is_starved d.is_starved c.end from (received c) (said c) s (unanswered c) c.framed more t.goes_on h.stands);
     counts = rw (t.end, t.messages, t.came, t.left) (counts_more c.end (length (received c)) c.messages (unanswered c) more (received c) refl h.counts);
   }
 
   -- ---- how a session ends
 
   -- the session wrote all that was said, or only what was sent of it
-  all_sent : (bytes : List ℕ) (from s : S) (db : List ℕ) (end : SessionEnd) (gone waits : List ℕ) → waits ≡ [] → Converses answers db end (exchange from bytes (gone ++ waits) s)
-      → Converses answers db end (exchange from bytes gone s)
-  all_sent bytes from s db end gone waits none h = rw (none, append-nil gone) at h
+  all_sent : (bytes : List ℕ) (from s : S) (db : List ℕ) (starved : Bool) (end : SessionEnd) (gone waits : List ℕ) → waits ≡ []
+      → Converses answers db starved end (exchange from bytes (gone ++ waits) s) → Converses answers db starved end (exchange from bytes gone s)
+  all_sent bytes from s db starved end gone waits none h = rw (none, append-nil gone) at h
 
-  cut_off : (bytes : List ℕ) (from s : S) (db : List ℕ) (ending : Ending) (gone waits : List ℕ) → Converses answers db (end_of ending) (exchange from bytes (gone ++ waits) s)
-      → Converses answers db session.WriteFault (exchange from bytes gone s)
-  cut_off bytes from s db Closed gone waits h =
+  cut_off : (bytes : List ℕ) (from s : S) (db : List ℕ) (starved : Bool) (ending : Ending) (gone waits : List ℕ)
+      → Converses answers db starved (end_of ending) (exchange from bytes (gone ++ waits) s) → Converses answers db starved session.WriteFault (exchange from bytes gone s)
+  cut_off bytes from s db starved Closed gone waits h =
       record { calls = h.calls; text = h.text; rest = h.rest; mid = h.mid; served = h.served; last = h.last; ended = inr (inl h.ended); written_is = (waits, h.written_is) }
-  cut_off bytes from s db Refused gone waits h =
+  cut_off bytes from s db starved Refused gone waits h =
       record { calls = h.calls; text = h.text; rest = h.rest; mid = h.mid; served = h.served; last = h.last; ended = inr (inr h.ended); written_is = (waits, h.written_is) }
-  cut_off bytes from s db Limit gone waits h =
+  cut_off bytes from s db starved Limit gone waits h =
       record { calls = h.calls; text = h.text; rest = h.rest; mid = h.mid; served = h.served; last = h.last; ended = inl h.ended; written_is = (waits, h.written_is) }
 
   -- the session stopped while the connection went on
   module _ (from : S) (c : Connection) (s : S) (h : Told answers from c s) where
-    at_end : (end : Option Ending) → c.end ≡ end → Stands answers c.db.now end (exchange from (received c) (said c) s) (unanswered c) c.framed
+    at_end : (end : Option Ending) → c.end ≡ end → Stands answers c.db.now c.is_starved end (exchange from (received c) (said c) s) (unanswered c) c.framed
     at_end end is = (told_at end from c s is h).0
 
-    as_ended : (ending : Ending) → c.end ≡ Some ending → waiting c ≡ [] → Converses answers c.db.now (end_of ending) (exchange from (received c) (sent c) s)
-    as_ended ending is none = all_sent (received c) from s c.db.now (end_of ending) (sent c) (waiting c) none (at_end (Some ending) is)
+    as_ended : (ending : Ending) → c.end ≡ Some ending → waiting c ≡ [] → Converses answers c.db.now c.is_starved (end_of ending) (exchange from (received c) (sent c) s)
+    as_ended ending is none = all_sent (received c) from s c.db.now c.is_starved (end_of ending) (sent c) (waiting c) none (at_end (Some ending) is)
 
     whole : waiting c ≡ [] → sent c ≡ said c ++ []
     whole none = sym (append-nil (sent c)) ∙ ap (λ (w : List ℕ). sent c ++ w) (sym none) ∙ sym (append-nil (said c))
 
     -- the connection went on
-    at_rest : (end : SessionEnd) → c.end ≡ None → IsSessionEnd answers c.db.now end (exchange s (unanswered c) [] s) → IsWritten end (sent c) (said c ++ [])
-        → Converses answers c.db.now end (exchange from (received c) (sent c) s)
+    at_rest : (end : SessionEnd) → c.end ≡ None → IsSessionEnd answers c.db.now c.is_starved end (exchange s (unanswered c) [] s) → IsWritten end (sent c) (said c ++ [])
+        → Converses answers c.db.now c.is_starved end (exchange from (received c) (sent c) s)
     at_rest end is ended written =
         let run = at_end None is in
         record { calls = run.0.0; text = said c; rest = unanswered c; mid = s; served = run.0.1; last = []; ended = ended; written_is = written }
 
-    by_fault : (end : Option Ending) → c.end ≡ end → Converses answers c.db.now session.WriteFault (exchange from (received c) (sent c) s)
+    by_fault : (end : Option Ending) → c.end ≡ end → Converses answers c.db.now c.is_starved session.WriteFault (exchange from (received c) (sent c) s)
     by_fault None is = at_rest session.WriteFault is (inl (refl, refl)) (waiting c, sym (append-nil (said c)))
-    by_fault (Some ending) is = cut_off (received c) from s c.db.now ending (sent c) (waiting c) (at_end (Some ending) is)
+    by_fault (Some ending) is = cut_off (received c) from s c.db.now c.is_starved ending (sent c) (waiting c) (at_end (Some ending) is)
 
-    pub session_ends : (end : SessionEnd) → EndsBy c end → Converses answers c.db.now end (exchange from (received c) (sent c) s)
-    session_ends session.Eof e = at_rest session.Eof e.0 (e.2, (refl, refl)) (whole e.1)
-    session_ends session.ReadFault e = at_rest session.ReadFault e.0 (e.2, (refl, refl)) (whole e.1)
+    pub session_ends : (end : SessionEnd) → EndsBy c end → Converses answers c.db.now c.is_starved end (exchange from (received c) (sent c) s)
+    session_ends session.Eof e = at_rest session.Eof e.0 (e.2, (refl, refl), e.3) (whole e.1)
+    session_ends session.ReadFault e = at_rest session.ReadFault e.0 (e.2, (refl, refl), e.3) (whole e.1)
     session_ends session.WriteFault e = by_fault c.end refl
     session_ends session.Closed e = as_ended Closed e.0 e.1
     session_ends session.Refused e = as_ended Refused e.0 e.1
@@ -223,18 +225,18 @@ module _ {S : Type 0} (meets : S → S → Type 0) (same : (a : S) → meets a a
   answers_met : (old : S) (c : Asked) (r : Option Answer) (new w : S) → answers old c r new → meets w old → (u : S) × AnswersMet meets answers w c r u × meets u new
   answers_met old c r new w a m = (new, (old, m, a), same new)
 
-  stands_met : (db : List ℕ) (end : Option Ending) (s : S) (bytes text : List ℕ) (t : S) (left : List ℕ) (framed : Option Framed) (w : S)
-      → Stands answers db end (exchange s bytes text t) left framed → meets w s
-      → (u : S) × Stands (AnswersMet meets answers) db end (exchange w bytes text u) left framed × meets u t
-  stands_met db None s bytes text t left framed w h m =
+  stands_met : (db : List ℕ) (starved : Bool) (end : Option Ending) (s : S) (bytes text : List ℕ) (t : S) (left : List ℕ) (framed : Option Framed) (w : S)
+      → Stands answers db starved end (exchange s bytes text t) left framed → meets w s
+      → (u : S) × Stands (AnswersMet meets answers) db starved end (exchange w bytes text u) left framed × meets u t
+  stands_met db starved None s bytes text t left framed w h m =
       let k = served answers (AnswersMet meets answers) (λ x y. meets y x) db answers_met s bytes h.0.0 text left t w h.0.1 m in
       (k.0, ((h.0.0, k.1), h.1), k.2)
-  stands_met db (Some ending) s bytes text t left framed w h m =
-      converses answers (AnswersMet meets answers) (λ x y. meets y x) db answers_met s bytes text t (end_of ending) w h m
+  stands_met db starved (Some ending) s bytes text t left framed w h m =
+      converses answers (AnswersMet meets answers) (λ x y. meets y x) db answers_met s bytes text t starved (end_of ending) w h m
 
   runs_met : (c : Connection) (s : S) (d : Connection) (t w : S) → Runs answers c s d t → meets w s → (u : S) × Runs (AnswersMet meets answers) c w d u × meets u t
   runs_met c s d t w h m =
-      let k = stands_met c.db.now d.end s (unanswered c) h.text t (unanswered d) d.framed w h.stands m in
+      let k = stands_met c.db.now d.is_starved d.end s (unanswered c) h.text t (unanswered d) d.framed w h.stands m in
       (k.0, record { text = h.text; waits = h.waits; stands = k.1; counts = h.counts }, k.2)
 
   -- the connection answered at a service that the client may meet

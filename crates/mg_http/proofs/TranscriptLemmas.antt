@@ -77,11 +77,11 @@ module _ {S : Type 0} (answers : S → Asked → Option Answer → S → Type 0)
       }
 
   -- the last text is a transcript of the rest of the bytes
-  last_speaks : (end : SessionEnd) (w : S) (rest last : List ℕ) (u : S) (e : IsSessionEnd answers db end (exchange w rest last u))
-      → EndsAmply answers db end (exchange w rest last u) e → WroteAll end → IsTranscript answers db (passage w rest last)
-  last_speaks Eof w rest last u e ample all = ([], inl (e.0, e.1.0))
-  last_speaks ReadFault w rest last u e ample all = ([], inl (e.0, e.1.0))
-  last_speaks Closed w rest last u (call, closes, answered) ample all = (
+  last_speaks : (starved : Bool) (end : SessionEnd) (w : S) (rest last : List ℕ) (u : S) (e : IsSessionEnd answers db starved end (exchange w rest last u))
+      → EndsAmply answers db starved end (exchange w rest last u) e → WroteAll end → IsTranscript answers db (passage w rest last)
+  last_speaks starved Eof w rest last u e ample all = ([], inl (e.0, e.1.0))
+  last_speaks starved ReadFault w rest last u e ample all = ([], inl (e.0, e.1.0))
+  last_speaks starved Closed w rest last u (call, closes, answered) ample all = (
     call.message ∷ [],
     record {
       after = answered.after;
@@ -94,28 +94,28 @@ module _ {S : Type 0} (answers : S → Asked → Option Answer → S → Type 0)
       others_follow = inl (closes, refl, refl);
     },
   )
-  last_speaks Refused w rest last u (inl r, same) ample all = ([], inr r)
-  last_speaks Refused w rest last u (inr r, same) ample all = absurd ample
-  last_speaks WriteFault w rest last u e ample all = absurd all
-  last_speaks Limit w rest last u e ample all = absurd all
+  last_speaks starved Refused w rest last u (inl r, same) ample all = ([], inr r)
+  last_speaks starved Refused w rest last u (inr r, same) ample all = absurd ample
+  last_speaks starved WriteFault w rest last u e ample all = absurd all
+  last_speaks starved Limit w rest last u e ample all = absurd all
 
-  pub whole_transcript : (w : S) (bytes written : List ℕ) (u : S) (end : SessionEnd) (t : Converses answers db end (exchange w bytes written u))
-      → IsAmple answers db end (exchange w bytes written u) t → WroteAll end → IsTranscript answers db (passage w bytes written)
-  whole_transcript w bytes written u end t ample all =
-      let last = last_speaks end t.mid t.rest t.last u t.ended ample.last all in
+  pub whole_transcript : (w : S) (bytes written : List ℕ) (u : S) (starved : Bool) (end : SessionEnd) (t : Converses answers db starved end (exchange w bytes written u))
+      → IsAmple answers db starved end (exchange w bytes written u) t → WroteAll end → IsTranscript answers db (passage w bytes written)
+  whole_transcript w bytes written u starved end t ample all =
+      let last = last_speaks starved end t.mid t.rest t.last u t.ended ample.last all in
       let ms : List Message = messages_in t.calls ++ last.0 in
       (ms, subst (λ (x : List ℕ). IsTranscriptOf answers db ms (passage w bytes x)) (sym (all_written end written (t.text ++ t.last) all t.written_is)) (speaks w bytes t.calls t.text t.rest t.mid last.0 t.last t.served ample.calls last.1))
 
-  pub holds : (read wrote : List ℕ → Type 0) (old new : S) (end : SessionEnd) (bytes written : List ℕ)
-      → read bytes → wrote written → Converses answers db end (exchange old bytes written new) → IsAtLimit end bytes
-      → WroteTranscript answers db (course read wrote old new end)
-  holds read wrote old new end bytes written input output conversation limit = record {
+  pub holds : (read wrote : List ℕ → Type 0) (starved : Bool) (old new : S) (end : SessionEnd) (bytes written : List ℕ)
+      → read bytes → wrote written → Converses answers db starved end (exchange old bytes written new) → IsAtLimit end bytes
+      → WroteTranscript answers db (course read wrote starved old new end)
+  holds read wrote starved old new end bytes written input output conversation limit = record {
     bytes = bytes;
     written = written;
     input = input;
     output = output;
     conversation = conversation;
-    transcript = whole_transcript old bytes written new end conversation;
+    transcript = whole_transcript old bytes written new starved end conversation;
     limit = limit;
   }
 
@@ -172,34 +172,34 @@ module _ (db : List ℕ) where
   nothing_begins last later e = (later, rw e refl)
 
   -- the last text is a prefix of each transcript of the rest of the bytes, whatever bytes follow
-  last_begins : (end : SessionEnd) (w : World) (rest last : List ℕ) (u : World) (e : IsSessionEnd AtWorld db end (exchange w rest last u))
-      → EndsAmply AtWorld db end (exchange w rest last u) e → (more : List ℕ) (ms : List Message) (later : List ℕ) → IsTranscriptOf AtWorld db ms (passage w (rest ++ more) later) → IsBytePrefix last later
-  last_begins Eof w rest last u e ample more ms later k = nothing_begins last later e.1.0
-  last_begins ReadFault w rest last u e ample more ms later k = nothing_begins last later e.1.0
-  last_begins Limit w rest last u e ample more ms later k = nothing_begins last later e.0
-  last_begins Closed w rest last u e ample more ms later k = call_begins w rest more e.0 last u ms later e.2 ample k
-  last_begins Refused w rest last u (inl r, same) ample more ms later k = refusal_begins w rest more last ms later r k
-  last_begins Refused w rest last u (inr r, same) ample more ms later k = absurd ample
-  last_begins WriteFault w rest last u (inl nothing) ample more ms later k = nothing_begins last later nothing.0
-  last_begins WriteFault w rest last u (inr (inl e)) ample more ms later k = call_begins w rest more e.0 last u ms later e.2 ample k
-  last_begins WriteFault w rest last u (inr (inr (inl r, same))) ample more ms later k = refusal_begins w rest more last ms later r k
-  last_begins WriteFault w rest last u (inr (inr (inr r, same))) ample more ms later k = absurd ample
+  last_begins : (starved : Bool) (end : SessionEnd) (w : World) (rest last : List ℕ) (u : World) (e : IsSessionEnd AtWorld db starved end (exchange w rest last u))
+      → EndsAmply AtWorld db starved end (exchange w rest last u) e → (more : List ℕ) (ms : List Message) (later : List ℕ) → IsTranscriptOf AtWorld db ms (passage w (rest ++ more) later) → IsBytePrefix last later
+  last_begins starved Eof w rest last u e ample more ms later k = nothing_begins last later e.1.0
+  last_begins starved ReadFault w rest last u e ample more ms later k = nothing_begins last later e.1.0
+  last_begins starved Limit w rest last u e ample more ms later k = nothing_begins last later e.0
+  last_begins starved Closed w rest last u e ample more ms later k = call_begins w rest more e.0 last u ms later e.2 ample k
+  last_begins starved Refused w rest last u (inl r, same) ample more ms later k = refusal_begins w rest more last ms later r k
+  last_begins starved Refused w rest last u (inr r, same) ample more ms later k = absurd ample
+  last_begins starved WriteFault w rest last u (inl nothing) ample more ms later k = nothing_begins last later nothing.0
+  last_begins starved WriteFault w rest last u (inr (inl e)) ample more ms later k = call_begins w rest more e.0 last u ms later e.2 ample k
+  last_begins starved WriteFault w rest last u (inr (inr (inl r, same))) ample more ms later k = refusal_begins w rest more last ms later r k
+  last_begins starved WriteFault w rest last u (inr (inr (inr r, same))) ample more ms later k = absurd ample
 
-  pub prefix_of_transcript : (w : World) (bytes written : List ℕ) (u : World) (end : SessionEnd) (t : ConversesAt db end (exchange w bytes written u))
-      → IsAmple AtWorld db end (exchange w bytes written u) t → (more text : List ℕ) → IsTranscriptAt db w (bytes ++ more) text → IsBytePrefix written text
-  prefix_of_transcript w bytes written u end t ample more text k =
+  pub prefix_of_transcript : (w : World) (bytes written : List ℕ) (u : World) (starved : Bool) (end : SessionEnd) (t : ConversesAt db starved end (exchange w bytes written u))
+      → IsAmple AtWorld db starved end (exchange w bytes written u) t → (more text : List ℕ) → IsTranscriptAt db w (bytes ++ more) text → IsBytePrefix written text
+  prefix_of_transcript w bytes written u starved end t ample more text k =
       let served = Serves-append AtWorld db w bytes t.calls t.text t.rest t.mid more t.served in
       let left = follows w (bytes ++ more) t.calls t.text (t.rest ++ more) t.mid k.0 text served ample.calls k.1 in
-      let last = last_begins end t.mid t.rest t.last u t.ended ample.last more left.0 left.1 left.3 in
+      let last = last_begins starved end t.mid t.rest t.last u t.ended ample.last more left.0 left.1 left.3 in
       let whole : IsBytePrefix (t.text ++ t.last) text = (last.0, append_assoc t.text t.last last.0 ∙ ap (λ (x : List ℕ). t.text ++ x) last.1 ∙ sym left.2) in
       prefix_of_prefix written (t.text ++ t.last) text (prefix_written end written (t.text ++ t.last) t.written_is) whole
 
-  pub holds_at : (read wrote : List ℕ → Type 0) (w u : World) (end : SessionEnd) (bytes written : List ℕ)
-      → read bytes → wrote written → ConversesAt db end (exchange w bytes written u) → IsAtLimit end bytes → WroteTranscriptAt db (course read wrote w u end)
+  pub holds_at : (read wrote : List ℕ → Type 0) (starved : Bool) (w u : World) (end : SessionEnd) (bytes written : List ℕ) → read bytes → wrote written
+      → ConversesAt db starved end (exchange w bytes written u) → IsAtLimit end bytes → WroteTranscriptAt db (course read wrote starved w u end)
   unfolding holds
-  holds_at read wrote w u end bytes written input output conversation limit = record {
-    session = holds AtWorld db read wrote w u end bytes written input output conversation limit;
-    prefix = prefix_of_transcript w bytes written u end conversation;
+  holds_at read wrote starved w u end bytes written input output conversation limit = record {
+    session = holds AtWorld db read wrote starved w u end bytes written input output conversation limit;
+    prefix = prefix_of_transcript w bytes written u starved end conversation;
   }
 
   -- ---- every input has a transcript

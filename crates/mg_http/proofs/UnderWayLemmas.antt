@@ -73,8 +73,8 @@ module _ {S : Type 0} (answers : S → Asked → Option Answer → S → Type 0)
   -- the session ends
   pub ends_so : (r r' w w' : Option (List ℕ)) (c : Connection) (s : S) (reads : ℕ) (end : SessionEnd) → IsUnderWay answers db r r' w w' from c s reads → EndsBy c end
       → (end ≡ session.Limit → (c.end ≡ Some Limit) ⊎ (4294967295 ≤ length (received c)))
-      → WroteTranscript answers db (course (Consumes r r') (Appends w w') from s end)
+      → WroteTranscript answers db (course (Consumes r r') (Appends w w') c.is_starved from s end)
   ends_so r r' w w' c s reads end h ends limit =
-      let all : Converses answers db end (exchange from (received c) (sent c) s) =
-      subst (λ (d : List ℕ). Converses answers d end (exchange from (received c) (sent c) s)) h.db_is (session_ends answers from c s h.told end ends) in
-      holds answers db (Consumes r r') (Appends w w') from s end (received c) (sent c) h.input h.output all (limit_reached answers from c s h.told end limit)
+      let all : Converses answers db c.is_starved end (exchange from (received c) (sent c) s) =
+      subst (λ (d : List ℕ). Converses answers d c.is_starved end (exchange from (received c) (sent c) s)) h.db_is (session_ends answers from c s h.told end ends) in
+      holds answers db (Consumes r r') (Appends w w') c.is_starved from s end (received c) (sent c) h.input h.output all (limit_reached answers from c s h.told end limit)

@@ -1,5 +1,5 @@
 -- Transcripts from a world: the text of the replies that the definitions give to some input, from this world on (RFC 9112).
-use Rattle.std.specs.Prelude.{◌≡◌, ℕ, List, ◌++◌, Option}
+use Rattle.std.specs.Prelude.{◌≡◌, ℕ, Bool, List, ◌++◌, Option}
 use Rattle.mg_engine.specs.Commands.{Asked, Answer}
 use Rattle.mg_engine.specs.Execution.{Answers}
 use Rattle.mg_engine.specs.World.{World}
@@ -13,8 +13,8 @@ abbrev pub AtWorld : World → Asked → Option Answer → World → Type 0
 AtWorld w command reply u = Answers w command reply (λ v. v ≡ u)
 
 -- a session of the database db had this end and this exchange, from one world to another
-abbrev pub ConversesAt : List ℕ → SessionEnd → Exchange World → Type 0
-ConversesAt db end all = Converses AtWorld db end all
+abbrev pub ConversesAt : List ℕ → Bool → SessionEnd → Exchange World → Type 0
+ConversesAt db starved end all = Converses AtWorld db starved end all
 
 -- the text is a transcript of the bytes, from the world w
 abbrev pub IsTranscriptAt : List ℕ → World → List ℕ → List ℕ → Type 0
@@ -25,5 +25,5 @@ IsTranscriptAt db w bytes text = IsTranscript AtWorld db (record { from = w; byt
 pub record WroteTranscriptAt (db : List ℕ) (course : Course World) : Type 0 where
   pub session : WroteTranscript AtWorld db course
   pub prefix
-      : IsAmple AtWorld db course.end (record { old = course.old; bytes = session.bytes; text = session.written; new = course.new }) session.conversation
+      : IsAmple AtWorld db course.starved course.end (record { old = course.old; bytes = session.bytes; text = session.written; new = course.new }) session.conversation
       → (more text : List ℕ) → IsTranscriptAt db course.old (session.bytes ++ more) text → IsBytePrefix session.written text

@@ -1,8 +1,9 @@
 -- What was received and said on a connection, and how it goes on. `answers old command reply new`: in the state `old`, the service may
 -- answer the command with the reply (`None`: out of memory), and is then in the state `new`.
-use Rattle.std.specs.Prelude.{◌≡◌, ◌⊎◌, ⊤, ℕ, ◌+◌, ◌*◌, ◌-◌, ◌^◌, ◌≤◌, min, List, [], ◌++◌, length, take, drop, Option, Some, None, vec_len}
+use Rattle.std.specs.Prelude.{◌≡◌, ◌⊎◌, ⊤, Bool, IsTrue, IsFalse, ℕ, ◌+◌, ◌*◌, ◌-◌, ◌^◌, ◌≤◌, min, List, [], ◌++◌, length, take, drop, Option, Some, None, vec_len}
 use Rattle.std.specs.List.{flat_map}
-use Rattle.mg_engine.specs.Commands.{Asked, Answer}
+use Rattle.mg_engine.specs.Commands.{Asked, Answer, refused}
+use Rattle.mg_engine.specs.declared.refusal.Refusal.TheVariants.{OutOfMemory}
 use Rattle.mg_http.specs.declared.request.head.Framed.{Framed}
 use Rattle.mg_http.specs.declared.request.head.Pending.TheVariants as pending
 use Rattle.mg_http.specs.declared.sessions.SessionEnd.{SessionEnd}
@@ -12,6 +13,7 @@ use Rattle.mg_http.specs.declared.sessions.connection.Ending.{Ending}
 use Rattle.mg_http.specs.declared.sessions.connection.Ending.TheVariants.{Closed, Refused, Limit}
 use Rattle.mg_http.specs.Message.{IsWaiting}
 use Rattle.mg_http.specs.Output.{left_in, HasRoom, output_room}
+use Rattle.mg_http.specs.Reply.{text_of}
 use Rattle.mg_http.specs.Session.{Call, Exchange, Serves, Converses}
 use Rattle.mg_http.specs.Steps.{IsPending}
 
@@ -47,11 +49,11 @@ IsKept db bytes None = ⊤
 IsKept db bytes (Some f) = IsPending db bytes (pending.Head f)
 
 -- The bytes were answered by the text: all but those that are left, which may begin with a head that was read; or the text is the last one
--- on the connection.
+-- on the connection. `starved`: the last read got no memory.
 abbrev pub Stands
-    : {S : Type 0} → (S → Asked → Option Answer → S → Type 0) → List ℕ → Option Ending → Exchange S → List ℕ → Option Framed → Type 0
-Stands answers db None all left framed = ((calls : List Call) × Serves answers db calls left all) × IsKept db left framed
-Stands answers db (Some ending) all left framed = Converses answers db (end_of ending) all
+    : {S : Type 0} → (S → Asked → Option Answer → S → Type 0) → List ℕ → Bool → Option Ending → Exchange S → List ℕ → Option Framed → Type 0
+Stands answers db starved None all left framed = ((calls : List Call) × Serves answers db calls left all) × IsKept db left framed
+Stands answers db starved (Some ending) all left framed = Converses answers db starved (end_of ending) all
 
 -- the number of messages that were answered, and of the bytes that are not
 abbrev pub progress : Connection → ℕ
@@ -66,7 +68,7 @@ Counts (Some Limit) old new = 4294967295 ≤ old
 
 -- what was said on the connection is right for what was received, from the first state of the service to the second one
 pub record Told {S : Type 0} (answers : S → Asked → Option Answer → S → Type 0) (from : S) (c : Connection) (now : S) : Type 0 where
-  pub stands : Stands answers c.db.now c.end (record { old = from; bytes = received c; text = said c; new = now }) (unanswered c) c.framed
+  pub stands : Stands answers c.db.now c.is_starved c.end (record { old = from; bytes = received c; text = said c; new = now }) (unanswered c) c.framed
   pub counts : Counts c.end (length (received c)) (progress c)
 
 -- The service answers the command in a state that a client may meet after the state `old`.
@@ -88,6 +90,7 @@ IsReady c = (c.end ≡ None) × IsKept c.db.now (unanswered c) c.framed
 -- nothing was received or sent
 pub record IsQuiet (old new : Connection) : Type 0 where
   pub db : new.db ≡ old.db
+  pub starved : new.is_starved ≡ old.is_starved
   pub reads : new.reads ≡ old.reads
   pub writes : new.writes ≡ old.writes
 
@@ -96,10 +99,11 @@ pub record Runs
     {S : Type 0} (answers : S → Asked → Option Answer → S → Type 0) (old : Connection) (from : S) (new : Connection) (now : S) : Type 0 where
   pub text : List ℕ
   pub waits : waiting new ≡ waiting old ++ text
-  pub stands : Stands answers old.db.now new.end (record { old = from; bytes = unanswered old; text = text; new = now }) (unanswered new) new.framed
+  pub stands : Stands answers old.db.now new.is_starved new.end (record { old = from; bytes = unanswered old; text = text; new = now }) (unanswered new) new.framed
   pub counts : Counts new.end (progress old) (progress new)
 
--- These bytes were received, or bytes that had waited were sent; nothing was answered. A connection that has ended receives none.
+-- These bytes were received, or bytes that had waited were sent; nothing was answered. A connection that has ended receives none, and is not
+-- starved later.
 pub record Transfers (old new : Connection) (more : List ℕ) : Type 0 where
   pub db : new.db ≡ old.db
   pub end : new.end ≡ old.end
@@ -108,11 +112,19 @@ pub record Transfers (old new : Connection) (more : List ℕ) : Type 0 where
   pub says : said new ≡ said old
   pub came : received new ≡ received old ++ more
   pub left : unanswered new ≡ unanswered old ++ more
-  pub goes_on : (more ≡ []) ⊎ (old.end ≡ None)
+  pub goes_on : ((more ≡ []) × (new.is_starved ≡ old.is_starved)) ⊎ (old.end ≡ None)
 
--- a connection that goes on and has room has answered each whole message that was received, and refused what cannot become one
+-- The connection goes on as it is; or its last read got no memory, and it says so and ends.
+abbrev pub GoesOnUnlessStarved : Bool → Connection → Connection → Type 0
+GoesOnUnlessStarved omits_body old new =
+    (IsFalse old.is_starved × (new ≡ old))
+    ⊎ (IsTrue old.is_starved × (new ≡ record old { output = new.output; end = Some Refused })
+    × (waiting new ≡ waiting old ++ text_of omits_body (refused OutOfMemory)))
+
+-- A connection that goes on and has room has answered each whole message that was received, and refused what cannot become one. It has said
+-- so if its last read got no memory.
 abbrev pub Rests : Connection → Type 0
-Rests c = c.end ≡ None → HasRoom c.output → IsWaiting c.db.now (unanswered c)
+Rests c = c.end ≡ None → HasRoom c.output → IsWaiting c.db.now (unanswered c) × IsFalse c.is_starved
 
 -- the connection has ended, and all of it was sent
 abbrev pub IsDone : Connection → Type 0
@@ -132,8 +144,8 @@ held_by c = min (room_of c) (2 ^ 64 - 1)
 -- A session over this connection may end in this way: at a write fault; or if all is sent and the connection has ended, the session may not
 -- read again, or there is nothing more to read before a message is whole.
 abbrev pub EndsBy : Connection → SessionEnd → Type 0
-EndsBy c session.Eof = (c.end ≡ None) × (waiting c ≡ []) × IsWaiting c.db.now (unanswered c)
-EndsBy c session.ReadFault = (c.end ≡ None) × (waiting c ≡ []) × IsWaiting c.db.now (unanswered c)
+EndsBy c session.Eof = (c.end ≡ None) × (waiting c ≡ []) × IsWaiting c.db.now (unanswered c) × IsFalse c.is_starved
+EndsBy c session.ReadFault = (c.end ≡ None) × (waiting c ≡ []) × IsWaiting c.db.now (unanswered c) × IsFalse c.is_starved
 EndsBy c session.WriteFault = ⊤
 EndsBy c session.Closed = (c.end ≡ Some Closed) × (waiting c ≡ [])
 EndsBy c session.Refused = (c.end ≡ Some Refused) × (waiting c ≡ [])

@@ -1,6 +1,6 @@
 -- What a session writes for what it reads (RFC 9112, section 9). `answers old command reply new`: in the state `old`, the service may
 -- answer the command with the reply (`None`: out of memory), and is then in the state `new`.
-use Rattle.std.specs.Prelude.{◌≡◌, ◌⊎◌, ℕ, Bool, true, false, List, [], ◌∷◌, ◌++◌, Option, Some, None}
+use Rattle.std.specs.Prelude.{◌≡◌, ◌⊎◌, ℕ, Bool, true, false, IsTrue, IsFalse, List, [], ◌∷◌, ◌++◌, Option, Some, None}
 use Rattle.httparse.specs.Grammar.{RequestHead}
 use Rattle.mg_value.specs.Value.{Value}
 use Rattle.mg_value.specs.Text.{Reads}
@@ -95,19 +95,18 @@ pub record IsLastCall
   pub handled : IsHandled answers all.old call all.new
   pub text_is : all.text ≡ call_text call
 
--- Memory ran out for the session's buffers, or for a message: before its first byte, within its head, or after its head (for its target or
--- the bytes of its body). After a complete head the method decides whether the reply omits its body; before that, it does not.
-abbrev pub LacksMemory : List ℕ → Bool → Type 0
-LacksMemory bytes omits_body =
-    ((bytes ≡ []) × (omits_body ≡ false))
-    ⊎ ((IsPartHead bytes × (omits_body ≡ false))
-    ⊎ ((h : RequestHead) × (after : List ℕ) × HasHead bytes h after × (omits_body ≡ omits_body_of h)))
+-- Memory ran out before a message was answered. Where no head has come, it ran out for a read (`starved`: the last read got no memory). After
+-- a complete head, it ran out for the target or for a read of the body; there the method decides whether the reply omits its body.
+abbrev pub LacksMemory : Bool → List ℕ → Bool → Type 0
+LacksMemory starved bytes omits_body =
+    (IsTrue starved × IsPartHead bytes × (omits_body ≡ false))
+    ⊎ ((h : RequestHead) × (after : List ℕ) × HasHead bytes h after × (omits_body ≡ omits_body_of h))
 
 -- the text is a reply that refuses the bytes, or that says that memory ran out
-abbrev pub IsRefusalText : List ℕ → List ℕ → List ℕ → Type 0
-IsRefusalText db bytes text =
+abbrev pub IsRefusalText : List ℕ → Bool → List ℕ → List ℕ → Type 0
+IsRefusalText db starved bytes text =
     ((refusal : Refusal) × (omits_body : Bool) × IsRefused db bytes refusal omits_body × (text ≡ text_of omits_body (refused refusal)))
-    ⊎ ((omits_body : Bool) × LacksMemory bytes omits_body × (text ≡ reply_text omits_body None))
+    ⊎ ((omits_body : Bool) × LacksMemory starved bytes omits_body × (text ≡ reply_text omits_body None))
 
 -- nothing was left to say, and the service stayed as it was
 abbrev pub SaysNothing : {S : Type 0} → Exchange S → Type 0
@@ -118,18 +117,18 @@ abbrev pub SaysLast : {S : Type 0} → (S → Asked → Option Answer → S → 
 SaysLast answers db last = (call : Call) × (call.message.closes ≡ true) × IsLastCall answers db call last
 
 -- the text refuses the bytes, or says that memory ran out, and the service stayed as it was
-abbrev pub SaysRefusal : {S : Type 0} → List ℕ → Exchange S → Type 0
-SaysRefusal db last = IsRefusalText db last.bytes last.text × (last.new ≡ last.old)
+abbrev pub SaysRefusal : {S : Type 0} → List ℕ → Bool → Exchange S → Type 0
+SaysRefusal db starved last = IsRefusalText db starved last.bytes last.text × (last.new ≡ last.old)
 
 -- A session may end in this way if `last` is its exchange after the messages that did not end it: the bytes that were left, and the text
--- that it had to write for them. A write may fail whatever that text is.
-abbrev pub IsSessionEnd : {S : Type 0} → (S → Asked → Option Answer → S → Type 0) → List ℕ → SessionEnd → Exchange S → Type 0
-IsSessionEnd answers db Eof last = IsWaiting db last.bytes × SaysNothing last
-IsSessionEnd answers db ReadFault last = IsWaiting db last.bytes × SaysNothing last
-IsSessionEnd answers db Limit last = SaysNothing last
-IsSessionEnd answers db Closed last = SaysLast answers db last
-IsSessionEnd answers db Refused last = SaysRefusal db last
-IsSessionEnd answers db WriteFault last = SaysNothing last ⊎ (SaysLast answers db last ⊎ SaysRefusal db last)
+-- that it had to write for them. `starved`: its last read got no memory. A write may fail whatever that text is.
+abbrev pub IsSessionEnd : {S : Type 0} → (S → Asked → Option Answer → S → Type 0) → List ℕ → Bool → SessionEnd → Exchange S → Type 0
+IsSessionEnd answers db starved Eof last = IsWaiting db last.bytes × SaysNothing last × IsFalse starved
+IsSessionEnd answers db starved ReadFault last = IsWaiting db last.bytes × SaysNothing last × IsFalse starved
+IsSessionEnd answers db starved Limit last = SaysNothing last
+IsSessionEnd answers db starved Closed last = SaysLast answers db last
+IsSessionEnd answers db starved Refused last = SaysRefusal db starved last
+IsSessionEnd answers db starved WriteFault last = SaysNothing last ⊎ (SaysLast answers db last ⊎ SaysRefusal db starved last)
 
 -- a session that ended in this way wrote all that it had to write; at a write fault, a prefix of it
 abbrev pub IsWritten : SessionEnd → List ℕ → List ℕ → Type 0
@@ -140,16 +139,17 @@ IsWritten Closed written whole = written ≡ whole
 IsWritten Refused written whole = written ≡ whole
 IsWritten WriteFault written whole = IsBytePrefix written whole
 
--- A session read these bytes, wrote this text, took the service from the old state to the new one, and had this end. First it served the
--- `calls`, whose replies are `text`, and which left the state `mid`. `rest` are the bytes that it read after them, and `last` is what it
--- had to write for those.
+-- A session read these bytes, wrote this text, took the service from the old state to the new one, and had this end. `starved`: its last
+-- read got no memory. First it served the `calls`, whose replies are `text`, and which left the state `mid`. `rest` are the bytes that it
+-- read after them, and `last` is what it had to write for those.
 pub record Converses
-    {S : Type 0} (answers : S → Asked → Option Answer → S → Type 0) (db : List ℕ) (end : SessionEnd) (all : Exchange S) : Type 0 where
+    {S : Type 0} (answers : S → Asked → Option Answer → S → Type 0) (db : List ℕ) (starved : Bool) (end : SessionEnd) (all : Exchange S)
+    : Type 0 where
   pub calls : List Call
   pub text : List ℕ
   pub rest : List ℕ
   pub mid : S
   pub served : Serves answers db calls rest (record { old = all.old; bytes = all.bytes; text = text; new = mid })
   pub last : List ℕ
-  pub ended : IsSessionEnd answers db end (record { old = mid; bytes = rest; text = last; new = all.new })
+  pub ended : IsSessionEnd answers db starved end (record { old = mid; bytes = rest; text = last; new = all.new })
   pub written_is : IsWritten end all.text (text ++ last)

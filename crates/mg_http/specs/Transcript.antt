@@ -55,25 +55,25 @@ IsAnswered call = (answer : Answer) × (call.reply ≡ Some answer)
 
 -- the reply with which the session ends, if there is one, is not out of memory
 abbrev pub EndsAmply
-    : {S : Type 0} (answers : S → Asked → Option Answer → S → Type 0) (db : List ℕ) (end : SessionEnd) (last : Exchange S)
-    → IsSessionEnd answers db end last → Type 0
-EndsAmply answers db Eof last ended = ⊤
-EndsAmply answers db ReadFault last ended = ⊤
-EndsAmply answers db Limit last ended = ⊤
-EndsAmply answers db Closed last ended = IsAnswered ended.0
-EndsAmply answers db Refused last (inl refused, same) = ⊤
-EndsAmply answers db Refused last (inr lacking, same) = ⊥
-EndsAmply answers db WriteFault last (inl nothing) = ⊤
-EndsAmply answers db WriteFault last (inr (inl answered)) = IsAnswered answered.0
-EndsAmply answers db WriteFault last (inr (inr (inl refused, same))) = ⊤
-EndsAmply answers db WriteFault last (inr (inr (inr lacking, same))) = ⊥
+    : {S : Type 0} (answers : S → Asked → Option Answer → S → Type 0) (db : List ℕ) (starved : Bool) (end : SessionEnd) (last : Exchange S)
+    → IsSessionEnd answers db starved end last → Type 0
+EndsAmply answers db starved Eof last ended = ⊤
+EndsAmply answers db starved ReadFault last ended = ⊤
+EndsAmply answers db starved Limit last ended = ⊤
+EndsAmply answers db starved Closed last ended = IsAnswered ended.0
+EndsAmply answers db starved Refused last (inl refused, same) = ⊤
+EndsAmply answers db starved Refused last (inr lacking, same) = ⊥
+EndsAmply answers db starved WriteFault last (inl nothing) = ⊤
+EndsAmply answers db starved WriteFault last (inr (inl answered)) = IsAnswered answered.0
+EndsAmply answers db starved WriteFault last (inr (inr (inl refused, same))) = ⊤
+EndsAmply answers db starved WriteFault last (inr (inr (inr lacking, same))) = ⊥
 
 -- memory sufficed for a session: none of its replies is out of memory
 pub record IsAmple
-    {S : Type 0} (answers : S → Asked → Option Answer → S → Type 0) (db : List ℕ) (end : SessionEnd) (all : Exchange S)
-    (conversation : Converses answers db end all) : Type 0 where
+    {S : Type 0} (answers : S → Asked → Option Answer → S → Type 0) (db : List ℕ) (starved : Bool) (end : SessionEnd) (all : Exchange S)
+    (conversation : Converses answers db starved end all) : Type 0 where
   pub calls : All IsAnswered conversation.calls
-  pub last : EndsAmply answers db end (record { old = conversation.mid; bytes = conversation.rest; text = conversation.last; new = all.new }) conversation.ended
+  pub last : EndsAmply answers db starved end (record { old = conversation.mid; bytes = conversation.rest; text = conversation.last; new = all.new }) conversation.ended
 
 -- the session wrote all that it had to write: it ended neither at a write fault nor at its limit
 abbrev pub WroteAll : SessionEnd → Type 0
@@ -94,11 +94,12 @@ IsAtLimit Refused bytes = ⊤
 IsAtLimit ReadFault bytes = ⊤
 IsAtLimit WriteFault bytes = ⊤
 
--- A session over an input and an output: which bytes were read, which were written, the states of the service before and after, and how
--- the session ended.
+-- A session over an input and an output: which bytes were read, which were written, whether the last read got no memory (`starved`), the
+-- states of the service before and after, and how the session ended.
 pub record Course (S : Type 0) : Type 1 where
   pub read : List ℕ → Type 0
   pub wrote : List ℕ → Type 0
+  pub starved : Bool
   pub old : S
   pub new : S
   pub end : SessionEnd
@@ -111,7 +112,7 @@ pub record WroteTranscript
   pub written : List ℕ
   pub input : course.read bytes
   pub output : course.wrote written
-  pub conversation : Converses answers db course.end (record { old = course.old; bytes = bytes; text = written; new = course.new })
-  pub transcript : IsAmple answers db course.end (record { old = course.old; bytes = bytes; text = written; new = course.new }) conversation
+  pub conversation : Converses answers db course.starved course.end (record { old = course.old; bytes = bytes; text = written; new = course.new })
+  pub transcript : IsAmple answers db course.starved course.end (record { old = course.old; bytes = bytes; text = written; new = course.new }) conversation
       → WroteAll course.end → IsTranscript answers db (record { from = course.old; bytes = bytes; text = written })
   pub limit : IsAtLimit course.end bytes

@@ -1,5 +1,5 @@
 //! Laws of messages and of transcripts.
-ghost use Rattle.std.specs.Prelude.{◌≡◌, ℕ, List, ◌++◌};
+ghost use Rattle.std.specs.Prelude.{◌≡◌, ℕ, Bool, List, ◌++◌};
 ghost use Rattle.mg_engine.specs.World.{World};
 ghost use Rattle.mg_http.specs.Device.{IsBytePrefix};
 ghost use Rattle.mg_http.specs.Message.{Message, Begins};
@@ -24,13 +24,13 @@ pub fn any_cut()
 /// A session for which memory sufficed writes a transcript of the bytes that it read, unless it ended at a write fault or at its limit.
 /// However it ended, its text is a prefix of each transcript of these bytes and any bytes after them.
 pub fn sessions_write_transcripts()
-    ensures whole { (db : List ℕ) (end : SessionEnd) (all : Exchange World)
-        (conversation : ConversesAt db end all)
-        → IsAmple AtWorld db end all conversation → WroteAll end
+    ensures whole { (db : List ℕ) (starved : Bool) (end : SessionEnd) (all : Exchange World)
+        (conversation : ConversesAt db starved end all)
+        → IsAmple AtWorld db starved end all conversation → WroteAll end
         → IsTranscriptAt db all.old all.bytes all.text }
-    ensures prefix { (db : List ℕ) (end : SessionEnd) (all : Exchange World)
-        (conversation : ConversesAt db end all)
-        → IsAmple AtWorld db end all conversation
+    ensures prefix { (db : List ℕ) (starved : Bool) (end : SessionEnd) (all : Exchange World)
+        (conversation : ConversesAt db starved end all)
+        → IsAmple AtWorld db starved end all conversation
         → (more text : List ℕ) → IsTranscriptAt db all.old (all.bytes ++ more) text
         → IsBytePrefix all.text text }
 {}

@@ -1,7 +1,7 @@
 //! A session: reads messages and writes their replies, until it ends in one of six ways.
 ghost use Rattle.std.specs.Prelude.{◌≡◌, ◌↔◌, false, IsTrue};
 ghost use Rattle.std.specs.Io.KnownBytes.{Appends, Consumes, IsAtEnd};
-ghost use Rattle.mg_http.specs.Device.{inner_of, has_failed};
+ghost use Rattle.mg_http.specs.Device.{inner_of, has_failed, was_starved};
 ghost use Rattle.mg_http.specs.Transcript.{WroteTranscript};
 
 mod answer;
@@ -31,8 +31,8 @@ pub enum SessionEnd {
     Eof,
     /// The last message asked to close, or its version was 1.0; it is answered.
     Closed,
-    /// A head was refused or is incomplete after 16,384 bytes, the bytes can never become a head, or memory ran out for the bytes of a
-    /// message or for its target. The last reply gives the reason.
+    /// A head was refused or is incomplete after 16,384 bytes, the bytes can never become a head, or memory ran out for a read or for the
+    /// target of a message. The last reply gives the reason.
     Refused,
     /// The reader returned an error.
     ReadFault,
@@ -59,10 +59,12 @@ pub fn session<H: Wait + Threads + Sync, S: Service, R: Read, W: Write>(
     requires reading { has_failed reader.old ≡ false }
     requires writing { has_failed writer.old ≡ false }
 
-    // What was read, what was written, and how the two are related.
+    // What was read, what was written, and how the two are related. Where no head has come, the session says that it is out of memory only
+    // if its last read got none.
     ensures transcript { WroteTranscript S.answers db.now (record {
       read = Consumes (R.remaining (inner_of reader.old)) (R.remaining (inner_of reader.new));
       wrote = Appends (W.contents (inner_of writer.old)) (W.contents (inner_of writer.new));
+      starved = was_starved reader.new;
       old = service.old;
       new = service.new;
       end = result;
@@ -77,7 +79,10 @@ pub fn session<H: Wait + Threads + Sync, S: Service, R: Read, W: Write>(
         connection.run(rt, service);
         match exchange(&mut connection, reader, writer, &mut reads) {
             Ok(()) => {}
-            Err(end) => return end,
+            Err(end) => {
+                reader.starved = connection.is_starved;
+                return end;
+            }
         }
     }
     unreachable!()

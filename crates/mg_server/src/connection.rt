@@ -1,7 +1,7 @@
 //! One connection of an edge: its socket, its client, and its pace.
-ghost use Rattle.std.specs.Prelude.{◌≡◌, ◌+◌, min, true};
-ghost use Rattle.mg_server.specs.Connections.{IsAbout, IsPaced, talk_held};
-ghost use Rattle.mg_server.specs.Limits.{most_micros};
+ghost use Rattle.std.specs.Prelude.{◌≡◌, ◌+◌, min, true, IsTrue, IsFalse};
+ghost use Rattle.mg_server.specs.Connections.{IsAbout, IsPaced, is_quick, talk_held, tempo_after};
+ghost use Rattle.mg_server.specs.Limits.{is_same_phase, most_micros};
 ghost use Rattle.mg_server.specs.Visits.{HasVisited};
 ghost use Rattle.mg_server.specs.declared.connection.TheConstants.{MOST_DROPPED};
 
@@ -63,7 +63,11 @@ pub(crate) struct Connection<C, K> {
 
 impl<C: Drop, K: Drop> Connection<C, K> {
     /// Makes a connection with a new client.
-    pub(crate) fn new(stream: TcpStream, client: Client<C, K>, now: u64) -> Connection<C, K> {
+    pub(crate) fn new(stream: TcpStream, client: Client<C, K>, now: u64) -> Connection<C, K>
+        ensures talk { result.talk ≡ Talk.Serving client }
+        ensures pace { result.pace ≡ record { phase = Phase.Silent; began = now; stirred = now } }
+        ensures tempo { (result.tempo ≡ Tempo.New) × IsFalse result.is_awaited }
+    {
         Connection {
             stream,
             talk: Talk::Serving(client),
@@ -79,23 +83,29 @@ impl<C: Drop, K: Drop> Connection<C, K> {
     }
 
     /// When the connection is closed, unless it is visited before.
-    pub(crate) fn deadline(&self) -> u64 {
+    pub(crate) fn deadline(&self) -> u64
+        ensures { result ≡ min (self.now.pace.began + most_micros self.now.pace.phase) u64.MAX }
+    {
         self.pace.deadline()
     }
 
     /// Whether a reply waits for the client to read.
-    pub(crate) fn waits_to_write(&self) -> bool {
+    pub(crate) fn waits_to_write(&self) -> bool
+        ensures { result ≡ is_same_phase self.now.pace.phase Phase.Replying }
+    {
         self.pace.phase == Phase::Replying
     }
 
     /// Notes that a thread has the connection in hand: how long the client has paused.
-    pub(crate) fn begin(&mut self, now: u64) {
+    pub(crate) fn begin(&mut self, now: u64)
+        ensures { self.new ≡ record self.old { tempo = tempo_after self.old.pace self.old.tempo now } }
+    {
         if self.is_silent() {
             let is_short = now.saturating_sub(self.pace.stirred) <= SHORT_PAUSE_MICROS;
-            self.tempo = match self.tempo {
-                Tempo::New => Tempo::Slow,
-                Tempo::Quick | Tempo::Slow if is_short => Tempo::Quick,
-                Tempo::Quick | Tempo::Slow => Tempo::Slow,
+            self.tempo = if is_short && self.tempo != Tempo::New {
+                Tempo::Quick
+            } else {
+                Tempo::Slow
             };
         }
     }
@@ -115,13 +125,17 @@ impl<C: Drop, K: Drop> Connection<C, K> {
     }
 
     /// Whether the client is one that sends its next message soon.
-    pub(crate) fn is_quick(&self) -> bool {
+    pub(crate) fn is_quick(&self) -> bool
+        ensures { result ≡ is_quick self.now.tempo self.now.pace.phase }
+    {
         self.tempo == Tempo::Quick
             && (self.pace.phase == Phase::Silent || self.pace.phase == Phase::Receiving)
     }
 
     /// Whether no message has begun, and all replies are sent.
-    pub(crate) fn is_silent(&self) -> bool {
+    pub(crate) fn is_silent(&self) -> bool
+        ensures { result ≡ is_same_phase self.now.pace.phase Phase.Silent }
+    {
         self.pace.phase == Phase::Silent
     }
 
@@ -135,8 +149,11 @@ impl<C: Drop, K: Drop> Connection<C, K> {
         poll(&mut asked, most) == 0
     }
 
-    /// Waits for the client, for a millisecond at most. Whether something has come.
-    pub(crate) fn wait(&mut self) -> bool {
+    /// Waits for the client, for a millisecond at most. Whether something has come; if not, the client is slow.
+    pub(crate) fn wait(&mut self) -> bool
+        ensures came { IsTrue result → self.new ≡ self.old }
+        ensures silent { IsFalse result → self.new ≡ record self.old { tempo = Tempo.Slow } }
+    {
         let is_silent = self.stays_silent(WAIT_MILLIS);
         if is_silent {
             self.tempo = Tempo::Slow;
@@ -145,7 +162,9 @@ impl<C: Drop, K: Drop> Connection<C, K> {
     }
 
     /// Whether nothing has begun and nothing has come, as if the event was of bytes that are answered. A visit would take memory to read.
-    pub(crate) fn has_nothing(&self) -> bool {
+    pub(crate) fn has_nothing(&self) -> bool
+        ensures { IsTrue result → is_same_phase self.now.pace.phase Phase.Silent ≡ true }
+    {
         self.is_silent() && self.stays_silent(0)
     }
 }

@@ -1,5 +1,6 @@
 //! The sockets of a listener and of its connections, and the table that says where each connection is.
-ghost use Rattle.std.specs.Prelude.{◌≡◌, ◌≢◌, ◌↔◌, IsNone};
+ghost use Rattle.std.specs.Prelude.{◌≡◌, ◌≢◌, ◌↔◌, false, IsNone};
+ghost use Rattle.mg_server.specs.Connections.{IsAdmitted};
 
 use crate::connection::Connection;
 use crate::faults::AfterFault;
@@ -112,17 +113,27 @@ impl<C: Drop, K: Drop> Edge<C, K> {
         Some(u64::try_from(micros).unwrap_or(u64::MAX))
     }
 
-    /// Admits a new connection, which waits. Closes it if memory runs out or it cannot be watched. Only the thread that watches calls
-    /// this, so nobody looks for its events meanwhile.
+    /// Admits a new connection. Only the thread that watches calls this, so nobody looks for its events meanwhile.
     pub(crate) fn admit<H: Wait>(&self, rt: &H, connection: Connection<C, K>, now: u64) {
+        self.admit_to(&mut self.table.lock(rt), connection, now);
+    }
+
+    /// Admits a new connection to the table, where it waits. Closes it if memory runs out or it cannot be watched.
+    fn admit_to(&self, table: &mut Table<Connection<C, K>>, connection: Connection<C, K>, now: u64)
+        ensures entries { IsAdmitted table.old.entries table.new.entries table.old.entries.vacant_key table.old.admitted connection now }
+        ensures queue { table.new.queue.items ≡ table.old.queue.items }
+    {
         let deadline = connection.deadline();
         let descriptor = connection.descriptor();
-        let mut table = self.table.lock(rt);
         let token = Token(table.next_key());
         let source = &mut SourceFd(&descriptor);
         let interest = Interest::READABLE;
-        if self.registry.register(source, token, interest).is_ok() {
-            drop(table.admit(connection, now, deadline));
+        if self.registry.register(source, token, interest).is_err() {
+            return;
+        }
+        match table.admit(connection, now, deadline) {
+            Ok(()) => {}
+            Err(closed) => drop(closed),
         }
     }
 
@@ -136,11 +147,12 @@ impl<C: Drop, K: Drop> Edge<C, K> {
         self.table.lock(rt).next_queued()
     }
 
-    /// Has the poll watch the socket of a connection that is given back, for writing too if a reply waits. If a thread waited for the client,
-    /// what came meanwhile is an event at once. `false`: the system refused.
-    fn watch_again(&self, hand: &mut Hand<Connection<C, K>>) -> bool {
-        let token = Token(hand.key());
-        let connection = hand.item_mut();
+    /// Has the poll watch the socket of a connection that is given back under this key, for writing too if a reply waits. If a thread waited
+    /// for the client, what came meanwhile is an event at once. `false`: the system refused.
+    fn watch_again(&self, key: usize, connection: &mut Connection<C, K>) -> bool
+        ensures { connection.new ≡ record connection.old { is_awaited = false } }
+    {
+        let token = Token(key);
         let descriptor: RawFd = connection.descriptor();
         let source = &mut SourceFd(&descriptor);
         let writes = connection.waits_to_write();
@@ -160,7 +172,9 @@ impl<C: Drop, K: Drop> Edge<C, K> {
 
     /// Has this thread alone wait for the client of a connection in hand: what comes does not wake the thread that watches. `false`: the
     /// system refused.
-    pub(crate) fn wait_for(&self, connection: &mut Connection<C, K>) -> bool {
+    pub(crate) fn wait_for(&self, connection: &mut Connection<C, K>) -> bool
+        ensures { connection.new ≡ record connection.old { is_awaited = result } }
+    {
         let descriptor: RawFd = connection.descriptor();
         let source = &mut SourceFd(&descriptor);
         connection.is_awaited = self.registry.deregister(source).is_ok();
@@ -182,7 +196,7 @@ impl<C: Drop, K: Drop> Edge<C, K> {
         stay: Stay,
     ) {
         let mut hand = hand;
-        if !self.watch_again(&mut hand) {
+        if !self.watch_again(hand.key(), hand.item_mut()) {
             return self.close(rt, hand);
         }
         let back = self.table.lock(rt).give_back(hand, rest, stay);

@@ -1,5 +1,5 @@
 //! A connection as a value: it reads and writes nothing by itself.
-ghost use Rattle.std.specs.Prelude.{◌≡◌, ◌⊎◌, ◌↔◌, ◌<◌, ◌≤◌, ◌+◌, ◌-◌, List, ℕ, [], ◌++◌, length, take, drop, None, Some, IfOk, OnErr, MatchOption, IsTrue, IsFalse};
+ghost use Rattle.std.specs.Prelude.{◌≡◌, ◌↔◌, ◌<◌, ◌≤◌, ◌+◌, ◌-◌, List, ℕ, [], ◌++◌, length, take, drop, None, Some, IfOk, OnErr, MatchOption, MatchResult, IsTrue, IsFalse};
 ghost use Rattle.std.specs.Io.KnownBytes.{Consumes, IsAtEnd, Keeps};
 
 use crate::request::{Framed, Pending};
@@ -51,8 +51,8 @@ pub struct Connection<'a> {
     /// The head that the unanswered bytes begin with, if it was read.
     framed: Option<Framed>,
     pub(crate) output: Output,
-    /// There was no memory for a read.
-    is_starved: bool,
+    /// There was no memory for the last read.
+    pub(crate) is_starved: bool,
     pub(crate) end: Option<Ending>,
     /// The number of messages answered.
     messages: u32,
@@ -65,7 +65,7 @@ pub struct Connection<'a> {
 impl<'a> Connection<'a> {
     ghost use Rattle.mg_engine.specs.Commands.{refused};
     ghost use Rattle.mg_http.specs.declared.request.head.Pending.TheVariants as pending;
-    ghost use Rattle.mg_http.specs.Connection.{unanswered, received, sent, waiting, IsKept, IsReady, IsQuiet, Runs, Transfers, Rests, IsIdle, held_by};
+    ghost use Rattle.mg_http.specs.Connection.{unanswered, received, sent, waiting, IsKept, IsReady, IsQuiet, Runs, Transfers, GoesOnUnlessStarved, Rests, IsIdle, held_by};
     ghost use Rattle.mg_http.specs.Output.{left_of_last, HasRoom};
     ghost use Rattle.mg_http.specs.Reply.{text_of};
     ghost use Rattle.mg_http.specs.Steps.{IsPending};
@@ -78,6 +78,7 @@ impl<'a> Connection<'a> {
         ensures waits { waiting result ≡ [] }
         ensures input { unanswered result ≡ [] }
         ensures state { (result.end ≡ None) × (result.framed ≡ None) × (result.messages ≡ 0) }
+        ensures starved { IsFalse result.is_starved }
     {
         Connection {
             alloc,
@@ -103,6 +104,8 @@ impl<'a> Connection<'a> {
             × Consumes (R.remaining reader.old) (R.remaining reader.new) more × Transfers self.old self.new more)) }
         ensures end { IfOk result (λ read. MatchOption read (Unit {0}) (λ n. n ≡ 0 → IsAtEnd (R.remaining reader.new))) }
         ensures err { OnErr result (Transfers self.old self.new [] × Keeps (R.remaining reader.old) (R.remaining reader.new)) }
+        ensures starved { MatchResult result (λ read. MatchOption read (IsTrue self.new.is_starved) (λ n. IsFalse self.new.is_starved))
+            (λ e. self.new.is_starved ≡ self.old.is_starved) }
         ensures transfers { (more : List ℕ) × Transfers self.old self.new more }
         ensures sent { sent self.new ≡ sent self.old }
         ensures waits { waiting self.new ≡ waiting self.old }
@@ -115,6 +118,7 @@ impl<'a> Connection<'a> {
         match self.input.receive(self.alloc, reader) {
             Ok(Some(count)) => {
                 self.reads = self.reads.and(&self.input.bytes, &len);
+                self.is_starved = false;
                 Ok(Some(count))
             }
             Ok(None) => {
@@ -166,12 +170,10 @@ impl<'a> Connection<'a> {
         self.end = Some(Ending::Refused);
     }
 
-    /// Waits for more bytes. If there was no memory for them, says so instead, and ends the connection.
+    /// Waits for more bytes. If there was no memory for the last read, says so instead, and ends the connection.
     fn wait(&mut self, omits_body: bool)
         requires { left_of_last self.old.output ≡ [] }
-        ensures { (self.new ≡ self.old)
-            ⊎ ((self.new ≡ record self.old { output = self.new.output; end = Some Ending.Refused })
-            × (waiting self.new ≡ waiting self.old ++ text_of omits_body (refused Refusal.OutOfMemory))) }
+        ensures { GoesOnUnlessStarved omits_body self.old self.new }
     {
         if self.is_starved {
             self.refuse(Refusal::OutOfMemory, omits_body);

@@ -2,7 +2,7 @@ ghost use Rattle.std.specs.Prelude.{◌≡◌, ◌↔◌, false, IsTrue};
 ghost use Rattle.std.specs.Io.KnownBytes.{Appends, Consumes, IsAtEnd};
 ghost use Rattle.mg_engine.specs.Stands.{Stands};
 ghost use Rattle.mg_engine.specs.World.{World};
-ghost use Rattle.mg_http.specs.Device.{inner_of, has_failed};
+ghost use Rattle.mg_http.specs.Device.{inner_of, has_failed, was_starved};
 ghost use Rattle.mg_http.specs.AtWorld.{WroteTranscriptAt};
 ghost use Rattle.mg_http.specs.SoloService.{SoloAnswers};
 ghost use Rattle.mg_http.specs.Transcript.{WroteTranscript};
@@ -39,6 +39,7 @@ impl<P: Placement + Drop> Solo<P> {
             → (u : World) × WroteTranscriptAt db.now (record {
               read = Consumes (R.remaining (inner_of reader.old)) (R.remaining (inner_of reader.new));
               wrote = Appends (W.contents (inner_of writer.old)) (W.contents (inner_of writer.new));
+              starved = was_starved reader.new;
               old = w;
               new = u;
               end = result;
@@ -49,6 +50,7 @@ impl<P: Placement + Drop> Solo<P> {
         ensures service { WroteTranscript (SoloAnswers P.place) db.now (record {
           read = Consumes (R.remaining (inner_of reader.old)) (R.remaining (inner_of reader.new));
           wrote = Appends (W.contents (inner_of writer.old)) (W.contents (inner_of writer.new));
+          starved = was_starved reader.new;
           old = self.old;
           new = self.new;
           end = result;

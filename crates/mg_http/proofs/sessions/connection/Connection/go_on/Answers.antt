@@ -16,7 +16,7 @@ returns-then-len-end-clause-rests g c = λ head no.
     let old = c.args.self.now in
     let held : Connection = record old { framed = Some c.args.framed } in
     let short : length (unanswered old) < c.args.framed.head_len + c.args.framed.body_len = omega (arith, c.if-len-end.true, c.len.ensures.value, c.saturating_add-end.ensures) in
-    rests_wait held _ _ c.wait.ensures (waits_in_body old.db.now (unanswered old) c.args.framed head short)
+    rests_wait c.args.framed.omits_body held _ c.wait.ensures (waits_in_body old.db.now (unanswered old) c.args.framed head short)
 
 pub returns-then-self-clause-runs : goal.returns-then-self-clause-runs
 returns-then-self-clause-runs g c = λ goes_on none head.

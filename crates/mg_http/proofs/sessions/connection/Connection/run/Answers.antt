@@ -8,7 +8,7 @@ loop-preserved g c =
     let was = c.loop.invariant in
     let step = c.step.ensures in
     record {
-      quiet = record { db = step.quiet.db ∙ was.quiet.db; reads = step.quiet.reads ∙ was.quiet.reads; writes = step.quiet.writes ∙ was.quiet.writes };
+      quiet = record { db = step.quiet.db ∙ was.quiet.db; starved = step.quiet.starved ∙ was.quiet.starved; reads = step.quiet.reads ∙ was.quiet.reads; writes = step.quiet.writes ∙ was.quiet.writes };
       runs = λ ready. runs_step g.S.Service.answers c.args.self.now c.loop.self _ c.args.service.now c.loop.service _ was.quiet.db (was.runs ready) step.runs step.stays;
       stays = λ ended.
           let k = was.stays ended in

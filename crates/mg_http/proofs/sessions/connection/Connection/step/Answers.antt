@@ -18,11 +18,11 @@ returns-in-Waiting-clause-runs g c = λ ready.
 pub returns-in-Waiting-clause-rests : goal.returns-in-Waiting-clause-rests
 returns-in-Waiting-clause-rests g c = λ ready no.
     let next = c.next_head.ensures in
-    rests_wait c.next_head.new.self _ _ c.wait.ensures (rw (ap (λ (x : Connection). x.db) next.only, next.input) (inl (c.in-Waiting.ensures.pending ready.1)))
+    rests_wait false c.next_head.new.self _ c.wait.ensures (rw (ap (λ (x : Connection). x.db) next.only, next.input) (inl (c.in-Waiting.ensures.pending ready.1)))
 
 pub returns-in-Refused-clause-runs : goal.returns-in-Refused-clause-runs
 returns-in-Refused-clause-runs g c = λ ready.
     let old = c.args.self.now in
     let text = text_of c.in-Refused.omits_body (refused c.in-Refused.refusal) in
     runs_out g.S.Service.answers old _ _ text (ap (λ (x : Connection). x.end) c.refuse.ensures.only) (c.refuse.ensures.text ∙ ap (λ (w : List ℕ). w ++ text) (ap waiting c.next_head.ensures.only))
-    (refuses_by old.db.now (unanswered old) c.in-Refused.refusal c.in-Refused.omits_body (c.in-Refused.ensures.pending ready.1))
+    (refuses_by old.db.now _ (unanswered old) c.in-Refused.refusal c.in-Refused.omits_body (c.in-Refused.ensures.pending ready.1))
