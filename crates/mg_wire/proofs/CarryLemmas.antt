@@ -7,19 +7,18 @@ use Rattle.std.proofs.Math.Seq.{drop-append_seam}
 use Rattle.bytes.proofs.Chunks.{drop-append_min}
 use Rattle.bytes.specs.Filled.{Filled}
 use Rattle.http1.specs.declared.conn.Limits.{Limits}
-use Rattle.http1.specs.declared.error.WriteError.{WriteError}
 use Rattle.http1.specs.Decoder.{decoder_for, Completes, with_front}
-use Rattle.http1.specs.Message.{AcceptsRequest, ReadsRequestMessage}
+use Rattle.http1.specs.Message.{AcceptsRequest}
 use Rattle.mg_wire.specs.declared.body.Begun.{Begun}
 use Rattle.mg_wire.specs.declared.bounds.Bounds.{Bounds}
 use Rattle.mg_wire.specs.declared.connection.Connection.{Connection}
 use Rattle.mg_wire.specs.declared.connection.Ending.{Ending}
-use Rattle.mg_wire.specs.declared.connection.Ending.TheVariants.{Closed, InputEnded, Refused, NoMemory, Faulty}
+use Rattle.mg_wire.specs.declared.connection.Ending.TheVariants.{Closed, InputEnded, Refused, NoMemory}
 use Rattle.mg_wire.specs.declared.refusal.Refusal.{Refusal}
 use Rattle.mg_wire.specs.Body.{IsBegun}
 use Rattle.mg_wire.specs.Refusal.{Refuses}
 use Rattle.mg_wire.specs.Transcript.{Call, IsTranscript}
-use Rattle.mg_wire.specs.Connection.{received, sent, pending, said, IsInterimOf, Follows, StandsAt, IsLost, EndsFor, Stands, Holds}
+use Rattle.mg_wire.specs.Connection.{received, sent, pending, said, IsInterimOf, Follows, StandsAt, EndsFor, Stands, Holds}
 use Rattle.mg_wire.proofs.TurnLemmas.{grows}
 
 begun_grows : (limits : Limits) (input more : List ℕ) (b : Begun) → IsBegun limits input b → IsBegun limits (input ++ more) b
@@ -80,17 +79,6 @@ module _ (c n : Connection) (bounds : n.bounds ≡ c.bounds) (came : received n 
   at_same None text x = out ∙ x
   at_same (Some b) text x = (subst₂ (λ (k : Bounds) (i : List ℕ). IsBegun k.limits i b) (sym bounds) (sym input) x.0, out ∙ x.1)
 
-  lost_same : (e : WriteError) (answered : List Call) (rest : List ℕ) → IsLost e c answered rest → IsLost e n answered rest
-  lost_same e answered rest x = record {
-    last = x.last;
-    calls = calls ∙ x.calls;
-    message = x.message;
-    after = x.after;
-    reads = subst (λ (k : Bounds). (later : List ℕ) → ReadsRequestMessage k.limits (rest ++ later) x.message (x.after ++ later)) (sym bounds) x.reads;
-    asked = x.asked;
-    why = x.why;
-  }
-
   why_same : n.is_starved ≡ c.is_starved → (rest : List ℕ) (r : Refusal) → Refuses c.bounds c.has_ended c.is_starved rest r
       → Refuses n.bounds n.has_ended n.is_starved rest r
   why_same starved rest r x =
@@ -107,8 +95,6 @@ module _ (c n : Connection) (bounds : n.bounds ≡ c.bounds) (came : received n 
   )
   ends_same starved NoMemory answered text rest x =
       (calls ∙ x.0, follows_same rest text [] x.1, (x.2.0, why_same starved rest x.2.0 x.2.1))
-  ends_same starved (Faulty e) answered text rest x =
-      (lost_same e answered rest x.0, elim x.1 [ inl f ↦ inl (follows_same rest text _ f) | inr f ↦ inr (follows_same rest text _ f) ])
 
   stands_same : (s : Option Ending) → (s ≡ None) ⊎ (n.is_starved ≡ c.is_starved) → (answered : List Call) (text rest : List ℕ) → Stands s c answered text rest → Stands s n answered text rest
   stands_same None starved answered text rest x =

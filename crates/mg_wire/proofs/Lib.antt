@@ -1,5 +1,8 @@
 pub mod StartLemmas
+pub mod ReadyLemmas
 pub mod BodyLemmas
+pub mod SendableLemmas
+pub mod PlanLemmas
 pub mod ReplyLemmas
 pub mod HoldLemmas
 pub mod TurnLemmas

@@ -1,5 +1,5 @@
 -- From what the state machine says of a head to the request that begins.
-use Rattle.std.proofs.Common.{◌≡◌, ◌≢◌, ℕ, ◌+◌, ◌<◌, ◌≤◌, Bool, true, false, ◌&&◌, cond, Some, None, List, ◌++◌, length, drop, length-append, sym, refl, ap, ◌∙◌, subst, Result, Ok, ◌-◌, nat_lt, arith}
+use Rattle.std.proofs.Common.{◌≡◌, ◌≢◌, ℕ, ◌<◌, ◌≤◌, Bool, true, false, ◌&&◌, cond, Some, None, List, ◌++◌, length, drop, length-append, sym, refl, ap, ◌∙◌, subst, Result, Ok, nat_lt, arith}
 use Rattle.httparse.specs.Grammar.{RequestHead, print_request, HasNoRequest}
 use Rattle.httparse.specs.Spans.{span_bytes}
 use Rattle.httparse.specs.declared.spans.HeaderSpan.{HeaderSpan}

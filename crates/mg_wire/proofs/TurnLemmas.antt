@@ -1,9 +1,8 @@
 -- One more turn.
-use Rattle.std.proofs.Common.{◌≡◌, ◌⊎◌, ◌↔◌, IsTrue, IsFalse, ℕ, ◌≤◌, ◌<◌, Bool, true, false, not, ◌&&◌, List, [], ◌∷◌, ◌++◌, length, drop, Option, Some, None, append_assoc, append-nil, sym, refl, ap, ◌∙◌, subst, subst₂, inl, inr, arith, if◌then◌else◌}
+use Rattle.std.proofs.Common.{◌≡◌, ◌⊎◌, ◌↔◌, IsTrue, IsFalse, ℕ, Bool, true, false, not, ◌&&◌, List, [], ◌∷◌, ◌++◌, length, drop, Option, Some, None, append_assoc, append-nil, sym, refl, ap, ◌∙◌, subst, subst₂, inl, inr, if◌then◌else◌}
 use Rattle.std.proofs.lemmas.List.Elements.{All-push}
 use Rattle.httparse.specs.Grammar.{RequestHead}
 use Rattle.http1.specs.declared.conn.Limits.{Limits}
-use Rattle.http1.specs.declared.error.WriteError.{WriteError}
 use Rattle.http1.specs.declared.framing.Framing.{Framing}
 use Rattle.http1.specs.declared.framing.Framing.TheVariants as Framed
 use Rattle.http1.specs.declared.framing.MethodKind.{MethodKind}
@@ -17,7 +16,6 @@ use Rattle.http1.specs.Fields.{known_fields}
 use Rattle.http1.specs.Message.{AcceptsRequest, ReadsRequestMessage, ReadsResponseMessage}
 use Rattle.http1.specs.declared.server.Server.{Server}
 use Rattle.http1.specs.Server.{is_head, peer_minor, IsClosed}
-use Rattle.http1.specs.Output.{LacksRoom}
 use Rattle.http1.proofs.BodyRoundTrip.{MayFollow}
 use Rattle.http1.proofs.HeadRoundTrip.{response_reads_back}
 use Rattle.http1.proofs.MessageRoundTrip.{response_round_trip}
@@ -26,15 +24,13 @@ use Rattle.mg_wire.specs.declared.body.Begun.{Begun}
 use Rattle.mg_wire.specs.declared.bounds.Bounds.{Bounds}
 use Rattle.mg_wire.specs.declared.connection.Connection.{Connection}
 use Rattle.mg_wire.specs.declared.connection.Ending.{Ending}
-use Rattle.mg_wire.specs.declared.connection.Ending.TheVariants.{Closed, Faulty}
-use Rattle.mg_wire.specs.declared.advance.TheConstants.{ROOM}
-use Rattle.mg_wire.specs.declared.refusal.TheConstants.{FAULT}
-use Rattle.mg_wire.specs.declared.reply.TheConstants.{MAX_RESPONSE_FIELDS}
+use Rattle.mg_wire.specs.declared.connection.Ending.TheVariants.{Closed}
 use Rattle.mg_wire.specs.Response.{fields_of}
 use Rattle.mg_wire.specs.Body.{Serves, IsWhole}
-use Rattle.mg_wire.specs.Reply.{size_for, Heads, FailsToHead}
+use Rattle.mg_wire.specs.Reply.{size_for, Heads}
+use Rattle.mg_wire.specs.Status.{code_of}
 use Rattle.mg_wire.specs.Transcript.{Call, Spells, interim_for, Turn, IsTranscript, keeps_open, KeepsOpen}
-use Rattle.mg_wire.specs.Connection.{received, sent, pending, said, IsInterimOf, Follows, StandsAt, Stands, Holds, IsSilent, IsDue}
+use Rattle.mg_wire.specs.Connection.{received, sent, pending, said, StandsAt, Stands, Holds, IsSilent, IsDue}
 use Rattle.mg_wire.proofs.HoldLemmas.{received_same, sent_same}
 
 -- whatever follows, the grammar gives the same requests
@@ -67,9 +63,9 @@ nothing_follows (Framed.Length n) = tt
 nothing_follows Framed.Chunked = tt
 nothing_follows Framed.UntilClose = refl
 
-module _ (b : Begun) (a : Response) (sent_bytes : ℕ) (old new : List ℕ) (next : Server) (h : Heads b.server a.status (fields_of a) (length a.body.items) sent_bytes old new next) (piece : List ℕ) (len : length piece ≡ sent_bytes) where
+module _ (b : Begun) (a : Response) (sent_bytes : ℕ) (old new : List ℕ) (next : Server) (h : Heads b.server (code_of a.status) (fields_of a) (length a.body.items) sent_bytes old new next) (piece : List ℕ) (len : length piece ≡ sent_bytes) where
   abbrev head_text : List ℕ
-  head_text = response_text (peer_minor b.server) a.status h.reason (fields_of a ++ h.plan.extra)
+  head_text = response_text (peer_minor b.server) (code_of a.status) h.reason (fields_of a ++ h.plan.extra)
 
   abbrev rest_text : List ℕ
   rest_text = body_text (piece ∷ []) (encoder_for h.plan.framing) []
@@ -79,14 +75,14 @@ module _ (b : Begun) (a : Response) (sent_bytes : ℕ) (old new : List ℕ) (nex
   spells m s is =
       let fields = fields_of a ++ h.plan.extra in
       let minor = peer_minor b.server in
-      let back = response_reads_back minor a.status h.reason fields [] h.valid in
-      let message : Wire.Response = record { head = response_head minor a.status h.reason fields; body = body_of (piece ++ []) [] } in
+      let back = response_reads_back minor (code_of a.status) h.reason fields [] h.valid in
+      let message : Wire.Response = record { head = response_head minor (code_of a.status) h.reason fields; body = body_of (piece ++ []) [] } in
       record {
         message = message;
         reads = λ limits fits short.
             subst₂ (λ (k : MethodKind) (t : List ℕ). ReadsResponseMessage limits k (head_text ++ t) message []) s.method (append-nil rest_text)
             (response_round_trip limits (size_for (length a.body.items)) (fields_of a) h.plan (piece ∷ []) [] [] (h.whole piece len).1 short (nothing_follows h.plan.framing)
-            b.server a.status h.reason h.planned h.valid fits);
+            b.server (code_of a.status) h.reason h.planned h.valid fits);
         status = back.code;
         added = h.plan.extra;
         fields = back.fields;
@@ -110,7 +106,7 @@ module _ (c n : Connection) (b : Begun) (a : Response) (due : IsDue c b a) (quie
   same_stream cs text rest = subst₂ (λ (k : Bounds) (stream : List ℕ). IsTranscript k.limits stream cs text rest) (sym quiet.bounds) (sym (received_same c n quiet))
 
   -- the response is sent
-  pub replies : (out : List ℕ) (sent_bytes : ℕ) (next : Server) (piece : List ℕ) → Heads b.server a.status (fields_of a) (length a.body.items) sent_bytes c.output.items out next
+  pub replies : (out : List ℕ) (sent_bytes : ℕ) (next : Server) (piece : List ℕ) → Heads b.server (code_of a.status) (fields_of a) (length a.body.items) sent_bytes c.output.items out next
       → piece ≡ (if is_head (method_kind due.message.head.method) then [] else a.body.items) → length piece ≡ sent_bytes
       → n.calls ≡ c.calls → n.input.items ≡ c.input.items → pending n ≡ out ++ piece
       → ((n.end ≡ None) × (n.begun ≡ None) × (¬ (IsClosed next))) ⊎ ((n.end ≡ Some Closed) × IsClosed next) → Holds n
@@ -151,60 +147,9 @@ module _ (c n : Connection) (b : Begun) (a : Response) (due : IsDue c b a) (quie
         stands = stands;
       }
 
-  interim_due : (k : Bounds) → k ≡ c.bounds → IsInterimOf k.limits due.rest (interim_for b.expects_continue)
-  interim_due k is =
-      let r = due.reads [] in
-      subst (λ (l : Bounds). IsInterimOf l.limits due.rest (interim_for b.expects_continue)) (sym is) (record {
-        head = due.message.head;
-        framing = r.framing;
-        after = r.after_head;
-        accepts = subst (λ (s : List ℕ). AcceptsRequest c.bounds.limits s due.message.head r.framing r.after_head) (append-nil due.rest) r.head;
-        is = ap interim_for due.serves.keeps.expects;
-      })
-
-  more_out : (out more : List ℕ) → out ≡ c.output.items → n.output.items ≡ out ++ more → n.tail.items ≡ [] → Follows n due.rest due.text more
-  more_out out more same is bare = (
-    interim_for b.expects_continue,
-    inr (interim_due n.bounds quiet.bounds),
-    ap (λ (s : List ℕ). s ++ pending n) (sent_same c n quiet)
-        ∙ joined (sent c) c.output.items c.tail.items due.text (interim_for b.expects_continue) more [] (n.output.items ++ n.tail.items) (pending n) due.out due.bare refl
-        (subst (λ (t : List ℕ). n.output.items ++ t ≡ c.output.items ++ more ++ []) (sym bare) (ap (λ (o : List ℕ). o ++ []) (is ∙ ap (λ (o : List ℕ). o ++ more) same)))
-        ∙ ap (λ (u : List ℕ). due.text ++ (interim_for b.expects_continue ++ u)) (append-nil more),
-  )
-
-  -- it cannot be sent
-  pub loses : (e : WriteError) (out : List ℕ) (spare : ℕ) → out ≡ c.output.items
-      → ((MAX_RESPONSE_FIELDS < length a.fields.items) ⊎ FailsToHead b.server a.status (fields_of a) (length a.body.items) 0 spare e) → ROOM ≤ spare
-      → n.calls ≡ c.calls → n.tail.items ≡ [] → n.end ≡ Some (Faulty e)
-      → ((n.output.items ≡ out ++ []) ⊎ (n.output.items ≡ out ++ FAULT.now)) → Holds n
-  loses e out spare same why room calls bare is how = record {
-    answered = due.answered;
-    text = due.text;
-    rest = due.rest;
-    transcript = same_stream _ _ _ due.transcript;
-    stands = subst (λ (s : Option Ending). Stands s n due.answered due.text due.rest) (sym is) (
-      record {
-        last = (b.request, a);
-        calls = (λ i. (calls i).items) ∙ due.calls;
-        message = due.message;
-        after = c.input.items;
-        reads = subst (λ (k : Bounds). (more : List ℕ) → ReadsRequestMessage k.limits (due.rest ++ more) due.message (c.input.items ++ more)) (sym quiet.bounds) due.reads;
-        asked = due.asked;
-        why = elim why [
-          | inl k ↦ inl k
-          | inr k ↦ inr (b.server, λ memory. let r = k memory in (r.0, elim r.1 [ inl x ↦ inl x | inr x ↦ inr (less _ x) ]))
-        ];
-      },
-      elim how [ inl x ↦ inl (more_out out [] same x bare) | inr x ↦ inr (more_out out FAULT.now same x bare) ],
-    );
-  } where
-    less : (len : ℕ) → LacksRoom spare len → LacksRoom ROOM len
-    less len (inl x) = inl (omega arith)
-    less len (inr x) = inr x
-
 module _ (c m n : Connection) (b : Begun) (a : Response) (due : IsDue c b a) (only : m ≡ record c { output = m.output; tail = m.tail }) (next : Server)
     (settled : ((n ≡ m) × (¬ (IsClosed next))) ⊎ ((n ≡ record m { end = Some Closed; begun = None }) × IsClosed next)) where
-  pub reply_ok : (out : List ℕ) (sent_bytes : ℕ) (piece : List ℕ) → Heads b.server a.status (fields_of a) (length a.body.items) sent_bytes c.output.items out next
+  pub reply_ok : (out : List ℕ) (sent_bytes : ℕ) (piece : List ℕ) → Heads b.server (code_of a.status) (fields_of a) (length a.body.items) sent_bytes c.output.items out next
       → piece ≡ (if is_head (method_kind b.request.method) then [] else a.body.items) → length piece ≡ sent_bytes → pending m ≡ out ++ piece → Holds n
   reply_ok out sent_bytes piece heads is len pends =
       let silent : IsSilent c m = record { bounds = λ i. (only i).bounds; reads = λ i. (only i).reads; writes = λ i. (only i).writes } in

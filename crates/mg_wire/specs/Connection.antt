@@ -2,26 +2,19 @@
 use Rattle.std.specs.Prelude.{◌≡◌, ◌≢◌, ◌⊎◌, All, IsTrue, false, ℕ, ◌+◌, ◌-◌, ◌*◌, ◌^◌, ◌<◌, ◌≤◌, min, List, [], ◌∷◌, ◌++◌, length, take, drop, flat_map, Option, Some, None}
 use Rattle.httparse.specs.Grammar.{RequestHead}
 use Rattle.http1.specs.declared.conn.Limits.{Limits}
-use Rattle.http1.specs.declared.error.WriteError.{WriteError}
 use Rattle.http1.specs.declared.framing.Framing.{Framing}
-use Rattle.http1.specs.declared.server.Server.{Server}
 use Rattle.http1.specs.Message as Wire
 use Rattle.http1.specs.Message.{AcceptsRequest, ReadsRequestMessage}
-use Rattle.mg_wire.specs.declared.advance.TheConstants.{ROOM}
 use Rattle.mg_wire.specs.declared.body.Begun.{Begun}
 use Rattle.mg_wire.specs.declared.connection.Connection.{Connection}
 use Rattle.mg_wire.specs.declared.connection.Ending.{Ending}
-use Rattle.mg_wire.specs.declared.connection.Ending.TheVariants.{Closed, InputEnded, Refused, NoMemory, Faulty}
-use Rattle.mg_wire.specs.declared.refusal.TheConstants.{FAULT}
+use Rattle.mg_wire.specs.declared.connection.Ending.TheVariants.{Closed, InputEnded, Refused, NoMemory}
 use Rattle.mg_wire.specs.declared.refusal.Refusal.{Refusal}
-use Rattle.mg_wire.specs.declared.reply.TheConstants.{MAX_RESPONSE_FIELDS}
 use Rattle.mg_wire.specs.declared.request.Request.{Request}
 use Rattle.mg_wire.specs.declared.response.Response.{Response}
 use Rattle.mg_wire.specs.Body.{Serves, IsBegun, HasNoMessage}
 use Rattle.mg_wire.specs.Refusal.{Refuses, refusal_text}
-use Rattle.mg_wire.specs.Reply.{FailsToHead}
 use Rattle.mg_wire.specs.Request.{IsAsked, asks_to_continue}
-use Rattle.mg_wire.specs.Response.{fields_of}
 use Rattle.mg_wire.specs.Transcript.{Call, interim_for, IsTranscript, KeepsOpen, IsClosedBy, Chain, AnswersMet}
 
 -- all bytes that were received
@@ -58,18 +51,6 @@ abbrev pub StandsAt : Option Begun → Connection → List ℕ → Type 0
 StandsAt None c text = said c ≡ text
 StandsAt (Some b) c text = IsBegun c.bounds.limits c.input.items b × (said c ≡ text ++ interim_for b.expects_continue)
 
--- The service was asked the request that comes next, and its response cannot be sent: for want of memory only if its head is longer than
--- the room that was taken before.
-pub record IsLost (e : WriteError) (c : Connection) (answered : List Call) (rest : List ℕ) : Type 0 where
-  pub last : Call
-  pub calls : c.calls.items ≡ answered ++ last ∷ []
-  pub message : Wire.Request
-  pub after : List ℕ
-  pub reads : (more : List ℕ) → ReadsRequestMessage c.bounds.limits (rest ++ more) message (after ++ more)
-  pub asked : IsAsked message last.0
-  pub why : (MAX_RESPONSE_FIELDS < length last.1.fields.items)
-      ⊎ ((s : Server) × FailsToHead s last.1.status (fields_of last.1) (length last.1.body.items) 0 ROOM e)
-
 -- The connection said the responses of the calls that were answered, and why it ends. `NoMemory`: the next request is refused, for want of
 -- memory or for another reason, and there was no memory to say so.
 abbrev pub EndsFor : Ending → Connection → List Call → List ℕ → List ℕ → Type 0
@@ -79,7 +60,6 @@ EndsFor (Refused r) c answered text rest =
     (c.calls.items ≡ answered) × Follows c rest text (refusal_text r) × Refuses c.bounds c.has_ended c.is_starved rest r
 EndsFor NoMemory c answered text rest =
     (c.calls.items ≡ answered) × Follows c rest text [] × ((r : Refusal) × Refuses c.bounds c.has_ended c.is_starved rest r)
-EndsFor (Faulty e) c answered text rest = IsLost e c answered rest × (Follows c rest text [] ⊎ Follows c rest text FAULT.now)
 
 -- the connection goes on after calls that keep it open, and the input is what is not answered; or it ends
 abbrev pub Stands : Option Ending → Connection → List Call → List ℕ → List ℕ → Type 0

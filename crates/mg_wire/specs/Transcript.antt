@@ -14,6 +14,7 @@ use Rattle.mg_wire.specs.declared.response.Response.{Response}
 use Rattle.mg_wire.specs.declared.refusal.TheConstants.{CONTINUE}
 use Rattle.mg_wire.specs.Request.{IsAsked, fields_in, asks_to_continue}
 use Rattle.mg_wire.specs.Response.{fields_of}
+use Rattle.mg_wire.specs.Status.{code_of}
 use Rattle.mg_wire.specs.Target.{IsProper}
 
 -- a call of the service: what it was asked, and what it responded
@@ -26,7 +27,7 @@ pub record Spells (h : RequestHead) (r : Response) (text : List ℕ) : Type 0 wh
   pub message : Wire.Response
   pub reads : (limits : Limits) → length (print_response message.head) ≤ limits.max_head_len → 2 ≤ limits.max_trailers_len
       → ReadsResponseMessage limits (method_kind h.method) text message []
-  pub status : status_code message.head ≡ r.status
+  pub status : status_code message.head ≡ code_of r.status
   pub added : List Header
   pub fields : map name_and_value message.head.fields ≡ fields_of r ++ added
   pub body : message.body.bytes ≡ (if is_head (method_kind h.method) then [] else r.body.items)

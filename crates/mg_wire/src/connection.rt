@@ -11,7 +11,6 @@ use crate::request::Request;
 use crate::response::Response;
 use bytes::BytesMut;
 use http_server::Log;
-use http1::WriteError;
 use std::alloc::Global;
 use std::io;
 use std::io::{ErrorKind, Read};
@@ -30,8 +29,6 @@ pub enum Ending {
     Refused(Refusal),
     /// There was no memory for the next request, and none to say so.
     NoMemory,
-    /// The service's last response cannot be sent.
-    Faulty(WriteError),
 }
 
 /// What a client and a service say to each other over one connection.

@@ -2,14 +2,15 @@
 ghost use Rattle.std.specs.Prelude.{◌≡◌};
 ghost use Rattle.mg_wire.specs.Response.{IsBlank};
 
-use crate::request::Field;
+use crate::fields::Fields;
+use crate::status::Status;
 use std::alloc::Global;
 
-/// A response.
+/// A response. Whatever its parts are, it can be sent.
 #[derive(Debug, Drop)]
 pub struct Response {
-    pub status: u16,
-    pub fields: Vec<Field>,
+    pub status: Status,
+    pub fields: Fields,
     pub body: Vec<u8>,
 }
 
@@ -19,8 +20,8 @@ impl Response {
         ensures { IsBlank result }
     {
         Response {
-            status: 200,
-            fields: Vec::new(alloc),
+            status: Status::Ok,
+            fields: Fields::new(alloc),
             body: Vec::new(alloc),
         }
     }

@@ -1,4 +1,4 @@
-use Rattle.std.proofs.Common.{◌+◌, ◌≡◌, ◌≢◌, ◌<◌, ℕ, List, ◌∷◌, [], ◌++◌, map, take, length, get_or, sym, ap, subst, ◌∙◌, arith}
+use Rattle.std.proofs.Common.{◌+◌, ◌≡◌, ◌<◌, ◌≤◌, ℕ, List, ◌∷◌, [], ◌++◌, map, take, length, get_or, sym, ap, subst, ◌∙◌, arith}
 use Rattle.std.proofs.lemmas.List.{take_more, take_more_set, map-append}
 use Rattle.std.proofs.Math.ListN.{set, length-set}
 use Rattle.http1.specs.declared.head.Header as Sent
@@ -19,10 +19,11 @@ one_more hs fs count index h f same room fits is parts before =
 
 pub loop-field-preserved : goal.loop-field-preserved
 loop-field-preserved c =
-    let other : c.loop-field.count ≢ 16 = c.if-count-eq-MAX_RESPONSE_FIELDS.false in
+    let few : length c.args.response.now.fields.list.items ≤ 16 = c.args.response.now.fields.few in
+    let room : c.loop-field.count < 16 = omega (arith, c.loop-field.invariant.counted, few) in
     record {
-      counted = omega arith;
+      counted = omega (arith, c.loop-field.invariant.counted);
       all = length-set c.loop-field.headers c.loop-field.count _ ∙ c.loop-field.invariant.all;
-      room = omega (arith, other, c.loop-field.invariant.room);
-      same = one_more c.loop-field.headers c.args.response.now.fields.items c.loop-field.count c.loop-field.field-index _ c.field-item.result c.loop-field.invariant.counted (omega (arith, other, c.loop-field.invariant.room, c.loop-field.invariant.all)) (omega arith) (subst (λ (xs : List Field). get_or xs c.loop-field.field-index c.field-item.result ≡ c.field-item.result) c.deref-field-items.ensures.value (sym c.field-item.is)) (λ i. (c.as_slice.ensures i, c.as_slice-in-loop-field.ensures i)) c.loop-field.invariant.same;
+      room = omega (arith, room);
+      same = one_more c.loop-field.headers c.args.response.now.fields.list.items c.loop-field.count c.loop-field.field-index _ c.field-item.result c.loop-field.invariant.counted (omega (arith, room, c.loop-field.invariant.all)) (omega arith) (subst (λ (xs : List Field). get_or xs c.loop-field.field-index c.field-item.result ≡ c.field-item.result) c.deref-field-items.ensures.value (sym c.field-item.is)) (λ i. (c.as_slice.ensures i, c.as_slice-in-loop-field.ensures i)) c.loop-field.invariant.same;
     }

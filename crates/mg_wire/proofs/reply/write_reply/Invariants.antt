@@ -8,5 +8,5 @@ invariant-loop-field l = record {
   counted : l.count ≡ l.field-index;
   all : length l.headers ≡ 16;
   room : l.count ≤ 16;
-  same : pairs (take l.count l.headers) ≡ map field_parts (take l.field-index l.response.fields.items);
+  same : pairs (take l.count l.headers) ≡ map field_parts (take l.field-index l.response.fields.list.items);
 }

@@ -1,6 +1,7 @@
 use Rattle.std.proofs.Common.{refl, inr, arith, ap, List, ℕ, ◌∙◌, ◌++◌}
 use Rattle.std.proofs.lemmas.Grind.{common_steps}
 use Rattle.mg_wire.proofs.BodyLemmas.{data_read, end_read, wait_read, same_head, body_refused, piece_too_large}
+use Rattle.mg_wire.proofs.ReadyLemmas.{ready_begun, ready_read}
 use Rattle.mg_wire.proofs.StartLemmas.{begins_begun}
 use Rattle.mg_wire.proofs.body.Begun.step.Goals as goal
 
@@ -28,3 +29,8 @@ pub returns-then-piece-saturating_sub-clause-refused : goal.returns-then-piece-s
 returns-then-piece-saturating_sub-clause-refused c = λ ended starved b.
     piece_too_large c.args.bounds.limits c.args.input.now c.args.self.now b c.read.new.headers c.read.new.self c.in-Ok.read _ c.in-Data.piece c.args.bounds.max_body
     (grind (arith, common_steps)) c.in-Ok.ensures.ok c.in-Data.is (grind (arith, common_steps))
+
+pub invariant_of-self-in_default-event : goal.invariant_of-self-in_default-event
+invariant_of-self-in_default-event c =
+    let ready = ready_read _ c.args.self.now.server c.read.new.self _ _ c.in-Ok.read (ready_begun c.args.self.now) c.in-Ok.ensures.ok in
+    record { awaits = ready.awaits; no_tunnel = ready.no_tunnel; same_method = ready.same_method; minor = ready.minor }
