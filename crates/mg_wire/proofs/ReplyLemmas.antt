@@ -190,7 +190,7 @@ one_at_most zero h = refl
 one_at_most (suc zero) h = refl
 one_at_most (suc (suc minor)) h = absurd (omega arith)
 
-text_fits : (minor status : ℕ) (reason : List ℕ) (fields extra : List Header) → length reason ≤ 32 → lines_len fields ≤ 7680 → lines_len extra ≤ 62
+text_fits : (minor status : ℕ) (reason : List ℕ) (fields extra : List Header) → length reason ≤ 32 → lines_len fields ≤ 7717 → lines_len extra ≤ 62
     → length (response_text minor status reason (fields ++ extra)) ≤ 8192
 text_fits minor status reason fields extra a b c =
     let line = codes "HTTP/1." ++ ((48 + minor) ∷ 32 ∷ (status_digits status ++ (32 ∷ (reason ++ (13 ∷ 10 ∷ []))))) in
@@ -213,7 +213,7 @@ pub record MayReply (s : Server) (n sent : ℕ) (fields : List Header) : Type 0 
   pub no_tunnel : is_connect (peer_method s) ≡ false
   pub minor : peer_minor s ≤ 1
   pub sendable : are_sendable fields ≡ true
-  pub short : lines_len fields ≤ 7680
+  pub short : lines_len fields ≤ 7717
   pub small : n < 2 ^ 64
   pub is_sent : sent ≡ (if is_head (peer_method s) then 0 else n)
 

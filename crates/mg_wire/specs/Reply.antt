@@ -1,5 +1,5 @@
 -- What is sent of a response.
-use Rattle.std.specs.Prelude.{◌≡◌, ℕ, ◌&&◌, not, true, false, List, [], ◌∷◌, ◌++◌, length, Ok, None, if◌then◌else◌, ◌==◌}
+use Rattle.std.specs.Prelude.{◌≡◌, ℕ, ◌&&◌, not, true, false, List, [], ◌∷◌, ◌++◌, length, Ok, Option, Some, None, if◌then◌else◌, ◌==◌}
 use Rattle.http1.specs.declared.conn.BodySize.{BodySize}
 use Rattle.http1.specs.declared.conn.BodySize.TheVariants.{Empty, Known}
 use Rattle.http1.specs.declared.server.Server.{Server}
@@ -8,10 +8,16 @@ use Rattle.http1.specs.Head.{is_status_line, head_refusal, response_text}
 use Rattle.http1.specs.Encoder.{encoder_for, body_text, AreAccepted}
 use Rattle.http1.specs.Conn.{Plan}
 use Rattle.http1.specs.Server.{response_plan, peer_minor, IsClosed}
+use Rattle.httpdate.specs.declared.date.HttpDate.{HttpDate as Date}
 
 -- a length, as `http1` is given it
 abbrev pub size_for : ℕ → BodySize
 size_for len = if len == 0 then Empty else Known len
+
+-- where the fields of a response begin, after room for a date
+abbrev pub first_of : Option Date → ℕ
+first_of None = 1
+first_of (Some d) = 0
 
 -- The head of a response was appended, so that it and then these bytes are the whole response. `next`: the server after it
 pub record Heads (s : Server) (status : ℕ) (fields : List Header) (body_len sent : ℕ) (old new : List ℕ) (next : Server) : Type 0 where

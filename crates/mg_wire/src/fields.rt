@@ -1,9 +1,9 @@
 //! The fields of a response, each of which can be sent.
 ghost use Rattle.std.specs.Prelude.{◌≡◌, ◌≤◌, true, length};
-ghost use Rattle.mg_wire.specs.Sendable.{are_sendable, lines_len, parts_of};
+ghost use Rattle.mg_wire.specs.Sendable.{are_addable, lines_len, parts_of};
 
 use crate::request::Field;
-use crate::sendable::{is_sendable, line_len};
+use crate::sendable::{is_addable, line_len};
 use bytes::Bytes;
 use std::alloc::Global;
 
@@ -16,7 +16,8 @@ pub const MAX_LINES_LEN: usize = 7680;
 /// Why a field is not added.
 #[derive(Clone, Copy, Debug, PartialEq, Eq)]
 pub enum FieldError {
-    /// The name is no token, the value has a control byte or a blank at an end, or it is a field that the connection sends.
+    /// The name is no token, the value has a control byte or a blank at an end, or the field is one that the connection
+    /// writes: `Content-Length`, `Transfer-Encoding`, or `Date`, which is a part of the response.
     Invalid,
     /// There are as many fields, or as many bytes of them, as there may be.
     Full,
@@ -24,14 +25,14 @@ pub enum FieldError {
     NoMemory,
 }
 
-/// The fields of a response. They can always be sent.
+/// The fields of a response beside its date. They can always be sent.
 #[derive(Debug, Drop)]
 pub struct Fields {
     pub(crate) alloc: Global,
     pub(crate) list: Vec<Field>,
     /// The bytes that their lines take.
     pub(crate) len: usize,
-    ghost sendable: { are_sendable (parts_of list.items) ≡ true },
+    ghost addable: { are_addable (parts_of list.items) ≡ true },
     ghost counted: { len ≡ lines_len (parts_of list.items) },
     ghost few: { length list.items ≤ 16 },
     ghost short: { len ≤ 7680 },
@@ -60,7 +61,7 @@ impl Fields {
         ensures err { OnErr result (listed self.new ≡ listed self.old) }
         ensures reason { IfErr result (IsReasonFor (listed self.old) (name.now, value.now)) }
     {
-        if !is_sendable(name, value) {
+        if !is_addable(name, value) {
             return Err(FieldError::Invalid);
         }
         let len = line_len(name, value);

@@ -5,10 +5,11 @@
 //! their responses, in order, each to its own request, with a `100 Continue` exactly before those that ask for one
 //! (`told`). It has answered each whole request before it reads on (`rests`). A service is asked only requests with
 //! one `Host`, a target of a form that the method may have, and no `CONNECT` (`IsProper`). Each response that a
-//! service gives is sent: no value of `Status` or `Fields` is refused. A refusal has a reason that holds whatever
-//! bytes follow (`Refuses`); want of memory is one only for a read, and for a request whose head has come. The
-//! connection closes after a response only if the request or the response asks for it, and goes on only if neither
-//! does (`keeps_open`). A connection that is idle gives its buffers back.
+//! service gives is sent: no value of `Status` or `Fields` is refused. It has a `Date` exactly if the service gives
+//! its date, since a connection has no clock. A refusal has a reason that holds whatever bytes follow (`Refuses`);
+//! want of memory is one only for a read, and for a request whose head has come. The connection closes after a
+//! response only if the request or the response asks for it, and goes on only if neither does (`keeps_open`). A
+//! connection that is idle gives its buffers back.
 #![tactic(auto)]
 
 mod advance;

@@ -1,21 +1,27 @@
 //! From a response to its bytes.
-ghost use Rattle.std.specs.Prelude.{◌≡◌, ◌≤◌, length, if◌then◌else◌, true, false};
+ghost use Rattle.std.specs.Prelude.{◌≡◌, ◌≤◌, ◌∷◌, length, take, codes, if◌then◌else◌, true, false, MatchOption};
 ghost use Rattle.http1.specs.Conn.{is_connect};
 ghost use Rattle.http1.specs.Head.{pairs};
 ghost use Rattle.http1.specs.Server.{is_head, may_respond, peer_method, peer_minor};
+ghost use Rattle.httpdate.specs.Date.{date_text};
 ghost use Rattle.mg_wire.specs.Response.{fields_of};
-ghost use Rattle.mg_wire.specs.Sendable.{are_sendable, lines_len};
+ghost use Rattle.mg_wire.specs.Sendable.{are_sendable, lines_len, parts_of};
 ghost use Rattle.mg_wire.specs.Status.{code_of};
-ghost use Rattle.mg_wire.specs.Reply.{size_for, Heads};
+ghost use Rattle.mg_wire.specs.Reply.{size_for, first_of, Heads};
 
 use crate::fields::MAX_RESPONSE_FIELDS;
+use crate::request::Field;
 use crate::response::Response;
 use crate::status::Status;
 use bytes::BytesMut;
 use http1::{BodySize, Header, Server};
+use httpdate::HttpDate;
 
 /// Room for the head of any response, which is taken before the service is asked.
 pub(crate) const ROOM: usize = 8192;
+
+/// The date of a response, and its other fields.
+const MAX_FIELDS_SENT: usize = MAX_RESPONSE_FIELDS + 1;
 
 const NO_HEADER: Header<'static> = Header {
     name: b"",
@@ -46,7 +52,7 @@ pub(crate) fn write_head(
     requires no_tunnel { is_connect (peer_method server.old) ≡ false }
     requires minor { peer_minor server.old ≤ 1 }
     requires sendable { are_sendable (pairs fields.now) ≡ true }
-    requires short { lines_len (pairs fields.now) ≤ 7680 }
+    requires short { lines_len (pairs fields.now) ≤ 7717 }
     requires room { ROOM ≤ output.old.spare }
     requires sent { sent ≡ (if is_head (peer_method server.old) then 0 else body_len) }
     ensures { Heads server.old (code_of status) (pairs fields.now) body_len sent output.old.items output.new.items server.new }
@@ -66,6 +72,49 @@ pub(crate) fn write_head(
     }
 }
 
+/// The text of a date. Without one, blanks that are not sent.
+fn date_bytes(date: Option<HttpDate>) -> [u8; 29]
+    ensures { MatchOption date (Unit {0}) (λ d. result ≡ date_text d) }
+{
+    match date {
+        Some(date) => date.to_bytes(),
+        None => [b' '; 29],
+    }
+}
+
+/// Where the fields of a response begin, in whose room the first one is for its date.
+fn first_of(date: Option<HttpDate>) -> usize
+    ensures first { result ≡ first_of date }
+    ensures few { result ≤ 1 }
+{
+    match date {
+        Some(_) => 0,
+        None => 1,
+    }
+}
+
+/// Returns room in which the first is a date, and the fields follow; and how many these are.
+fn headers_of<'a>(date: &'a [u8], fields: &'a [Field]) -> ([Header<'a>; MAX_FIELDS_SENT], usize)
+    requires few { length fields.now ≤ 16 }
+    ensures room { result.1 ≤ length result.0 }
+    ensures same { pairs (take result.1 result.0) ≡ (codes "date", date.now) ∷ parts_of fields.now }
+{
+    let mut headers = [NO_HEADER; MAX_FIELDS_SENT];
+    headers[0] = Header {
+        name: b"date",
+        value: date,
+    };
+    let mut count = 1;
+    for field in fields {
+        headers[count] = Header {
+            name: field.name.as_slice(),
+            value: field.value.as_slice(),
+        };
+        count += 1;
+    }
+    (headers, count)
+}
+
 /// Appends the head of the response, of whose body so many bytes are sent.
 pub(crate) fn write_reply(
     server: &mut Server,
@@ -81,22 +130,10 @@ pub(crate) fn write_reply(
     ensures { Heads server.old (code_of response.now.status) (fields_of response.now)
         (length response.now.body.items) sent output.old.items output.new.items server.new }
 {
-    let mut headers = [NO_HEADER; MAX_RESPONSE_FIELDS];
-    let mut count = 0;
-    for field in &response.fields.list {
-        headers[count] = Header {
-            name: field.name.as_slice(),
-            value: field.value.as_slice(),
-        };
-        count += 1;
-    }
+    let date = date_bytes(response.date);
+    let (headers, count) = headers_of(&date, response.fields.list.as_slice());
     let len = response.body.len();
-    write_head(
-        server,
-        output,
-        response.status,
-        &headers[..count],
-        len,
-        sent,
-    );
+    let fields = &headers[..count];
+    let first = first_of(response.date);
+    write_head(server, output, response.status, &fields[first..], len, sent);
 }
