@@ -1,6 +1,6 @@
 -- How far a request was read.
 use Rattle.std.specs.Prelude.{◌≡◌, ◌≢◌, ℕ, ◌<◌, ◌≤◌, List, ◌++◌, length, drop, false}
-use Rattle.httparse.specs.Grammar.{RequestHead}
+use Rattle.httparse.specs.Grammar.{RequestHead, MayBecomeRequest}
 use Rattle.http1.specs.declared.conn.Limits.{Limits}
 use Rattle.http1.specs.declared.conn.Reading.TheVariants as Reads
 use Rattle.http1.specs.declared.conn.Writing.TheVariants as Writes
@@ -70,6 +70,10 @@ pub record IsWhole (limits : Limits) (input : List ℕ) (b : Begun) : Type 0 whe
 -- the stream begins with no whole request
 abbrev pub HasNoMessage : Limits → List ℕ → Type 0
 HasNoMessage limits stream = (m : Wire.Request) (rest : List ℕ) → ¬ (ReadsRequestMessage limits stream m rest)
+
+-- the stream begins with no whole request, and some bytes can follow that make it a head within the limit
+abbrev pub AwaitsHead : Limits → List ℕ → Type 0
+AwaitsHead limits stream = HasNoMessage limits stream × MayBecomeRequest stream × (length stream < limits.max_head_len)
 
 -- what a step found
 abbrev pub StepsTo : Limits → List ℕ → ℕ → Begun → Step → Type 0

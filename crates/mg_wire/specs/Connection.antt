@@ -1,5 +1,5 @@
 -- What is true of a connection.
-use Rattle.std.specs.Prelude.{◌≡◌, ◌≢◌, ◌⊎◌, All, IsTrue, false, ℕ, ◌+◌, ◌-◌, ◌*◌, ◌^◌, ◌<◌, ◌≤◌, min, List, [], ◌∷◌, ◌++◌, length, take, drop, flat_map, Option, Some, None}
+use Rattle.std.specs.Prelude.{◌≡◌, ◌≢◌, ◌⊎◌, All, IsTrue, IsFalse, false, ℕ, ◌+◌, ◌-◌, ◌*◌, ◌^◌, ◌<◌, ◌≤◌, min, List, [], ◌∷◌, ◌++◌, length, take, drop, flat_map, Option, Some, None}
 use Rattle.httparse.specs.Grammar.{RequestHead}
 use Rattle.http1.specs.declared.conn.Limits.{Limits}
 use Rattle.http1.specs.declared.framing.Framing.{Framing}
@@ -12,7 +12,7 @@ use Rattle.mg_wire.specs.declared.connection.Ending.TheVariants.{Closed, InputEn
 use Rattle.mg_wire.specs.declared.refusal.Refusal.{Refusal}
 use Rattle.mg_wire.specs.declared.request.Request.{Request}
 use Rattle.mg_wire.specs.declared.response.Response.{Response}
-use Rattle.mg_wire.specs.Body.{Serves, IsBegun, HasNoMessage}
+use Rattle.mg_wire.specs.Body.{Serves, IsBegun, HasNoMessage, AwaitsHead}
 use Rattle.mg_wire.specs.Refusal.{Refuses, refusal_text}
 use Rattle.mg_wire.specs.Request.{IsAsked, asks_to_continue}
 use Rattle.mg_wire.specs.Transcript.{Call, interim_for, IsTranscript, KeepsOpen, IsClosedBy, Chain, AnswersMet}
@@ -127,9 +127,17 @@ room_of c = (length c.input.items + c.input.spare) + (length c.output.items + c.
 abbrev pub held_by : Connection → ℕ
 held_by c = min (room_of c) (2 ^ 64 - 1)
 
--- a connection that goes on, and has no more pending than may be, has answered each whole request that was received
+-- Each whole request that was received is answered, and there may be another one: the client has not ended its side, there was memory for each
+-- read, and what came of the next head is no error.
+pub record AwaitsRequest (c : Connection) : Type 0 where
+  pub answered : HasNoMessage c.bounds.limits c.input.items
+  pub goes_on : IsFalse c.has_ended
+  pub fed : IsFalse c.is_starved
+  pub valid : c.begun ≡ None → AwaitsHead c.bounds.limits c.input.items
+
+-- a connection that goes on, and has no more pending than may be, awaits a request
 abbrev pub Rests : Connection → Type 0
-Rests c = c.end ≡ None → c.tail.items ≡ [] → length c.output.items ≤ c.bounds.max_pending → HasNoMessage c.bounds.limits c.input.items
+Rests c = c.end ≡ None → c.tail.items ≡ [] → length c.output.items ≤ c.bounds.max_pending → AwaitsRequest c
 
 -- a head was read, and its body is next
 abbrev pub Starts : Connection → Connection → Type 0

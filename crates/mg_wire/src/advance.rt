@@ -63,7 +63,8 @@ impl Connection {
         ensures calls { self.new.calls ≡ self.old.calls }
         ensures holds { self.old.tail.items ≡ [] → self.old.end ≡ None
             → HasNoMessage self.old.bounds.limits self.old.input.items → Holds self.old → Holds self.new }
-        ensures waits { (self.new.end ≢ None) ⊎ (self.new ≡ self.old) }
+        ensures waits { (self.new.end ≢ None)
+            ⊎ ((self.new ≡ self.old) × IsFalse self.old.has_ended × IsFalse self.old.is_starved) }
     {
         if self.is_starved {
             self.refuse(Refusal::NoMemory);

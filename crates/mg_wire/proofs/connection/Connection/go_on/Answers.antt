@@ -3,7 +3,7 @@ use Rattle.mg_wire.specs.declared.body.Begun.{Begun}
 use Rattle.mg_wire.specs.declared.connection.Connection.{Connection}
 use Rattle.mg_wire.specs.declared.connection.Ending.{Ending}
 use Rattle.mg_wire.specs.Body.{IsBegun, IsWhole, HasNoMessage}
-use Rattle.mg_wire.specs.Connection.{Stands, Holds}
+use Rattle.mg_wire.specs.Connection.{Stands, Holds, AwaitsRequest}
 use Rattle.mg_wire.specs.Refusal.{Refuses}
 use Rattle.mg_wire.proofs.HoldLemmas.{goes}
 use Rattle.mg_wire.proofs.ChainLemmas.{asks_none}
@@ -65,7 +65,12 @@ returns-in-Ok-Waits-clause-rests g c = λ goes_on h no later bare room.
     let step = rw c.in-Ok-Waits.field-0-is at (c.in-Ok-Waits.ensures.read (subst (λ (u : List ℕ). IsBegun before.bounds.limits u c.args.begun) (sym c.as_slice.ensures) stands.2.0)) in
     elim c.wait.ensures.waits [
       | inl closed ↦ absurd (closed later)
-      | inr same ↦ subst (λ (k : Connection). HasNoMessage k.bounds.limits k.input.items) (sym same) (subst (λ (u : List ℕ). HasNoMessage before.bounds.limits u) c.as_slice.ensures step.1)
+      | inr same ↦ subst AwaitsRequest (sym same.0) (record {
+        answered = subst (λ (u : List ℕ). HasNoMessage before.bounds.limits u) c.as_slice.ensures step.1;
+        goes_on = same.1;
+        fed = same.2;
+        valid = λ none. let bad : Some c.step.new.self ≡ None = none in cc;
+      })
     ]
 
 pub returns-in-Ok-Waits-clause-asks : goal.returns-in-Ok-Waits-clause-asks
