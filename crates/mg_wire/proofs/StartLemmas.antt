@@ -110,10 +110,10 @@ module _ (bounds : Bounds) (input : List ℕ) (spans : List HeaderSpan) (new : S
       by_tests false true x y e = record { host = t.accepts.host; target = y; no_tunnel = x }
 
   pub begun : (b : Begun) → b.server ≡ new → b.at ≡ len → b.expects_continue ≡ expects_continue new → len ≤ length input
-      → HasHeadAt input spans r b.request → IsProper t.head → IsFresh bounds.limits input b
+      → HasHeadAt input spans r b.request → IsProper t.head → IsFresh bounds input b
   begun b server at kept fits is proper =
       let next = server ∙ t.next in
-      let first : IsBegun bounds.limits input b = record {
+      let first : IsBegun bounds input b = record {
         head = t.head;
         framing = t.framing;
         decoder = decoder_for bounds.limits t.framing;
@@ -142,15 +142,16 @@ module _ (bounds : Bounds) (input : List ℕ) (spans : List HeaderSpan) (new : S
         back = λ more body rest x. subst (λ (got : List ℕ). Completes (decoder_for bounds.limits t.framing) (drop b.at input ++ more) (with_front got body) rest) (sym is.body) x;
         forth = λ more whole rest x. (whole, ap (λ (got : List ℕ). with_front got whole) (sym is.body), x);
         sized = λ e. request_has_an_end _ _ _ (t.accepts.framed ∙ ap Ok (until_close bounds.limits t.framing e));
+        fits = omega (arith, ap length is.body);
       } in
       record { begun = first; coded = ap has_codings next }
 
 -- the input begins with the head of the request that has begun, or is whole
-pub begins_begun : (limits : Limits) (input : List ℕ) (b : Begun) → IsBegun limits input b → BeginsRequest limits input
-begins_begun limits input b x = record { head = x.head; accepts = λ more. (x.framing, x.after ++ more, x.accepts more) }
+pub begins_begun : (bounds : Bounds) (input : List ℕ) (b : Begun) → IsBegun bounds input b → BeginsRequest bounds.limits input
+begins_begun bounds input b x = record { head = x.head; accepts = λ more. (x.framing, x.after ++ more, x.accepts more) }
 
-pub begins_whole : (limits : Limits) (input : List ℕ) (b : Begun) → IsWhole limits input b → BeginsRequest limits input
-begins_whole limits input b w =
+pub begins_whole : (bounds : Bounds) (input : List ℕ) (b : Begun) → IsWhole bounds input b → BeginsRequest bounds.limits input
+begins_whole bounds input b w =
     record { head = w.message.head; accepts = λ more. let r = w.reads more in (r.framing, r.after_head, r.head) }
 
 pub takes : (limits : Limits) (input : List ℕ) (spans : List HeaderSpan) (new : Server) (read : Progress RequestSpans) (r : RequestSpans)

@@ -1,8 +1,7 @@
 -- One more turn.
-use Rattle.std.proofs.Common.{◌≡◌, ◌⊎◌, ◌↔◌, IsTrue, IsFalse, ℕ, Bool, true, false, not, ◌&&◌, List, [], ◌∷◌, ◌++◌, length, drop, Option, Some, None, append_assoc, append-nil, sym, refl, ap, ◌∙◌, subst, subst₂, inl, inr, if◌then◌else◌}
+use Rattle.std.proofs.Common.{◌≡◌, ◌⊎◌, ◌↔◌, IsTrue, IsFalse, ℕ, ◌≤◌, Bool, true, false, not, ◌&&◌, List, [], ◌∷◌, ◌++◌, length, drop, Option, Some, None, append_assoc, append-nil, sym, refl, ap, ◌∙◌, subst, subst₂, inl, inr, if◌then◌else◌}
 use Rattle.std.proofs.lemmas.List.Elements.{All-push}
 use Rattle.httparse.specs.Grammar.{RequestHead}
-use Rattle.http1.specs.declared.conn.Limits.{Limits}
 use Rattle.http1.specs.declared.framing.Framing.{Framing}
 use Rattle.http1.specs.declared.framing.Framing.TheVariants as Framed
 use Rattle.http1.specs.declared.framing.MethodKind.{MethodKind}
@@ -34,28 +33,29 @@ use Rattle.mg_wire.specs.Connection.{received, sent, pending, said, StandsAt, St
 use Rattle.mg_wire.proofs.HoldLemmas.{received_same, sent_same}
 
 -- whatever follows, the grammar gives the same requests
-pub snoc : (limits : Limits) (stream : List ℕ) (cs : List Call) (text rest : List ℕ) (c : Call) (first after : List ℕ)
-    → IsTranscript limits stream cs text rest → Turn limits rest c first after → IsTranscript limits stream (cs ++ c ∷ []) (text ++ first) after
-snoc limits stream [] text rest c first after x t =
-    (first, after, [], ap (λ (u : List ℕ). u ++ first) x.1 ∙ sym (append-nil first), subst (λ (u : List ℕ). Turn limits u c first after) (sym x.0) t, (refl, refl))
-snoc limits stream (d ∷ cs) text rest c first after x t =
-    (x.0, x.1, x.2 ++ first, ap (λ (u : List ℕ). u ++ first) x.3 ∙ append_assoc x.0 x.2 first, x.4, snoc limits x.1 cs x.2 rest c first after x.5 t)
+pub snoc : (bounds : Bounds) (stream : List ℕ) (cs : List Call) (text rest : List ℕ) (c : Call) (first after : List ℕ)
+    → IsTranscript bounds stream cs text rest → Turn bounds rest c first after → IsTranscript bounds stream (cs ++ c ∷ []) (text ++ first) after
+snoc bounds stream [] text rest c first after x t =
+    (first, after, [], ap (λ (u : List ℕ). u ++ first) x.1 ∙ sym (append-nil first), subst (λ (u : List ℕ). Turn bounds u c first after) (sym x.0) t, (refl, refl))
+snoc bounds stream (d ∷ cs) text rest c first after x t =
+    (x.0, x.1, x.2 ++ first, ap (λ (u : List ℕ). u ++ first) x.3 ∙ append_assoc x.0 x.2 first, x.4, snoc bounds x.1 cs x.2 rest c first after x.5 t)
 
-turn_grows : (limits : Limits) (stream : List ℕ) (c : Call) (text rest more : List ℕ) → Turn limits stream c text rest → Turn limits (stream ++ more) c text (rest ++ more)
-turn_grows limits stream c text rest more t = record {
+turn_grows : (bounds : Bounds) (stream : List ℕ) (c : Call) (text rest more : List ℕ) → Turn bounds stream c text rest → Turn bounds (stream ++ more) c text (rest ++ more)
+turn_grows bounds stream c text rest more t = record {
   message = t.message;
-  reads = λ later. subst₂ (λ (s r : List ℕ). ReadsRequestMessage limits s t.message r) (sym (append_assoc stream more later)) (sym (append_assoc rest more later)) (t.reads (more ++ later));
+  reads = λ later. subst₂ (λ (s r : List ℕ). ReadsRequestMessage bounds.limits s t.message r) (sym (append_assoc stream more later)) (sym (append_assoc rest more later)) (t.reads (more ++ later));
   proper = t.proper;
+  fits = t.fits;
   asked = t.asked;
   response = t.response;
   spells = t.spells;
   joined = t.joined;
 }
 
-pub grows : (limits : Limits) (stream : List ℕ) (cs : List Call) (text rest more : List ℕ) → IsTranscript limits stream cs text rest → IsTranscript limits (stream ++ more) cs text (rest ++ more)
-grows limits stream [] text rest more x = (ap (λ (u : List ℕ). u ++ more) x.0, x.1)
-grows limits stream (c ∷ cs) text rest more x =
-    (x.0, x.1 ++ more, x.2, x.3, turn_grows limits stream c x.0 x.1 more x.4, grows limits x.1 cs x.2 rest more x.5)
+pub grows : (bounds : Bounds) (stream : List ℕ) (cs : List Call) (text rest more : List ℕ) → IsTranscript bounds stream cs text rest → IsTranscript bounds (stream ++ more) cs text (rest ++ more)
+grows bounds stream [] text rest more x = (ap (λ (u : List ℕ). u ++ more) x.0, x.1)
+grows bounds stream (c ∷ cs) text rest more x =
+    (x.0, x.1 ++ more, x.2, x.3, turn_grows bounds stream c x.0 x.1 more x.4, grows bounds x.1 cs x.2 rest more x.5)
 
 nothing_follows : (f : Framing) → MayFollow f []
 nothing_follows Framed.NoBody = tt
@@ -102,8 +102,8 @@ joined s o tail text interim head rest new p x y z w =
     ap (λ (u : List ℕ). s ++ u) (z ∙ w ∙ append_assoc o head rest) ∙ sym (append_assoc s o (head ++ rest)) ∙ ap (λ (u : List ℕ). u ++ (head ++ rest)) bare ∙ append_assoc text interim (head ++ rest)
 
 module _ (c n : Connection) (b : Begun) (a : Response) (due : IsDue c b a) (quiet : IsSilent c n) where
-  same_stream : (cs : List Call) (text rest : List ℕ) → IsTranscript c.bounds.limits (received c) cs text rest → IsTranscript n.bounds.limits (received n) cs text rest
-  same_stream cs text rest = subst₂ (λ (k : Bounds) (stream : List ℕ). IsTranscript k.limits stream cs text rest) (sym quiet.bounds) (sym (received_same c n quiet))
+  same_stream : (cs : List Call) (text rest : List ℕ) → IsTranscript c.bounds (received c) cs text rest → IsTranscript n.bounds (received n) cs text rest
+  same_stream cs text rest = subst₂ (λ (k : Bounds) (stream : List ℕ). IsTranscript k stream cs text rest) (sym quiet.bounds) (sym (received_same c n quiet))
 
   -- the response is sent
   pub replies : (out : List ℕ) (sent_bytes : ℕ) (next : Server) (piece : List ℕ) → Heads b.server (code_of a.status) (fields_of a) (length a.body.items) sent_bytes c.output.items out next
@@ -113,10 +113,11 @@ module _ (c n : Connection) (b : Begun) (a : Response) (due : IsDue c b a) (quie
   replies out sent_bytes next piece heads is len calls input pends how =
       let answer = head_text b a sent_bytes c.output.items out next heads piece len ++ rest_text b a sent_bytes c.output.items out next heads piece len in
       let all = interim_for b.expects_continue ++ answer in
-      let turn : Turn c.bounds.limits due.rest (b.request, a) all c.input.items = record {
+      let turn : Turn c.bounds due.rest (b.request, a) all c.input.items = record {
         message = due.message;
         reads = due.reads;
         proper = due.serves.proper;
+        fits = due.fits;
         asked = due.asked;
         response = answer;
         spells = spells b a sent_bytes c.output.items out next heads piece len due.message due.serves is;
@@ -143,7 +144,7 @@ module _ (c n : Connection) (b : Begun) (a : Response) (due : IsDue c b a) (quie
         answered = answered;
         text = due.text ++ all;
         rest = c.input.items;
-        transcript = same_stream _ _ _ (snoc c.bounds.limits (received c) due.answered due.text due.rest (b.request, a) all c.input.items due.transcript turn);
+        transcript = same_stream _ _ _ (snoc c.bounds (received c) due.answered due.text due.rest (b.request, a) all c.input.items due.transcript turn);
         stands = stands;
       }
 
@@ -173,7 +174,7 @@ settles m n next false is (inr e) = let bad : false ≡ true = e.1 in cc
 
 -- the service was asked, and its response is due
 pub due_now : (c n : Connection) (b begun : Begun) (a : Response) → Holds (record c { begun = Some b }) → c.end ≡ None → c.begun ≡ None → c.tail.items ≡ []
-    → IsWhole c.bounds.limits c.input.items begun → begun.expects_continue ≡ b.expects_continue
+    → IsWhole c.bounds c.input.items begun → begun.expects_continue ≡ b.expects_continue
     → n.bounds ≡ c.bounds → n.reads ≡ c.reads → n.writes ≡ c.writes → n.end ≡ c.end → n.begun ≡ c.begun → n.tail ≡ c.tail → n.output.items ≡ c.output.items
     → n.calls.items ≡ c.calls.items ++ (begun.request, a) ∷ [] → n.input.items ≡ drop begun.at c.input.items → IsDue n begun a
 due_now c n b begun a h goes_on none bare w same bounds reads writes state first tail out calls input =
@@ -183,7 +184,7 @@ due_now c n b begun a h goes_on none bare w same bounds reads writes state first
       answered = h.answered;
       text = h.text;
       rest = h.rest;
-      transcript = subst₂ (λ (k : Bounds) (stream : List ℕ). IsTranscript k.limits stream h.answered h.text h.rest) (sym bounds) (sym (received_same c n quiet)) h.transcript;
+      transcript = subst₂ (λ (k : Bounds) (stream : List ℕ). IsTranscript k stream h.answered h.text h.rest) (sym bounds) (sym (received_same c n quiet)) h.transcript;
       out = subst₂ (λ (s p : List ℕ). s ++ p ≡ h.text ++ interim_for begun.expects_continue) (sym (sent_same c n quiet)) (λ i. sym out i ++ (sym tail i).items)
           (o.2.1 ∙ ap (λ (e : Bool). h.text ++ interim_for e) (sym same));
       message = w.message;
@@ -192,6 +193,7 @@ due_now c n b begun a h goes_on none bare w same bounds reads writes state first
       asked = w.asked;
       serves = w.serves;
       continued = w.continued;
+      fits = subst (λ (k : Bounds). length begun.request.body.items ≤ k.max_body) (sym bounds) w.fits;
       kept = o.3;
       calls = calls ∙ ap (λ (cs : List Call). cs ++ (begun.request, a) ∷ []) o.0;
       bare = (λ i. (tail i).items) ∙ bare;

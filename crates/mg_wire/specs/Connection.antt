@@ -49,7 +49,7 @@ Follows c rest text more =
 -- after the responses, the next request has begun or not
 abbrev pub StandsAt : Option Begun → Connection → List ℕ → Type 0
 StandsAt None c text = said c ≡ text
-StandsAt (Some b) c text = IsBegun c.bounds.limits c.input.items b × (said c ≡ text ++ interim_for b.expects_continue)
+StandsAt (Some b) c text = IsBegun c.bounds c.input.items b × (said c ≡ text ++ interim_for b.expects_continue)
 
 -- The connection said the responses of the calls that were answered, and why it ends. `NoMemory`: the next request is refused, for want of
 -- memory or for another reason, and there was no memory to say so.
@@ -72,7 +72,7 @@ pub record Holds (c : Connection) : Type 0 where
   pub answered : List Call
   pub text : List ℕ
   pub rest : List ℕ
-  pub transcript : IsTranscript c.bounds.limits (received c) answered text rest
+  pub transcript : IsTranscript c.bounds (received c) answered text rest
   pub stands : Stands c.end c answered text rest
 
 -- what was said on the connection is right for what was received, from the first state of the service to the second one; `meets`: which
@@ -99,13 +99,14 @@ pub record IsDue (c : Connection) (b : Begun) (r : Response) : Type 0 where
   pub answered : List Call
   pub text : List ℕ
   pub rest : List ℕ
-  pub transcript : IsTranscript c.bounds.limits (received c) answered text rest
+  pub transcript : IsTranscript c.bounds (received c) answered text rest
   pub out : said c ≡ text ++ interim_for b.expects_continue
   pub message : Wire.Request
   pub reads : (more : List ℕ) → ReadsRequestMessage c.bounds.limits (rest ++ more) message (c.input.items ++ more)
   pub asked : IsAsked message b.request
   pub serves : Serves message.head b
   pub continued : b.server.request.expects_continue ≡ false
+  pub fits : length b.request.body.items ≤ c.bounds.max_body
   pub kept : All KeepsOpen answered
   pub calls : c.calls.items ≡ answered ++ (b.request, r) ∷ []
   pub bare : c.tail.items ≡ []

@@ -112,7 +112,7 @@ impl Connection {
 
     /// Why the request with this head is refused.
     fn objection(&self, begun: &Begun) -> Option<Refusal>
-        ensures { IsFresh self.now.bounds.limits self.now.input.items begun.now
+        ensures { IsFresh self.now.bounds self.now.input.items begun.now
             → MatchOption result (Unit {0}) (Refuses self.now.bounds self.now.has_ended self.now.is_starved self.now.input.items) }
     {
         if begun.server.has_codings() {
@@ -131,7 +131,7 @@ impl Connection {
         ensures quiet { IsQuiet self.old self.new }
         ensures calls { self.new.calls ≡ self.old.calls }
         ensures holds { self.old.tail.items ≡ [] → self.old.begun ≡ None → self.old.end ≡ None
-            → IsFresh self.old.bounds.limits self.old.input.items begun → Holds self.old → Holds self.new }
+            → IsFresh self.old.bounds self.old.input.items begun → Holds self.old → Holds self.new }
         ensures ends { IsFalse result → self.new.end ≢ None }
         ensures works { IsTrue result → (self.new.begun ≡ Some begun) × (self.new.input.items ≡ self.old.input.items) }
     {
@@ -149,7 +149,7 @@ impl Connection {
         ensures quiet { IsQuiet self.old self.new }
         ensures calls { self.new.calls ≡ self.old.calls }
         ensures holds { self.old.tail.items ≡ [] → self.old.begun ≡ None → self.old.end ≡ None
-            → IsBegun self.old.bounds.limits self.old.input.items begun → Holds self.old → Holds self.new }
+            → IsBegun self.old.bounds self.old.input.items begun → Holds self.old → Holds self.new }
         ensures ends { IsFalse result → self.new.end ≢ None }
         ensures works { IsTrue result → (self.new.begun ≡ Some begun) × (self.new.input.items ≡ self.old.input.items) }
     {
@@ -224,7 +224,7 @@ impl Connection {
         ensures asks { Asks S.answers self.old.calls.items service.old self.new.calls.items service.new }
         ensures holds { (b : Begun) → self.old.tail.items ≡ [] → self.old.end ≡ None → self.old.begun ≡ None
             → begun.expects_continue ≡ b.expects_continue → Holds (record self.old { begun = Some b })
-            → IsWhole self.old.bounds.limits self.old.input.items begun → Holds self.new }
+            → IsWhole self.old.bounds self.old.input.items begun → Holds self.new }
         ensures ends { IsFalse result → self.new.end ≢ None }
         ensures works { self.old.begun ≡ None → IsTrue result → (self.new.begun ≡ None)
             × (self.new.input.items ≡ drop (min begun.at (length self.old.input.items)) self.old.input.items) }

@@ -45,9 +45,9 @@ impl Begun {
 
     /// Reads a piece of the body.
     pub(crate) fn step(&mut self, bounds: Bounds, input: &[u8]) -> Result<Step, Refusal>
-        ensures read { IsBegun bounds.limits input.now self.old
-            → IfOk result (StepsTo bounds.limits input.now self.old.at self.new) }
-        ensures refused { (ended starved : Bool) → IsBegun bounds.limits input.now self.old
+        ensures read { IsBegun bounds input.now self.old
+            → IfOk result (StepsTo bounds input.now self.old.at self.new) }
+        ensures refused { (ended starved : Bool) → IsBegun bounds input.now self.old
             → IfErr result (Refuses bounds ended starved input.now) }
         ensures kept { self.new.expects_continue ≡ self.old.expects_continue }
         ensures moves { IfOk result (Moves input.now self.old.at self.new.at) }

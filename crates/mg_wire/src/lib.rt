@@ -6,7 +6,7 @@
 //! (`told`). It reads on only to await a request (`rests`): each whole one is answered, what came of the next head
 //! is no error, and the client has not ended its side. A request that the client cuts short is refused: the end of
 //! the input is reported only between two requests. A service is asked only requests with one `Host`, a target of a
-//! form that the method may have, and no `CONNECT` (`IsProper`). Each response that a service gives is sent: no
+//! form that the method may have, no `CONNECT` (`IsProper`), and a body that is no longer than may be. Each response that a service gives is sent: no
 //! value of `Status` or `Fields` is refused. It has a `Date` exactly if the service gives its date, since a
 //! connection has no clock. A refusal has a reason that holds whatever bytes follow (`Refuses`); want of memory is
 //! one only for a read, and for a request whose head has come. The connection closes after a response only if the

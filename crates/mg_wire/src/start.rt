@@ -14,7 +14,7 @@ use std::alloc::Global;
 
 /// Reads the head that the input begins with, and checks its first line. `None`: it is not there yet.
 pub(crate) fn begin(alloc: Global, bounds: Bounds, input: &[u8]) -> Result<Option<Begun>, Refusal>
-    ensures read { IfOk result (λ r. MatchOption r (AwaitsHead bounds.limits input.now) (IsFresh bounds.limits input.now)) }
+    ensures read { IfOk result (λ r. MatchOption r (AwaitsHead bounds.limits input.now) (IsFresh bounds input.now)) }
     ensures refused { (ended starved : Bool) → IfErr result (Refuses bounds ended starved input.now) }
 {
     let mut server = Server::new(bounds.limits);

@@ -33,4 +33,4 @@ returns-in-Err-clause-holds c = λ bare first goes_on h.
 pub returns-in-Ok-Some-clause-holds : goal.returns-in-Ok-Some-clause-holds
 returns-in-Ok-Some-clause-holds c = λ bare first goes_on h.
     let fresh = rw c.in-Ok-Some.field-0-is at c.in-Ok-Some.ensures.read in
-    c.accept.ensures.holds bare first goes_on (subst (λ (u : List ℕ). IsFresh c.args.self.now.bounds.limits u c.in-Ok-Some.begun) c.as_slice.ensures fresh) h
+    c.accept.ensures.holds bare first goes_on (subst (λ (u : List ℕ). IsFresh c.args.self.now.bounds u c.in-Ok-Some.begun) c.as_slice.ensures fresh) h
