@@ -7,7 +7,6 @@ use Rattle.httparse.specs.declared.spans.Span.{Span}
 use Rattle.httparse.specs.declared.spans.HeaderSpan.{HeaderSpan}
 use Rattle.httparse.specs.declared.spans.RequestSpans.{RequestSpans}
 use Rattle.httparse.proofs.GrammarLemmas.{request_unique}
-use Rattle.http1.specs.declared.conn.Limits.{Limits}
 use Rattle.http1.specs.declared.conn.Event.{Event}
 use Rattle.http1.specs.declared.conn.Event.TheVariants.{NeedMore, Head, Informational, Data, End, Paused, Upgraded, Closed}
 use Rattle.http1.specs.declared.conn.Progress.{Progress}
@@ -35,6 +34,7 @@ use Rattle.http1.specs.Message.{known_of, AcceptsRequest, ReadsRequestMessage}
 use Rattle.http1.proofs.OneParse.{body_from_completes, completes_from_body}
 use Rattle.mg_wire.specs.declared.request.Field.{Field}
 use Rattle.mg_wire.specs.declared.body.Begun.{Begun}
+use Rattle.mg_wire.specs.declared.bounds.Bounds.{Bounds}
 use Rattle.mg_wire.specs.Request.{field_parts}
 use Rattle.mg_wire.specs.Refusal.{IsEach, HasNoEnd}
 use Rattle.mg_wire.specs.declared.body.TheConstants.{MAX_FIELDS}
@@ -89,31 +89,31 @@ sized_is (Coded.Length left) len is = cc
 sized_is (Coded.Chunked chunks max_len) len is = cc
 sized_is UntilClose len is = cc
 
-module _ (limits : Limits) (input : List ℕ) (b : Begun) (x : IsBegun limits input b) where
+module _ (bounds : Bounds) (input : List ℕ) (b : Begun) (x : IsBegun bounds input b) where
   -- each request that the input may become has the head that was read, and a body that begins with what was read
-  request_is : (more : List ℕ) (m : Wire.Request) (rest : List ℕ) → ReadsRequestMessage limits (input ++ more) m rest
+  request_is : (more : List ℕ) (m : Wire.Request) (rest : List ℕ) → ReadsRequestMessage bounds.limits (input ++ more) m rest
       → (m.head ≡ x.head) × (body : Body) × (m.body ≡ with_front b.request.body.items body) × Completes x.decoder (drop b.at input ++ more) body rest
   request_is more m rest r =
       let first = x.accepts more in
       let head = request_unique (input ++ more) m.head x.head r.after_head (x.after ++ more) r.head.reads first.reads in
       let framed = sym r.head.framed ∙ ap (λ (h : RequestHead). request_framing (method_kind h.method) h.minor (known_of h.fields)) head.0 ∙ first.framed in
       let framing : r.framing ≡ x.framing = cc in
-      let body = subst₂ (λ (f : Framing) (s : List ℕ). ReadsBody limits f s m.body rest) framing head.1 r.body in
-      let back = x.forth more m.body rest (completes_from_body limits x.framing _ m.body rest body) in
+      let body = subst₂ (λ (f : Framing) (s : List ℕ). ReadsBody bounds.limits f s m.body rest) framing head.1 r.body in
+      let back = x.forth more m.body rest (completes_from_body bounds.limits x.framing _ m.body rest body) in
       (head.0, back.0, back.1, back.2)
 
   each_of : (P : Wire.Request → Type 0)
-      → ((more : List ℕ) (m : Wire.Request) (rest : List ℕ) → ReadsRequestMessage limits (input ++ more) m rest → P m) → IsEach limits input P
+      → ((more : List ℕ) (m : Wire.Request) (rest : List ℕ) → ReadsRequestMessage bounds.limits (input ++ more) m rest → P m) → IsEach bounds.limits input P
   each_of P each = record {
     head = x.head;
     framing = x.framing;
     after = x.after;
-    accepts = subst₂ (λ (s r : List ℕ). AcceptsRequest limits s x.head x.framing r) (append-nil input) (append-nil x.after) (x.accepts []);
+    accepts = subst₂ (λ (s r : List ℕ). AcceptsRequest bounds.limits s x.head x.framing r) (append-nil input) (append-nil x.after) (x.accepts []);
     each = each;
   }
 
   -- the length that the head states is too large
-  pub states_too_much : (len max : ℕ) → unread_size (reading b.server) ≡ Known len → max < len → IsEach limits input (λ m. max < length m.body.bytes)
+  pub states_too_much : (len max : ℕ) → unread_size (reading b.server) ≡ Known len → max < len → IsEach bounds.limits input (λ m. max < length m.body.bytes)
   states_too_much len max is big =
       let sized = sized_is x.decoder len (subst (λ (r : Reading). unread_size r ≡ Known len) x.reading_is is) in
       each_of _ (λ more m rest r.
@@ -125,13 +125,13 @@ module _ (limits : Limits) (input : List ℕ) (b : Begun) (x : IsBegun limits in
 
   -- the body is in a coding that the server does not know
   pub is_coded : has_codings b.server ≡ (known_of x.head.fields).other_coding → has_codings b.server ≡ true
-      → IsEach limits input (λ m. (known_of m.head.fields).other_coding ≡ true)
+      → IsEach bounds.limits input (λ m. (known_of m.head.fields).other_coding ≡ true)
   is_coded coded is =
       each_of _ (λ more m rest r. ap (λ (h : RequestHead). (known_of h.fields).other_coding) (request_is more m rest r).0 ∙ sym coded ∙ is)
 
   -- the body cannot be read on
   pub body_refused : (unread : List ℕ) (room : ℕ) (e : ReadError) → unread ≡ drop b.at input → room ≡ MAX_FIELDS
-      → ServerRefuses b.server unread room e → HasNoEnd limits input e
+      → ServerRefuses b.server unread room e → HasNoEnd bounds.limits input e
   body_refused unread room e rest is found =
       let at = subst (λ (r : Reading). RefusesAt r b.server.limits unread room e) x.reading_is found in (
         each_of _ (λ more m rest_of r.
@@ -144,7 +144,7 @@ module _ (limits : Limits) (input : List ℕ) (b : Begun) (x : IsBegun limits in
   -- a piece of the body makes it too large
   pub piece_too_large : (spans : List HeaderSpan) (new : Server) (read : Progress RequestSpans) (unread : List ℕ) (s : Span) (max : ℕ) → unread ≡ drop b.at input
       → ServerReads b.server unread spans new read → read.event ≡ Data s → max - length b.request.body.items < length (span_bytes unread s)
-      → IsEach limits input (λ m. max < length m.body.bytes)
+      → IsEach bounds.limits input (λ m. max < length m.body.bytes)
   piece_too_large spans new read unread s max rest found is big =
       let here = subst (λ (u : List ℕ). ServerReads b.server u spans new read) rest found in
       let inside : ReadsInBody x.decoder b.server (drop b.at input) spans new read =
@@ -160,7 +160,7 @@ module _ (limits : Limits) (input : List ℕ) (b : Begun) (x : IsBegun limits in
       ap (λ (k : Body). length k.bytes) f.1 ∙ length-append (span_bytes (drop b.at input) s) f.0.bytes in
       omega (arith, whole, later, size))
 
-module _ (limits : Limits) (input : List ℕ) (b n : Begun) (x : IsBegun limits input b) where
+module _ (bounds : Bounds) (input : List ℕ) (b n : Begun) (x : IsBegun bounds input b) where
   front_twice : (body : Body) (piece : List ℕ) → with_front b.request.body.items (with_front piece body) ≡ with_front (b.request.body.items ++ piece) body
   front_twice body piece = ap (λ (bytes : List ℕ). body_of bytes body.trailers) (sym (append_assoc b.request.body.items piece body.bytes))
 
@@ -168,8 +168,9 @@ module _ (limits : Limits) (input : List ℕ) (b n : Begun) (x : IsBegun limits 
   drop_at len at = drop-drop len b.at input ∙ ap (λ (k : ℕ). drop k input) (sym at)
 
   goes_on : (new : Decoder) (len : ℕ) (piece : List ℕ) → Continues x.decoder (drop b.at input) new len piece → n.at ≡ b.at + len
-      → n.request.body.items ≡ b.request.body.items ++ piece → KeepsHead x.head n → Follows b.server n.server (Reads.Body new) → IsBegun limits input n
-  goes_on new len piece c at got asked y = record {
+      → n.request.body.items ≡ b.request.body.items ++ piece → KeepsHead x.head n → Follows b.server n.server (Reads.Body new)
+      → length n.request.body.items ≤ bounds.max_body → IsBegun bounds input n
+  goes_on new len piece c at got asked y fits = record {
     head = x.head;
     framing = x.framing;
     decoder = new;
@@ -183,7 +184,7 @@ module _ (limits : Limits) (input : List ℕ) (b n : Begun) (x : IsBegun limits 
         let here : drop n.at input ≡ drop len (drop b.at input) = sym (drop_at len at) in
         let z1 = subst (λ (u : List ℕ). Completes new (u ++ more) body rest) here z in
         let z2 = x.back more (with_front piece body) rest (c.back more body rest z1) in
-        subst (λ (whole : Body). Completes (decoder_for limits x.framing) (x.after ++ more) whole rest)
+        subst (λ (whole : Body). Completes (decoder_for bounds.limits x.framing) (x.after ++ more) whole rest)
         (front_twice body piece ∙ ap (λ (g : List ℕ). with_front g body) (sym got)) z2;
     forth = λ more whole rest z.
         let here : drop n.at input ≡ drop len (drop b.at input) = sym (drop_at len at) in
@@ -194,10 +195,11 @@ module _ (limits : Limits) (input : List ℕ) (b n : Begun) (x : IsBegun limits 
           subst (λ (u : List ℕ). Completes new (u ++ more) g.0 rest) (sym here) g.2,
         );
     sized = stays_sized x.decoder new (drop b.at input) len piece c.runs x.sized;
+    fits = fits;
   }
 
   ends : (spans : List HeaderSpan) (len count : ℕ) → Ends x.decoder (drop b.at input) spans len count → len ≤ length (drop b.at input) → n.at ≡ b.at + len
-      → n.request.body.items ≡ b.request.body.items → KeepsHead x.head n → Follows b.server n.server Reads.Done → IsWhole limits input n
+      → n.request.body.items ≡ b.request.body.items → KeepsHead x.head n → Follows b.server n.server Reads.Done → IsWhole bounds input n
   ends spans len count e fits at got asked y = record {
     message = record { head = x.head; body = with_front b.request.body.items (body_of [] e.trailers) };
     reads = λ more. record {
@@ -206,14 +208,15 @@ module _ (limits : Limits) (input : List ℕ) (b n : Begun) (x : IsBegun limits 
       head = x.accepts more;
       body =
           let here : drop len (drop b.at input) ≡ drop n.at input = drop_at len at in
-          body_from_completes limits x.framing _ _ _
-          (subst (λ (u : List ℕ). Completes (decoder_for limits x.framing) (x.after ++ more) (with_front b.request.body.items (body_of [] e.trailers)) (u ++ more)) here
+          body_from_completes bounds.limits x.framing _ _ _
+          (subst (λ (u : List ℕ). Completes (decoder_for bounds.limits x.framing) (x.after ++ more) (with_front b.request.body.items (body_of [] e.trailers)) (u ++ more)) here
           (x.back more (body_of [] e.trailers) _ (e.completes more)));
     };
     asked = record { head = asked.asked; body = got ∙ sym (append-nil b.request.body.items) };
     serves = serves_on x.head b n Reads.Done x.serves y asked;
     reading_is = y.reads_next;
     continued = y.continued refl;
+    fits = omega (arith, x.fits, ap length got);
     within = omega (arith, x.within, fits, length-drop b.at input, at);
     moved = omega (arith, x.moved, at);
   }
@@ -235,13 +238,17 @@ module _ (limits : Limits) (input : List ℕ) (b n : Begun) (x : IsBegun limits 
     kept : {next : Reading} → inside.0 ≡ next → Follows b.server n.server next
     kept {next} is = subst (λ (r : Reading). Follows b.server n.server r) is (follows b.server n.server (drop b.at input) inside.0 x.serves.writing_is inside.2)
 
-    pub data_read : (s : Span) → read.event ≡ Data s → n.request.body.items ≡ b.request.body.items ++ span_bytes unread s → IsBegun limits input n × (b.at < n.at)
-    data_read s is got =
+    pub data_read : (s : Span) → read.event ≡ Data s → n.request.body.items ≡ b.request.body.items ++ span_bytes unread s
+        → length (span_bytes unread s) ≤ bounds.max_body - length b.request.body.items → IsBegun bounds input n × (b.at < n.at)
+    data_read s is got small =
         let p : Piece (Data s) = subst Piece is inside.1 in
-        let here : n.at ≡ b.at + s.end = at ∙ ap (λ (k : ℕ). b.at + k) p.2 in
-        (goes_on p.0 s.end (span_bytes (drop b.at input) s) p.4 here (got ∙ ap (λ (u : List ℕ). b.request.body.items ++ span_bytes u s) rest) head_kept (kept p.1), omega arith)
+        let here : n.at ≡ b.at + s.end = at ∙ ap (λ (k : ℕ). b.at + k) p.2 in (
+          goes_on p.0 s.end (span_bytes (drop b.at input) s) p.4 here (got ∙ ap (λ (u : List ℕ). b.request.body.items ++ span_bytes u s) rest) head_kept (kept p.1)
+              (omega (arith, x.fits, small, ap length got, length-append b.request.body.items (span_bytes unread s))),
+          omega arith,
+        )
 
-    pub end_read : (count : ℕ) → read.event ≡ End count → read.consumed ≤ length unread → n.request.body.items ≡ b.request.body.items → IsWhole limits input n × (b.at ≤ n.at)
+    pub end_read : (count : ℕ) → read.event ≡ End count → read.consumed ≤ length unread → n.request.body.items ≡ b.request.body.items → IsWhole bounds input n × (b.at ≤ n.at)
     end_read count is fits got =
         let p : Piece (End count) = subst Piece is inside.1 in
         (ends spans read.consumed count p.1 (subst (λ (u : List ℕ). read.consumed ≤ length u) rest fits) at got head_kept (kept p.0), omega arith)
@@ -249,13 +256,13 @@ module _ (limits : Limits) (input : List ℕ) (b n : Begun) (x : IsBegun limits 
     pub data_moves : (s : Span) → read.event ≡ Data s → 0 < read.consumed
     data_moves s is = let p : Piece (Data s) = subst Piece is inside.1 in omega (arith, p.2, p.3)
 
-    starves : (new : Decoder) → Starves x.decoder (drop b.at input) new read.consumed → HasNoMessage limits input
+    starves : (new : Decoder) → Starves x.decoder (drop b.at input) new read.consumed → HasNoMessage bounds.limits input
     starves new p m rest r =
-        let q = request_is limits input b x [] m rest (subst (λ (s : List ℕ). ReadsRequestMessage limits s m rest) (sym (append-nil input)) r) in
+        let q = request_is bounds input b x [] m rest (subst (λ (s : List ℕ). ReadsRequestMessage bounds.limits s m rest) (sym (append-nil input)) r) in
         p.unfinished x.sized q.1 rest (subst (λ (v : List ℕ). Completes x.decoder v q.1 rest) (append-nil (drop b.at input)) q.3)
 
-    waits_at : (event : Event RequestSpans) → ((s : Span) → event ≢ Data s) → ((k : ℕ) → event ≢ End k) → n.request.body.items ≡ b.request.body.items → Piece event → IsBegun limits input n × HasNoMessage limits input
-    waits_at NeedMore f g got p = (goes_on p.0 read.consumed [] p.2.continues at (got ∙ sym (append-nil b.request.body.items)) head_kept (kept p.1), starves p.0 p.2)
+    waits_at : (event : Event RequestSpans) → ((s : Span) → event ≢ Data s) → ((k : ℕ) → event ≢ End k) → n.request.body.items ≡ b.request.body.items → Piece event → IsBegun bounds input n × HasNoMessage bounds.limits input
+    waits_at NeedMore f g got p = (goes_on p.0 read.consumed [] p.2.continues at (got ∙ sym (append-nil b.request.body.items)) head_kept (kept p.1) (omega (arith, x.fits, ap length got)), starves p.0 p.2)
     waits_at (Head r) f g got p = absurd p
     waits_at (Informational r) f g got p = absurd p
     waits_at (Data s) f g got p = absurd (f s refl)
@@ -264,7 +271,7 @@ module _ (limits : Limits) (input : List ℕ) (b n : Begun) (x : IsBegun limits 
     waits_at Upgraded f g got p = absurd p
     waits_at Closed f g got p = absurd p
 
-    pub wait_read : ((s : Span) → read.event ≢ Data s) → ((k : ℕ) → read.event ≢ End k) → n.request.body.items ≡ b.request.body.items → IsBegun limits input n × HasNoMessage limits input
+    pub wait_read : ((s : Span) → read.event ≢ Data s) → ((k : ℕ) → read.event ≢ End k) → n.request.body.items ≡ b.request.body.items → IsBegun bounds input n × HasNoMessage bounds.limits input
     wait_read f g got = waits_at read.event f g got inside.1
 
 pub same_head : (b n : Begun) → n.request.method ≡ b.request.method → n.request.target ≡ b.request.target → n.request.minor ≡ b.request.minor

@@ -6,29 +6,27 @@ use Rattle.std.proofs.lemmas.Grind.{flat_map-append}
 use Rattle.std.proofs.Math.Seq.{drop-append_seam}
 use Rattle.bytes.proofs.Chunks.{drop-append_min}
 use Rattle.bytes.specs.Filled.{Filled}
-use Rattle.http1.specs.declared.conn.Limits.{Limits}
-use Rattle.http1.specs.declared.error.WriteError.{WriteError}
 use Rattle.http1.specs.Decoder.{decoder_for, Completes, with_front}
-use Rattle.http1.specs.Message.{AcceptsRequest, ReadsRequestMessage}
+use Rattle.http1.specs.Message.{AcceptsRequest}
 use Rattle.mg_wire.specs.declared.body.Begun.{Begun}
 use Rattle.mg_wire.specs.declared.bounds.Bounds.{Bounds}
 use Rattle.mg_wire.specs.declared.connection.Connection.{Connection}
 use Rattle.mg_wire.specs.declared.connection.Ending.{Ending}
-use Rattle.mg_wire.specs.declared.connection.Ending.TheVariants.{Closed, InputEnded, Refused, NoMemory, Faulty}
+use Rattle.mg_wire.specs.declared.connection.Ending.TheVariants.{Closed, InputEnded, Refused, NoMemory}
 use Rattle.mg_wire.specs.declared.refusal.Refusal.{Refusal}
 use Rattle.mg_wire.specs.Body.{IsBegun}
 use Rattle.mg_wire.specs.Refusal.{Refuses}
 use Rattle.mg_wire.specs.Transcript.{Call, IsTranscript}
-use Rattle.mg_wire.specs.Connection.{received, sent, pending, said, IsInterimOf, Follows, StandsAt, IsLost, EndsFor, Stands, Holds}
+use Rattle.mg_wire.specs.Connection.{received, sent, pending, said, IsInterimOf, Follows, StandsAt, EndsFor, Stands, Holds}
 use Rattle.mg_wire.proofs.TurnLemmas.{grows}
 
-begun_grows : (limits : Limits) (input more : List ℕ) (b : Begun) → IsBegun limits input b → IsBegun limits (input ++ more) b
-begun_grows limits input more b x = record {
+begun_grows : (bounds : Bounds) (input more : List ℕ) (b : Begun) → IsBegun bounds input b → IsBegun bounds (input ++ more) b
+begun_grows bounds input more b x = record {
   head = x.head;
   framing = x.framing;
   decoder = x.decoder;
   after = x.after ++ more;
-  accepts = λ later. subst₂ (λ (s r : List ℕ). AcceptsRequest limits s x.head x.framing r) (sym (append_assoc input more later)) (sym (append_assoc x.after more later)) (x.accepts (more ++ later));
+  accepts = λ later. subst₂ (λ (s r : List ℕ). AcceptsRequest bounds.limits s x.head x.framing r) (sym (append_assoc input more later)) (sym (append_assoc x.after more later)) (x.accepts (more ++ later));
   serves = x.serves;
   reading_is = x.reading_is;
   within = omega (arith, x.within, length-append input more);
@@ -36,21 +34,22 @@ begun_grows limits input more b x = record {
   back = λ later body rest z.
       let here : drop b.at (input ++ more) ++ later ≡ drop b.at input ++ (more ++ later) =
       ap (λ (u : List ℕ). u ++ later) (drop-append-le b.at input more x.within) ∙ append_assoc (drop b.at input) more later in
-      subst (λ (u : List ℕ). Completes (decoder_for limits x.framing) u (with_front b.request.body.items body) rest) (sym (append_assoc x.after more later))
+      subst (λ (u : List ℕ). Completes (decoder_for bounds.limits x.framing) u (with_front b.request.body.items body) rest) (sym (append_assoc x.after more later))
       (x.back (more ++ later) body rest (subst (λ (u : List ℕ). Completes x.decoder u body rest) here z));
   forth = λ later whole rest z.
       let here : drop b.at (input ++ more) ++ later ≡ drop b.at input ++ (more ++ later) =
       ap (λ (u : List ℕ). u ++ later) (drop-append-le b.at input more x.within) ∙ append_assoc (drop b.at input) more later in
-      let f = x.forth (more ++ later) whole rest (subst (λ (u : List ℕ). Completes (decoder_for limits x.framing) u whole rest) (append_assoc x.after more later) z) in
+      let f = x.forth (more ++ later) whole rest (subst (λ (u : List ℕ). Completes (decoder_for bounds.limits x.framing) u whole rest) (append_assoc x.after more later) z) in
       (f.0, f.1, subst (λ (u : List ℕ). Completes x.decoder u f.0 rest) (sym here) f.2);
   sized = x.sized;
+  fits = x.fits;
 }
 
 module _ (c n : Connection) (more : List ℕ) (bounds : n.bounds ≡ c.bounds) (came : received n ≡ received c ++ more) (calls : n.calls.items ≡ c.calls.items) (out : said n ≡ said c) (begun : n.begun ≡ c.begun) where
   at_on : (input : List ℕ) → n.input.items ≡ input ++ more → input ≡ c.input.items → (b : Option Begun) (text : List ℕ) → StandsAt b c text → StandsAt b n text
   at_on input grew same None text x = out ∙ x
   at_on input grew same (Some b) text x = (
-    subst₂ (λ (k : Bounds) (i : List ℕ). IsBegun k.limits i b) (sym bounds) (sym (grew ∙ ap (λ (u : List ℕ). u ++ more) same)) (begun_grows c.bounds.limits c.input.items more b x.0),
+    subst₂ (λ (k : Bounds) (i : List ℕ). IsBegun k i b) (sym bounds) (sym (grew ∙ ap (λ (u : List ℕ). u ++ more) same)) (begun_grows c.bounds c.input.items more b x.0),
     out ∙ x.1,
   )
 
@@ -61,8 +60,8 @@ module _ (c n : Connection) (more : List ℕ) (bounds : n.bounds ≡ c.bounds) (
         answered = h.answered;
         text = h.text;
         rest = h.rest ++ more;
-        transcript = subst₂ (λ (k : Bounds) (stream : List ℕ). IsTranscript k.limits stream h.answered h.text (h.rest ++ more)) (sym bounds) (sym came)
-            (grows c.bounds.limits (received c) h.answered h.text h.rest more h.transcript);
+        transcript = subst₂ (λ (k : Bounds) (stream : List ℕ). IsTranscript k stream h.answered h.text (h.rest ++ more)) (sym bounds) (sym came)
+            (grows c.bounds (received c) h.answered h.text h.rest more h.transcript);
         stands = subst (λ (s : Option Ending). Stands s n h.answered h.text (h.rest ++ more)) (sym (state ∙ goes_on)) (
           calls ∙ o.0,
           ap (λ (u : List ℕ). u ++ more) o.1 ∙ sym grew,
@@ -78,18 +77,7 @@ module _ (c n : Connection) (bounds : n.bounds ≡ c.bounds) (came : received n 
 
   at_same : (b : Option Begun) (text : List ℕ) → StandsAt b c text → StandsAt b n text
   at_same None text x = out ∙ x
-  at_same (Some b) text x = (subst₂ (λ (k : Bounds) (i : List ℕ). IsBegun k.limits i b) (sym bounds) (sym input) x.0, out ∙ x.1)
-
-  lost_same : (e : WriteError) (answered : List Call) (rest : List ℕ) → IsLost e c answered rest → IsLost e n answered rest
-  lost_same e answered rest x = record {
-    last = x.last;
-    calls = calls ∙ x.calls;
-    message = x.message;
-    after = x.after;
-    reads = subst (λ (k : Bounds). (later : List ℕ) → ReadsRequestMessage k.limits (rest ++ later) x.message (x.after ++ later)) (sym bounds) x.reads;
-    asked = x.asked;
-    why = x.why;
-  }
+  at_same (Some b) text x = (subst₂ (λ (k : Bounds) (i : List ℕ). IsBegun k i b) (sym bounds) (sym input) x.0, out ∙ x.1)
 
   why_same : n.is_starved ≡ c.is_starved → (rest : List ℕ) (r : Refusal) → Refuses c.bounds c.has_ended c.is_starved rest r
       → Refuses n.bounds n.has_ended n.is_starved rest r
@@ -107,8 +95,6 @@ module _ (c n : Connection) (bounds : n.bounds ≡ c.bounds) (came : received n 
   )
   ends_same starved NoMemory answered text rest x =
       (calls ∙ x.0, follows_same rest text [] x.1, (x.2.0, why_same starved rest x.2.0 x.2.1))
-  ends_same starved (Faulty e) answered text rest x =
-      (lost_same e answered rest x.0, elim x.1 [ inl f ↦ inl (follows_same rest text _ f) | inr f ↦ inr (follows_same rest text _ f) ])
 
   stands_same : (s : Option Ending) → (s ≡ None) ⊎ (n.is_starved ≡ c.is_starved) → (answered : List Call) (text rest : List ℕ) → Stands s c answered text rest → Stands s n answered text rest
   stands_same None starved answered text rest x =
@@ -122,7 +108,7 @@ module _ (c n : Connection) (bounds : n.bounds ≡ c.bounds) (came : received n 
     answered = h.answered;
     text = h.text;
     rest = h.rest;
-    transcript = subst₂ (λ (k : Bounds) (stream : List ℕ). IsTranscript k.limits stream h.answered h.text h.rest) (sym bounds) (sym came) h.transcript;
+    transcript = subst₂ (λ (k : Bounds) (stream : List ℕ). IsTranscript k stream h.answered h.text h.rest) (sym bounds) (sym came) h.transcript;
     stands = subst (λ (s : Option Ending). Stands s n h.answered h.text h.rest) (sym state) (stands_same c.end starved h.answered h.text h.rest h.stands);
   }
 

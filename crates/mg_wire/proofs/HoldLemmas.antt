@@ -1,7 +1,6 @@
 -- What a connection keeps true.
 use Rattle.std.proofs.Common.{◌≡◌, ◌≢◌, ◌⊎◌, ℕ, Bool, IsTrue, IsFalse, true, false, eqb, ◌==◌, List, [], ◌∷◌, ◌++◌, length, take, drop, Option, Some, None, append_assoc, append-nil, sym, refl, ap, ◌∙◌, subst, subst₂, inl, inr, arith}
 use Rattle.std.specs.List.{flat_map}
-use Rattle.http1.specs.declared.conn.Limits.{Limits}
 use Rattle.http1.specs.Message.{AcceptsRequest}
 use Rattle.mg_wire.specs.declared.body.Begun.{Begun}
 use Rattle.mg_wire.specs.declared.bounds.Bounds.{Bounds}
@@ -31,12 +30,12 @@ pub sent_same : (old new : Connection) → IsSilent old new → sent new ≡ sen
 sent_same old new s = λ i. flat_map (λ p. take p.1 p.0.items) (s.writes i).items
 
 -- the request that has begun was sent what its head asks for
-pub interim_of : (limits : Limits) (input : List ℕ) (b : Begun) → IsBegun limits input b → IsInterimOf limits input (interim_for b.expects_continue)
-interim_of limits input b x = record {
+pub interim_of : (bounds : Bounds) (input : List ℕ) (b : Begun) → IsBegun bounds input b → IsInterimOf bounds.limits input (interim_for b.expects_continue)
+interim_of bounds input b x = record {
   head = x.head;
   framing = x.framing;
   after = x.after;
-  accepts = subst₂ (λ (s r : List ℕ). AcceptsRequest limits s x.head x.framing r) (append-nil input) (append-nil x.after) (x.accepts []);
+  accepts = subst₂ (λ (s r : List ℕ). AcceptsRequest bounds.limits s x.head x.framing r) (append-nil input) (append-nil x.after) (x.accepts []);
   is = ap interim_for x.serves.keeps.expects;
 }
 
@@ -46,8 +45,8 @@ with_pending s t p a q b more x y z w =
     (subst₂ (λ (q b : List ℕ). s ++ (q ++ []) ≡ (s ++ (a ++ b)) ++ more) (sym w) (sym z)
     (ap (λ (u : List ℕ). s ++ u) (append-nil (a ++ more)) ∙ sym (append_assoc s a more) ∙ ap (λ (u : List ℕ). (s ++ u) ++ more) (sym (append-nil a))))
 
-nothing_begun : (limits : Limits) (input : List ℕ) (b : Begun) → IsBegun limits input b → input ≢ []
-nothing_begun limits input b x is = let none : length input ≡ 0 = ap length is in omega (arith, x.within, x.moved)
+nothing_begun : (bounds : Bounds) (input : List ℕ) (b : Begun) → IsBegun bounds input b → input ≢ []
+nothing_begun bounds input b x is = let none : length input ≡ 0 = ap length is in omega (arith, x.within, x.moved)
 
 module _ (old new : Connection) (more : List ℕ) (a : Adds old new more) where
   pub said_is : said new ≡ said old ++ more
@@ -58,8 +57,8 @@ module _ (old new : Connection) (more : List ℕ) (a : Adds old new more) where
     answered = h.answered;
     text = h.text;
     rest = h.rest;
-    transcript = subst₂ (λ (limits : Limits) (stream : List ℕ). IsTranscript limits stream h.answered h.text h.rest)
-        (λ i. (sym a.silent.bounds i).limits) (sym (received_same old new a.silent)) h.transcript;
+    transcript = subst₂ (λ (k : Bounds) (stream : List ℕ). IsTranscript k stream h.answered h.text h.rest)
+        (sym a.silent.bounds) (sym (received_same old new a.silent)) h.transcript;
     stands = s;
   }
 
@@ -73,7 +72,7 @@ module _ (old new : Connection) (more : List ℕ) (a : Adds old new more) where
   follows_at None text s = ([], inl refl, s ∙ sym (append-nil text))
   follows_at (Some b) text s = (
     interim_for b.expects_continue,
-    inr (interim_of old.bounds.limits old.input.items b s.0),
+    inr (interim_of old.bounds old.input.items b s.0),
     s.1 ∙ ap (λ (i : List ℕ). text ++ i) (sym (append-nil (interim_for b.expects_continue))),
   )
 
@@ -114,7 +113,7 @@ module _ (old new : Connection) (more : List ℕ) (a : Adds old new more) where
 
     text_at : (b : Option Begun) → old.input.items ≡ [] → StandsAt b old h.text → said old ≡ h.text
     text_at None none s = s
-    text_at (Some b) none s = absurd (nothing_begun old.bounds.limits old.input.items b s.0 none)
+    text_at (Some b) none s = absurd (nothing_begun old.bounds old.input.items b s.0 none)
 
     pub runs_out : more ≡ [] → new.end ≡ Some InputEnded → old.input.items ≡ [] → IsTrue old.has_ended → Holds new
     runs_out same is none ended = ends_for InputEnded is (
@@ -129,20 +128,20 @@ module _ (old new : Connection) (more : List ℕ) (a : Adds old new more) where
         (calls_same (opened h goes_on).0, rest_is ∙ sym input, s, (opened h goes_on).3))
 
     pub admits : (b : Begun) → old.begun ≡ None → more ≡ interim_for b.expects_continue → new.begun ≡ Some b → new.end ≡ None → new.input.items ≡ old.input.items
-        → IsBegun old.bounds.limits old.input.items b → Holds new
+        → IsBegun old.bounds old.input.items b → Holds new
     admits b first interim now is input begun =
         let text : said old ≡ h.text = subst (λ (x : Option Begun). StandsAt x old h.text) first (opened h goes_on).2 in
         stands_open is input (subst (λ (x : Option Begun). StandsAt x new h.text) (sym now) (
-          subst₂ (λ (l : Bounds) (input : List ℕ). IsBegun l.limits input b) (sym a.silent.bounds) (sym input) begun,
+          subst₂ (λ (l : Bounds) (input : List ℕ). IsBegun l input b) (sym a.silent.bounds) (sym input) begun,
           said_is ∙ (λ i. text i ++ interim i),
         ))
 
     pub goes : (b n : Begun) → more ≡ [] → old.begun ≡ Some b → new.begun ≡ Some n → n.expects_continue ≡ b.expects_continue → new.end ≡ None
-        → new.input.items ≡ old.input.items → IsBegun old.bounds.limits old.input.items n → Holds new
+        → new.input.items ≡ old.input.items → IsBegun old.bounds old.input.items n → Holds new
     goes b n same before now keeps is input begun =
         let at = subst (λ (x : Option Begun). StandsAt x old h.text) before (opened h goes_on).2 in
         stands_open is input (subst (λ (x : Option Begun). StandsAt x new h.text) (sym now) (
-          subst₂ (λ (l : Bounds) (input : List ℕ). IsBegun l.limits input n) (sym a.silent.bounds) (sym input) begun,
+          subst₂ (λ (l : Bounds) (input : List ℕ). IsBegun l input n) (sym a.silent.bounds) (sym input) begun,
           said_is ∙ ap (λ (u : List ℕ). said old ++ u) same ∙ append-nil (said old) ∙ at.1 ∙ ap (λ (e : Bool). h.text ++ interim_for e) (sym keeps),
         ))
 

@@ -1,5 +1,9 @@
 pub mod StartLemmas
+pub mod ReadyLemmas
 pub mod BodyLemmas
+pub mod SendableLemmas
+pub mod DateLemmas
+pub mod PlanLemmas
 pub mod ReplyLemmas
 pub mod HoldLemmas
 pub mod TurnLemmas

@@ -1,5 +1,8 @@
--- From what the state machine says of each write to what is sent of an response.
-use Rattle.std.proofs.Common.{◌≡◌, ◌⊎◌, ℕ, ◌<◌, ◌^◌, Bool, true, false, not, ◌&&◌, ◌||◌, nat_lt, List, [], ◌∷◌, ◌++◌, length, append_assoc, append-nil, Option, Some, None, Result, Ok, Err, IsOk, MatchOption, sym, refl, ap, ◌∙◌, subst, subst₂, cond, eqb, length-append, inl, inr, arith}
+-- From what the state machine says of each write to what is sent of a response.
+use Rattle.std.proofs.Common.{◌≡◌, ℕ, zero, suc, ◌+◌, ◌-◌, ◌<◌, ◌≤◌, ◌^◌, Bool, true, false, not, ◌&&◌, ◌||◌, nat_lt, nat_le, if◌then◌else◌, List, [], ◌∷◌, ◌++◌, length, append_assoc, append-nil, Option, Some, None, Result, Ok, Err, IsOk, MatchOption, sym, refl, ap, ◌∙◌, subst, subst₂, cond, eqb, length-append, inl, inr, arith}
+use Rattle.std.specs.Prelude.{codes}
+use Rattle.std.proofs.lemmas.Bool.{and_parts, and_from, leb-true}
+use Rattle.std.proofs.lemmas.Bool.Decides.{nat_tests}
 use Rattle.httparse.specs.Ascii.{crlf_bytes}
 use Rattle.http1.specs.declared.conn.BodySize.{BodySize}
 use Rattle.http1.specs.declared.conn.Writing.{Writing}
@@ -7,16 +10,26 @@ use Rattle.http1.specs.declared.conn.Writing.TheVariants as Writes
 use Rattle.http1.specs.declared.encode.Encoder.{Encoder}
 use Rattle.http1.specs.declared.encode.Encoder.TheVariants.{Length, Chunked, UntilClose}
 use Rattle.http1.specs.declared.error.WriteError.{WriteError}
-use Rattle.http1.specs.declared.error.WriteError.TheVariants.{OutOfMemory}
+use Rattle.http1.specs.declared.error.WriteError.TheVariants.{InvalidStartLine, InvalidHeader, BodyTooLong, BodyTooShort}
+use Rattle.http1.specs.declared.framing.Framing.{Framing}
+use Rattle.http1.specs.declared.framing.Framing.TheVariants.{NoBody, Length as Sized}
 use Rattle.http1.specs.declared.server.Server.{Server}
 use Rattle.http1.specs.Fields.{Header, known_fields}
-use Rattle.http1.specs.Head.{is_status_line, head_refusal, response_text}
-use Rattle.http1.specs.Output.{GivesOrRefuses, LacksRoom}
+use Rattle.http1.specs.Framing.{is_bodiless_status}
+use Rattle.http1.specs.Head.{is_field_value, are_headers, is_status_line, head_refusal, status_digits, response_text}
+use Rattle.http1.specs.Output.{GivesOrRefuses}
 use Rattle.http1.specs.Encoder.{encoder_for, prefix_for, after_piece, piece_refusal, end_text, end_refusal, body_text}
-use Rattle.http1.specs.Conn.{is_read, Plan, plan_refusal, planned_headers, data_refusal, data_prefix, after_data, finish_refusal, finish_text}
-use Rattle.http1.specs.Server.{new_server, closed_server, may_respond, after_end, IsClosed, response_plan, response_refusal, planned_response, responding, after_response, writing, with_writing, peer_minor}
+use Rattle.http1.specs.Conn.{is_connect, is_read, Plan, plan_refusal, planned_headers, data_refusal, data_prefix, after_data, finish_refusal, finish_text}
+use Rattle.http1.specs.Server.{new_server, closed_server, may_respond, after_end, IsClosed, response_plan, response_refusal, planned_response, responding, after_response, writing, with_writing, is_head, peer_method, peer_minor}
+use Rattle.http1.proofs.HeadLemmas.{are_headers-append, length-section_text, response_text_is}
 use Rattle.http_server.proofs.PlanLemmas.{plan_for_size}
-use Rattle.mg_wire.specs.Reply.{size_for, Heads, FailsToHead}
+use Rattle.mg_wire.specs.declared.status.Status.{Status}
+use Rattle.mg_wire.specs.declared.status.Status.TheVariants as Is
+use Rattle.mg_wire.specs.Reply.{size_for, Heads}
+use Rattle.mg_wire.specs.Sendable.{are_sendable, lines_len}
+use Rattle.mg_wire.specs.Status.{code_of, reason_of}
+use Rattle.mg_wire.proofs.PlanLemmas.{IsFinal, final_for, Plans, plans}
+use Rattle.mg_wire.proofs.SendableLemmas.{not_true, headers_of}
 
 gave : {T : Type 0} (r : Option WriteError) (spare len : ℕ) (x : T) → GivesOrRefuses r spare len (Ok x) → r ≡ None
 gave None spare len x h = refl
@@ -102,11 +115,11 @@ module _ (s one two three : Server) (status body_len sent : ℕ) (fields : List 
       let wrote_head : out1 ≡ out0 ++ head =
       wrote ∙ ap (λ (r : Result Plan WriteError). out0 ++ response_text (peer_minor s) status reason (planned_headers r fields)) planned.1 in
       let now : writing one ≡ Writes.Body e = ap writing next ∙ ap (λ (r : Result Plan WriteError). writing (responding s r)) planned.1 in
-      let then : writing two ≡ Writes.Body (after_piece e sent) = ap writing counted ∙ ap (λ (w : Writing). after_data w sent) now in
+      let later : writing two ≡ Writes.Body (after_piece e sent) = ap writing counted ∙ ap (λ (w : Writing). after_data w sent) now in
       let refuses : piece_refusal e sent ≡ None = subst (λ (w : Writing). data_refusal w sent ≡ None) now (took _ f framed) in
       let bare : prefix_for e sent ≡ [] = subst (λ (w : Writing). data_prefix w sent ≡ []) now prefix in
-      let done : end_refusal (after_piece e sent) [] ≡ None = subst (λ (w : Writing). finish_refusal w [] ≡ None) then (gave _ spare2 len2 x last) in
-      let out : out2 ≡ (out0 ++ head) ++ end_text (after_piece e sent) [] = ended ∙ subst₂ (λ (o : List ℕ) (w : Writing). out1 ++ finish_text (writing two) [] ≡ o ++ finish_text w []) wrote_head then refl in
+      let done : end_refusal (after_piece e sent) [] ≡ None = subst (λ (w : Writing). finish_refusal w [] ≡ None) later (gave _ spare2 len2 x last) in
+      let out : out2 ≡ (out0 ++ head) ++ end_text (after_piece e sent) [] = ended ∙ subst₂ (λ (o : List ℕ) (w : Writing). out1 ++ finish_text (writing two) [] ≡ o ++ finish_text w []) wrote_head later refl in
       let kept : two.request.keep_alive ≡ p.keep_alive =
       ap (λ (t : Server). t.request.keep_alive) counted ∙ ap (λ (t : Server). t.request.keep_alive) next
       ∙ ap (λ (r : Result Plan WriteError). (responding s r).request.keep_alive) planned.1 in
@@ -127,12 +140,145 @@ module _ (s one two three : Server) (status body_len sent : ℕ) (fields : List 
         goes_on = λ goes_on. opens_at p.keep_alive two kept (λ closed. goes_on (subst IsClosed (sym then_is) closed));
       }
 
-refused_at : (T : Type 0) (r : Option WriteError) (spare len : ℕ) (e : WriteError) → GivesOrRefuses {T = T} r spare len (Err e) → e ≡ OutOfMemory → (r ≡ Some OutOfMemory) ⊎ LacksRoom spare len
-refused_at T None spare len e h is = inr h.1
-refused_at T (Some x) spare len e h is = inl (let same : x ≡ e = cc in ap Some (same ∙ is))
+-- the facts that a head with this status asks for
+abbrev is_fine : ℕ → List ℕ → Bool
+is_fine code reason =
+    (not (nat_lt code 200) && (not (eqb code 204) && (not (eqb code 205) && not (eqb code 304))))
+    && ((not (is_bodiless_status code) && (nat_le 100 code && nat_le code 999)) && (is_field_value reason && nat_le (length reason) 32))
 
-pub fails : (T : Type 0) (s : Server) (status body_len sent spare : ℕ) (fields : List Header) (reason : List ℕ) (e : WriteError) (size : BodySize) → size ≡ size_for body_len
-    → GivesOrRefuses {T = T} (response_refusal s status reason size fields) spare (length (planned_response s status reason size fields)) (Err e) → FailsToHead s status fields body_len sent spare e
-fails T s status body_len sent spare fields reason e size sized given = λ is.
-    let h = subst (λ (z : BodySize). GivesOrRefuses {T = T} (response_refusal s status reason z fields) spare (length (planned_response s status reason z fields)) (Err e)) sized given in
-    (reason, refused_at T _ spare _ e h is)
+fine : (status : Status) → is_fine (code_of status) (reason_of status) ≡ true
+fine Is.Ok = refl
+fine Is.Created = refl
+fine Is.Accepted = refl
+fine Is.BadRequest = refl
+fine Is.Unauthorized = refl
+fine Is.Forbidden = refl
+fine Is.NotFound = refl
+fine Is.MethodNotAllowed = refl
+fine Is.NotAcceptable = refl
+fine Is.Conflict = refl
+fine Is.PreconditionFailed = refl
+fine Is.ContentTooLarge = refl
+fine Is.UnsupportedMediaType = refl
+fine Is.InternalServerError = refl
+fine Is.NotImplemented = refl
+fine Is.ServiceUnavailable = refl
+
+record IsFine (status : Status) : Type 0 where
+  final : IsFinal (code_of status)
+  reason : is_field_value (reason_of status) ≡ true
+  short : length (reason_of status) ≤ 32
+
+fine_parts : (status : Status) → IsFine status
+fine_parts status =
+    let p = and_parts _ _ (fine status) in
+    let a = and_parts _ _ p.0 in
+    let b = and_parts _ _ a.1 in
+    let c = and_parts _ _ b.1 in
+    let q = and_parts _ _ p.1 in
+    let d = and_parts _ _ q.0 in
+    let e = and_parts _ _ d.1 in
+    let f = and_parts _ _ q.1 in
+    record {
+      final = record { late = not_true _ a.0; some = not_true _ b.0; shown = not_true _ c.0; changed = not_true _ c.1; bodied = not_true _ d.0; low = e.0; high = e.1 };
+      reason = f.0;
+      short = leb-true _ _ f.1;
+    }
+
+one_at_most : (minor : ℕ) → minor ≤ 1 → nat_le minor 1 ≡ true
+one_at_most zero h = refl
+one_at_most (suc zero) h = refl
+one_at_most (suc (suc minor)) h = absurd (omega arith)
+
+text_fits : (minor status : ℕ) (reason : List ℕ) (fields extra : List Header) → length reason ≤ 32 → lines_len fields ≤ 7717 → lines_len extra ≤ 62
+    → length (response_text minor status reason (fields ++ extra)) ≤ 8192
+text_fits minor status reason fields extra a b c =
+    let line = codes "HTTP/1." ++ ((48 + minor) ∷ 32 ∷ (status_digits status ++ (32 ∷ (reason ++ (13 ∷ 10 ∷ []))))) in
+    let first : length line ≡ 15 + length reason = omega (arith, length-append {A = ℕ}) in
+    omega (arith, ap length (response_text_is minor status reason (fields ++ extra)), length-section_text line fields extra, first, a, b, c)
+
+fit_at : (b : Bool) (n : ℕ) → (piece_refusal (encoder_for (cond b NoBody (Sized n))) (cond b 0 n) ≡ None)
+    × (prefix_for (encoder_for (cond b NoBody (Sized n))) (cond b 0 n) ≡ [])
+    × (end_refusal (after_piece (encoder_for (cond b NoBody (Sized n))) (cond b 0 n)) [] ≡ None)
+    × (end_text (after_piece (encoder_for (cond b NoBody (Sized n))) (cond b 0 n)) [] ≡ [])
+fit_at true n = (refl, refl, refl, refl)
+fit_at false n =
+    let never : nat_lt n n ≡ false = grind (arith, nat_tests) in
+    let none : n - n ≡ 0 = omega arith in
+    (λ i. cond (never i) (Some BodyTooLong) None, refl, (λ i. cond (nat_lt 0 (none i)) (Some BodyTooShort) None), refl)
+
+-- the server awaits a response, and these fields and so long a body are given
+pub record MayReply (s : Server) (n sent : ℕ) (fields : List Header) : Type 0 where
+  pub awaits : may_respond s ≡ true
+  pub no_tunnel : is_connect (peer_method s) ≡ false
+  pub minor : peer_minor s ≤ 1
+  pub sendable : are_sendable fields ≡ true
+  pub short : lines_len fields ≤ 7717
+  pub small : n < 2 ^ 64
+  pub is_sent : sent ≡ (if is_head (peer_method s) then 0 else n)
+
+-- no response is refused
+module _ (s : Server) (status : Status) (n sent : ℕ) (fields : List Header) (m : MayReply s n sent fields) where
+  abbrev p : Plans s (code_of status) n fields
+  p = plans s (code_of status) n fields m.awaits m.no_tunnel (fine_parts status).final m.small m.sendable
+
+  line : is_status_line (peer_minor s) (code_of status) (reason_of status) ≡ true
+  line =
+      let f = fine_parts status in
+      and_from _ _ (one_at_most (peer_minor s) m.minor) (and_from _ _ f.final.low (and_from _ _ f.final.high f.reason))
+
+  not_refused : response_refusal s (code_of status) (reason_of status) (size_for n) fields ≡ None
+  not_refused =
+      let valid : are_headers (fields ++ p.plan.extra) ≡ true = are_headers-append fields p.plan.extra ∙ and_from _ _ (headers_of fields m.sendable) p.valid in
+      (λ i. plan_refusal (p.planned i) (is_status_line (peer_minor s) (code_of status) (reason_of status)) fields)
+      ∙ (λ i. cond (line i) (cond (valid i) None (Some InvalidHeader)) (Some InvalidStartLine))
+
+  head_fits : length (planned_response s (code_of status) (reason_of status) (size_for n) fields) ≤ 8192
+  head_fits =
+      subst (λ (q : Result Plan WriteError). length (response_text (peer_minor s) (code_of status) (reason_of status) (planned_headers q fields)) ≤ 8192) (sym p.planned)
+      (text_fits (peer_minor s) (code_of status) (reason_of status) fields p.plan.extra (fine_parts status).short m.short p.short)
+
+  writes_body : (one : Server) → one ≡ after_response s (code_of status) (size_for n) fields → writing one ≡ Writes.Body (encoder_for (final_for (peer_method s) n))
+  writes_body one is =
+      ap writing is ∙ ap (λ (q : Result Plan WriteError). writing (responding s q)) p.planned ∙ ap (λ (f : Framing). Writes.Body (encoder_for f)) p.framing
+
+  module _ (code : ℕ) (reason : List ℕ) (size : BodySize) (code_is : code ≡ code_of status) (reason_is : reason ≡ reason_of status) (size_is : size ≡ size_for n) where
+    pub not_refused_as : response_refusal s code reason size fields ≡ None
+    not_refused_as = (λ i. response_refusal s (code_is i) (reason_is i) (size_is i) fields) ∙ not_refused
+
+    pub head_fits_as : length (planned_response s code reason size fields) ≤ 8192
+    head_fits_as =
+        subst (λ (k : ℕ). k ≤ 8192) (sym (λ i. length (planned_response s (code_is i) (reason_is i) (size_is i) fields))) head_fits
+
+    pub writes_as : (one : Server) → one ≡ after_response s code size fields → writing one ≡ Writes.Body (encoder_for (final_for (peer_method s) n))
+    writes_as one is = writes_body one (is ∙ (λ i. after_response s (code_is i) (size_is i) fields))
+
+  pub not_too_long : (one : Server) → writing one ≡ Writes.Body (encoder_for (final_for (peer_method s) n)) → data_refusal (writing one) sent ≡ None
+  not_too_long one is =
+      (λ i. data_refusal (is i) (m.is_sent i)) ∙ (fit_at (is_head (peer_method s)) n).0
+
+  pub bare_frame : (one : Server) → writing one ≡ Writes.Body (encoder_for (final_for (peer_method s) n)) → data_prefix (writing one) sent ≡ []
+  bare_frame one is = (λ i. data_prefix (is i) (m.is_sent i)) ∙ (fit_at (is_head (peer_method s)) n).1
+
+  writes_end : (one two : Server) → writing one ≡ Writes.Body (encoder_for (final_for (peer_method s) n)) → two ≡ with_writing one (after_data (writing one) sent)
+      → writing two ≡ Writes.Body (after_piece (encoder_for (final_for (peer_method s) n)) (if is_head (peer_method s) then 0 else n))
+  writes_end one two is counted = ap writing counted ∙ (λ i. after_data (is i) (m.is_sent i))
+
+  pub not_too_short : (one two : Server) → writing one ≡ Writes.Body (encoder_for (final_for (peer_method s) n)) → two ≡ with_writing one (after_data (writing one) sent)
+      → finish_refusal (writing two) [] ≡ None
+  not_too_short one two is counted =
+      ap (λ (w : Writing). finish_refusal w []) (writes_end one two is counted) ∙ (fit_at (is_head (peer_method s)) n).2
+
+  pub end_fits : (one two : Server) → writing one ≡ Writes.Body (encoder_for (final_for (peer_method s) n)) → two ≡ with_writing one (after_data (writing one) sent)
+      → finish_text (writing two) [] ≡ []
+  end_fits one two is counted =
+      ap (λ (w : Writing). finish_text w []) (writes_end one two is counted) ∙ (fit_at (is_head (peer_method s)) n).3
+
+-- a write that is not refused, and has the room, does not fail
+pub no_failure : (T : Type 0) (r : Option WriteError) (spare len : ℕ) (e : WriteError) → r ≡ None → GivesOrRefuses {T = T} r spare len (Err e) → len ≤ spare → len ≤ 8192 → ⊥
+no_failure T None spare len e is given fits small = elim given.1 [ inl x ↦ omega arith | inr x ↦ omega arith ]
+no_failure T (Some x) spare len e is given fits small = cc
+
+pub no_frame_failure : (F : Type 0) (r : Option WriteError) (e : WriteError) → r ≡ None → MatchOption r (IsOk {T = F} {E = WriteError} (Err e)) (λ x. ◌≡◌ {A = Result F WriteError} (Err e) (Err x)) → ⊥
+no_frame_failure F None e is found = cc
+no_frame_failure F (Some x) e is found = cc

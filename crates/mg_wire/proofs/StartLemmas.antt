@@ -1,6 +1,6 @@
 -- From what the state machine says of a head to the request that begins.
-use Rattle.std.proofs.Common.{◌≡◌, ◌≢◌, ℕ, ◌+◌, ◌<◌, ◌≤◌, Bool, true, false, ◌&&◌, cond, Some, None, List, ◌++◌, length, drop, length-append, sym, refl, ap, ◌∙◌, subst, Result, Ok, ◌-◌, nat_lt, arith}
-use Rattle.httparse.specs.Grammar.{RequestHead, print_request, HasNoRequest}
+use Rattle.std.proofs.Common.{◌≡◌, ◌≢◌, ℕ, ◌<◌, ◌≤◌, Bool, true, false, ◌&&◌, cond, Some, None, List, ◌++◌, length, drop, length-append, sym, refl, ap, ◌∙◌, subst, Result, Ok, nat_lt, arith}
+use Rattle.httparse.specs.Grammar.{RequestHead, print_request, HasNoRequest, MayBecomeRequest}
 use Rattle.httparse.specs.Spans.{span_bytes}
 use Rattle.httparse.specs.declared.spans.HeaderSpan.{HeaderSpan}
 use Rattle.httparse.specs.declared.spans.RequestSpans.{RequestSpans}
@@ -31,15 +31,16 @@ use Rattle.mg_wire.specs.declared.refusal.Refusal.TheVariants.{InvalidTarget, Tu
 use Rattle.mg_wire.specs.Target.{is_target_for, IsProper}
 use Rattle.mg_wire.specs.Refusal.{BeginsRequest, IsEach, HasNoHead, Refuses, line_refusal}
 use Rattle.mg_wire.specs.declared.body.TheConstants.{MAX_FIELDS}
-use Rattle.mg_wire.specs.Body.{HasNoMessage, IsBegun, IsFresh, IsWhole}
+use Rattle.mg_wire.specs.Body.{HasNoMessage, AwaitsHead, IsBegun, IsFresh, IsWhole}
 
 head_has_bytes : (h : RequestHead) → 0 < length (print_request h)
 unfolding print_request
 head_has_bytes h = simp length-append (omega arith)
 
-pub no_head : (s new : Server) (input : List ℕ) (spans : List HeaderSpan) (len : ℕ) (event : Event RequestSpans)
-    → ((r : RequestSpans) → event ≢ Head r) → ReadsHead s input spans new len event → HasNoRequest input
-no_head s new input spans len NeedMore other found = found.2
+no_head : (s new : Server) (input : List ℕ) (spans : List HeaderSpan) (len : ℕ) (event : Event RequestSpans)
+    → ((r : RequestSpans) → event ≢ Head r) → ReadsHead s input spans new len event
+    → HasNoRequest input × (length input < s.limits.max_head_len) × MayBecomeRequest input
+no_head s new input spans len NeedMore other found = (found.2, found.3, found.4)
 no_head s new input spans len (Head r) other found = absurd (other r refl)
 no_head s new input spans len (Informational r) other found = absurd found
 no_head s new input spans len (Data x) other found = absurd found
@@ -109,10 +110,10 @@ module _ (bounds : Bounds) (input : List ℕ) (spans : List HeaderSpan) (new : S
       by_tests false true x y e = record { host = t.accepts.host; target = y; no_tunnel = x }
 
   pub begun : (b : Begun) → b.server ≡ new → b.at ≡ len → b.expects_continue ≡ expects_continue new → len ≤ length input
-      → HasHeadAt input spans r b.request → IsProper t.head → IsFresh bounds.limits input b
+      → HasHeadAt input spans r b.request → IsProper t.head → IsFresh bounds input b
   begun b server at kept fits is proper =
       let next = server ∙ t.next in
-      let first : IsBegun bounds.limits input b = record {
+      let first : IsBegun bounds input b = record {
         head = t.head;
         framing = t.framing;
         decoder = decoder_for bounds.limits t.framing;
@@ -141,15 +142,16 @@ module _ (bounds : Bounds) (input : List ℕ) (spans : List HeaderSpan) (new : S
         back = λ more body rest x. subst (λ (got : List ℕ). Completes (decoder_for bounds.limits t.framing) (drop b.at input ++ more) (with_front got body) rest) (sym is.body) x;
         forth = λ more whole rest x. (whole, ap (λ (got : List ℕ). with_front got whole) (sym is.body), x);
         sized = λ e. request_has_an_end _ _ _ (t.accepts.framed ∙ ap Ok (until_close bounds.limits t.framing e));
+        fits = omega (arith, ap length is.body);
       } in
       record { begun = first; coded = ap has_codings next }
 
 -- the input begins with the head of the request that has begun, or is whole
-pub begins_begun : (limits : Limits) (input : List ℕ) (b : Begun) → IsBegun limits input b → BeginsRequest limits input
-begins_begun limits input b x = record { head = x.head; accepts = λ more. (x.framing, x.after ++ more, x.accepts more) }
+pub begins_begun : (bounds : Bounds) (input : List ℕ) (b : Begun) → IsBegun bounds input b → BeginsRequest bounds.limits input
+begins_begun bounds input b x = record { head = x.head; accepts = λ more. (x.framing, x.after ++ more, x.accepts more) }
 
-pub begins_whole : (limits : Limits) (input : List ℕ) (b : Begun) → IsWhole limits input b → BeginsRequest limits input
-begins_whole limits input b w =
+pub begins_whole : (bounds : Bounds) (input : List ℕ) (b : Begun) → IsWhole bounds input b → BeginsRequest bounds.limits input
+begins_whole bounds input b w =
     record { head = w.message.head; accepts = λ more. let r = w.reads more in (r.framing, r.after_head, r.head) }
 
 pub takes : (limits : Limits) (input : List ℕ) (spans : List HeaderSpan) (new : Server) (read : Progress RequestSpans) (r : RequestSpans)
@@ -162,8 +164,10 @@ no_message limits input none m rest r = none m.head r.after_head r.head.reads
 
 -- no head is there yet
 pub no_head_yet : (limits : Limits) (input : List ℕ) (spans : List HeaderSpan) (new : Server) (read : Progress RequestSpans)
-    → ServerReads (new_server limits) input spans new read → ((r : RequestSpans) → read.event ≢ Head r) → HasNoMessage limits input
-no_head_yet limits input spans new read found other = no_message limits input (no_head (new_server limits) new input spans read.consumed read.event other found)
+    → ServerReads (new_server limits) input spans new read → ((r : RequestSpans) → read.event ≢ Head r) → AwaitsHead limits input
+no_head_yet limits input spans new read found other =
+    let none = no_head (new_server limits) new input spans read.consumed read.event other found in
+    (no_message limits input none.0, none.2, none.1)
 
 -- no head can be read
 pub head_refused : (limits : Limits) (input : List ℕ) (room : ℕ) (e : ReadError) → room ≡ MAX_FIELDS → ServerRefuses (new_server limits) input room e → HasNoHead limits input e

@@ -1,9 +1,7 @@
 -- One more turn.
-use Rattle.std.proofs.Common.{◌≡◌, ◌⊎◌, ◌↔◌, IsTrue, IsFalse, ℕ, ◌≤◌, ◌<◌, Bool, true, false, not, ◌&&◌, List, [], ◌∷◌, ◌++◌, length, drop, Option, Some, None, append_assoc, append-nil, sym, refl, ap, ◌∙◌, subst, subst₂, inl, inr, arith, if◌then◌else◌}
+use Rattle.std.proofs.Common.{◌≡◌, ◌⊎◌, ◌↔◌, IsTrue, IsFalse, ℕ, ◌≤◌, Bool, true, false, not, ◌&&◌, List, [], ◌∷◌, ◌++◌, length, drop, Option, Some, None, append_assoc, append-nil, sym, refl, ap, ◌∙◌, subst, subst₂, inl, inr, if◌then◌else◌}
 use Rattle.std.proofs.lemmas.List.Elements.{All-push}
 use Rattle.httparse.specs.Grammar.{RequestHead}
-use Rattle.http1.specs.declared.conn.Limits.{Limits}
-use Rattle.http1.specs.declared.error.WriteError.{WriteError}
 use Rattle.http1.specs.declared.framing.Framing.{Framing}
 use Rattle.http1.specs.declared.framing.Framing.TheVariants as Framed
 use Rattle.http1.specs.declared.framing.MethodKind.{MethodKind}
@@ -17,7 +15,6 @@ use Rattle.http1.specs.Fields.{known_fields}
 use Rattle.http1.specs.Message.{AcceptsRequest, ReadsRequestMessage, ReadsResponseMessage}
 use Rattle.http1.specs.declared.server.Server.{Server}
 use Rattle.http1.specs.Server.{is_head, peer_minor, IsClosed}
-use Rattle.http1.specs.Output.{LacksRoom}
 use Rattle.http1.proofs.BodyRoundTrip.{MayFollow}
 use Rattle.http1.proofs.HeadRoundTrip.{response_reads_back}
 use Rattle.http1.proofs.MessageRoundTrip.{response_round_trip}
@@ -26,40 +23,39 @@ use Rattle.mg_wire.specs.declared.body.Begun.{Begun}
 use Rattle.mg_wire.specs.declared.bounds.Bounds.{Bounds}
 use Rattle.mg_wire.specs.declared.connection.Connection.{Connection}
 use Rattle.mg_wire.specs.declared.connection.Ending.{Ending}
-use Rattle.mg_wire.specs.declared.connection.Ending.TheVariants.{Closed, Faulty}
-use Rattle.mg_wire.specs.declared.advance.TheConstants.{ROOM}
-use Rattle.mg_wire.specs.declared.refusal.TheConstants.{FAULT}
-use Rattle.mg_wire.specs.declared.reply.TheConstants.{MAX_RESPONSE_FIELDS}
+use Rattle.mg_wire.specs.declared.connection.Ending.TheVariants.{Closed}
 use Rattle.mg_wire.specs.Response.{fields_of}
 use Rattle.mg_wire.specs.Body.{Serves, IsWhole}
-use Rattle.mg_wire.specs.Reply.{size_for, Heads, FailsToHead}
+use Rattle.mg_wire.specs.Reply.{size_for, Heads}
+use Rattle.mg_wire.specs.Status.{code_of}
 use Rattle.mg_wire.specs.Transcript.{Call, Spells, interim_for, Turn, IsTranscript, keeps_open, KeepsOpen}
-use Rattle.mg_wire.specs.Connection.{received, sent, pending, said, IsInterimOf, Follows, StandsAt, Stands, Holds, IsSilent, IsDue}
+use Rattle.mg_wire.specs.Connection.{received, sent, pending, said, StandsAt, Stands, Holds, IsSilent, IsDue}
 use Rattle.mg_wire.proofs.HoldLemmas.{received_same, sent_same}
 
 -- whatever follows, the grammar gives the same requests
-pub snoc : (limits : Limits) (stream : List ℕ) (cs : List Call) (text rest : List ℕ) (c : Call) (first after : List ℕ)
-    → IsTranscript limits stream cs text rest → Turn limits rest c first after → IsTranscript limits stream (cs ++ c ∷ []) (text ++ first) after
-snoc limits stream [] text rest c first after x t =
-    (first, after, [], ap (λ (u : List ℕ). u ++ first) x.1 ∙ sym (append-nil first), subst (λ (u : List ℕ). Turn limits u c first after) (sym x.0) t, (refl, refl))
-snoc limits stream (d ∷ cs) text rest c first after x t =
-    (x.0, x.1, x.2 ++ first, ap (λ (u : List ℕ). u ++ first) x.3 ∙ append_assoc x.0 x.2 first, x.4, snoc limits x.1 cs x.2 rest c first after x.5 t)
+pub snoc : (bounds : Bounds) (stream : List ℕ) (cs : List Call) (text rest : List ℕ) (c : Call) (first after : List ℕ)
+    → IsTranscript bounds stream cs text rest → Turn bounds rest c first after → IsTranscript bounds stream (cs ++ c ∷ []) (text ++ first) after
+snoc bounds stream [] text rest c first after x t =
+    (first, after, [], ap (λ (u : List ℕ). u ++ first) x.1 ∙ sym (append-nil first), subst (λ (u : List ℕ). Turn bounds u c first after) (sym x.0) t, (refl, refl))
+snoc bounds stream (d ∷ cs) text rest c first after x t =
+    (x.0, x.1, x.2 ++ first, ap (λ (u : List ℕ). u ++ first) x.3 ∙ append_assoc x.0 x.2 first, x.4, snoc bounds x.1 cs x.2 rest c first after x.5 t)
 
-turn_grows : (limits : Limits) (stream : List ℕ) (c : Call) (text rest more : List ℕ) → Turn limits stream c text rest → Turn limits (stream ++ more) c text (rest ++ more)
-turn_grows limits stream c text rest more t = record {
+turn_grows : (bounds : Bounds) (stream : List ℕ) (c : Call) (text rest more : List ℕ) → Turn bounds stream c text rest → Turn bounds (stream ++ more) c text (rest ++ more)
+turn_grows bounds stream c text rest more t = record {
   message = t.message;
-  reads = λ later. subst₂ (λ (s r : List ℕ). ReadsRequestMessage limits s t.message r) (sym (append_assoc stream more later)) (sym (append_assoc rest more later)) (t.reads (more ++ later));
+  reads = λ later. subst₂ (λ (s r : List ℕ). ReadsRequestMessage bounds.limits s t.message r) (sym (append_assoc stream more later)) (sym (append_assoc rest more later)) (t.reads (more ++ later));
   proper = t.proper;
+  fits = t.fits;
   asked = t.asked;
   response = t.response;
   spells = t.spells;
   joined = t.joined;
 }
 
-pub grows : (limits : Limits) (stream : List ℕ) (cs : List Call) (text rest more : List ℕ) → IsTranscript limits stream cs text rest → IsTranscript limits (stream ++ more) cs text (rest ++ more)
-grows limits stream [] text rest more x = (ap (λ (u : List ℕ). u ++ more) x.0, x.1)
-grows limits stream (c ∷ cs) text rest more x =
-    (x.0, x.1 ++ more, x.2, x.3, turn_grows limits stream c x.0 x.1 more x.4, grows limits x.1 cs x.2 rest more x.5)
+pub grows : (bounds : Bounds) (stream : List ℕ) (cs : List Call) (text rest more : List ℕ) → IsTranscript bounds stream cs text rest → IsTranscript bounds (stream ++ more) cs text (rest ++ more)
+grows bounds stream [] text rest more x = (ap (λ (u : List ℕ). u ++ more) x.0, x.1)
+grows bounds stream (c ∷ cs) text rest more x =
+    (x.0, x.1 ++ more, x.2, x.3, turn_grows bounds stream c x.0 x.1 more x.4, grows bounds x.1 cs x.2 rest more x.5)
 
 nothing_follows : (f : Framing) → MayFollow f []
 nothing_follows Framed.NoBody = tt
@@ -67,9 +63,9 @@ nothing_follows (Framed.Length n) = tt
 nothing_follows Framed.Chunked = tt
 nothing_follows Framed.UntilClose = refl
 
-module _ (b : Begun) (a : Response) (sent_bytes : ℕ) (old new : List ℕ) (next : Server) (h : Heads b.server a.status (fields_of a) (length a.body.items) sent_bytes old new next) (piece : List ℕ) (len : length piece ≡ sent_bytes) where
+module _ (b : Begun) (a : Response) (sent_bytes : ℕ) (old new : List ℕ) (next : Server) (h : Heads b.server (code_of a.status) (fields_of a) (length a.body.items) sent_bytes old new next) (piece : List ℕ) (len : length piece ≡ sent_bytes) where
   abbrev head_text : List ℕ
-  head_text = response_text (peer_minor b.server) a.status h.reason (fields_of a ++ h.plan.extra)
+  head_text = response_text (peer_minor b.server) (code_of a.status) h.reason (fields_of a ++ h.plan.extra)
 
   abbrev rest_text : List ℕ
   rest_text = body_text (piece ∷ []) (encoder_for h.plan.framing) []
@@ -79,14 +75,14 @@ module _ (b : Begun) (a : Response) (sent_bytes : ℕ) (old new : List ℕ) (nex
   spells m s is =
       let fields = fields_of a ++ h.plan.extra in
       let minor = peer_minor b.server in
-      let back = response_reads_back minor a.status h.reason fields [] h.valid in
-      let message : Wire.Response = record { head = response_head minor a.status h.reason fields; body = body_of (piece ++ []) [] } in
+      let back = response_reads_back minor (code_of a.status) h.reason fields [] h.valid in
+      let message : Wire.Response = record { head = response_head minor (code_of a.status) h.reason fields; body = body_of (piece ++ []) [] } in
       record {
         message = message;
         reads = λ limits fits short.
             subst₂ (λ (k : MethodKind) (t : List ℕ). ReadsResponseMessage limits k (head_text ++ t) message []) s.method (append-nil rest_text)
             (response_round_trip limits (size_for (length a.body.items)) (fields_of a) h.plan (piece ∷ []) [] [] (h.whole piece len).1 short (nothing_follows h.plan.framing)
-            b.server a.status h.reason h.planned h.valid fits);
+            b.server (code_of a.status) h.reason h.planned h.valid fits);
         status = back.code;
         added = h.plan.extra;
         fields = back.fields;
@@ -106,21 +102,22 @@ joined s o tail text interim head rest new p x y z w =
     ap (λ (u : List ℕ). s ++ u) (z ∙ w ∙ append_assoc o head rest) ∙ sym (append_assoc s o (head ++ rest)) ∙ ap (λ (u : List ℕ). u ++ (head ++ rest)) bare ∙ append_assoc text interim (head ++ rest)
 
 module _ (c n : Connection) (b : Begun) (a : Response) (due : IsDue c b a) (quiet : IsSilent c n) where
-  same_stream : (cs : List Call) (text rest : List ℕ) → IsTranscript c.bounds.limits (received c) cs text rest → IsTranscript n.bounds.limits (received n) cs text rest
-  same_stream cs text rest = subst₂ (λ (k : Bounds) (stream : List ℕ). IsTranscript k.limits stream cs text rest) (sym quiet.bounds) (sym (received_same c n quiet))
+  same_stream : (cs : List Call) (text rest : List ℕ) → IsTranscript c.bounds (received c) cs text rest → IsTranscript n.bounds (received n) cs text rest
+  same_stream cs text rest = subst₂ (λ (k : Bounds) (stream : List ℕ). IsTranscript k stream cs text rest) (sym quiet.bounds) (sym (received_same c n quiet))
 
   -- the response is sent
-  pub replies : (out : List ℕ) (sent_bytes : ℕ) (next : Server) (piece : List ℕ) → Heads b.server a.status (fields_of a) (length a.body.items) sent_bytes c.output.items out next
+  pub replies : (out : List ℕ) (sent_bytes : ℕ) (next : Server) (piece : List ℕ) → Heads b.server (code_of a.status) (fields_of a) (length a.body.items) sent_bytes c.output.items out next
       → piece ≡ (if is_head (method_kind due.message.head.method) then [] else a.body.items) → length piece ≡ sent_bytes
       → n.calls ≡ c.calls → n.input.items ≡ c.input.items → pending n ≡ out ++ piece
       → ((n.end ≡ None) × (n.begun ≡ None) × (¬ (IsClosed next))) ⊎ ((n.end ≡ Some Closed) × IsClosed next) → Holds n
   replies out sent_bytes next piece heads is len calls input pends how =
       let answer = head_text b a sent_bytes c.output.items out next heads piece len ++ rest_text b a sent_bytes c.output.items out next heads piece len in
       let all = interim_for b.expects_continue ++ answer in
-      let turn : Turn c.bounds.limits due.rest (b.request, a) all c.input.items = record {
+      let turn : Turn c.bounds due.rest (b.request, a) all c.input.items = record {
         message = due.message;
         reads = due.reads;
         proper = due.serves.proper;
+        fits = due.fits;
         asked = due.asked;
         response = answer;
         spells = spells b a sent_bytes c.output.items out next heads piece len due.message due.serves is;
@@ -147,64 +144,13 @@ module _ (c n : Connection) (b : Begun) (a : Response) (due : IsDue c b a) (quie
         answered = answered;
         text = due.text ++ all;
         rest = c.input.items;
-        transcript = same_stream _ _ _ (snoc c.bounds.limits (received c) due.answered due.text due.rest (b.request, a) all c.input.items due.transcript turn);
+        transcript = same_stream _ _ _ (snoc c.bounds (received c) due.answered due.text due.rest (b.request, a) all c.input.items due.transcript turn);
         stands = stands;
       }
 
-  interim_due : (k : Bounds) → k ≡ c.bounds → IsInterimOf k.limits due.rest (interim_for b.expects_continue)
-  interim_due k is =
-      let r = due.reads [] in
-      subst (λ (l : Bounds). IsInterimOf l.limits due.rest (interim_for b.expects_continue)) (sym is) (record {
-        head = due.message.head;
-        framing = r.framing;
-        after = r.after_head;
-        accepts = subst (λ (s : List ℕ). AcceptsRequest c.bounds.limits s due.message.head r.framing r.after_head) (append-nil due.rest) r.head;
-        is = ap interim_for due.serves.keeps.expects;
-      })
-
-  more_out : (out more : List ℕ) → out ≡ c.output.items → n.output.items ≡ out ++ more → n.tail.items ≡ [] → Follows n due.rest due.text more
-  more_out out more same is bare = (
-    interim_for b.expects_continue,
-    inr (interim_due n.bounds quiet.bounds),
-    ap (λ (s : List ℕ). s ++ pending n) (sent_same c n quiet)
-        ∙ joined (sent c) c.output.items c.tail.items due.text (interim_for b.expects_continue) more [] (n.output.items ++ n.tail.items) (pending n) due.out due.bare refl
-        (subst (λ (t : List ℕ). n.output.items ++ t ≡ c.output.items ++ more ++ []) (sym bare) (ap (λ (o : List ℕ). o ++ []) (is ∙ ap (λ (o : List ℕ). o ++ more) same)))
-        ∙ ap (λ (u : List ℕ). due.text ++ (interim_for b.expects_continue ++ u)) (append-nil more),
-  )
-
-  -- it cannot be sent
-  pub loses : (e : WriteError) (out : List ℕ) (spare : ℕ) → out ≡ c.output.items
-      → ((MAX_RESPONSE_FIELDS < length a.fields.items) ⊎ FailsToHead b.server a.status (fields_of a) (length a.body.items) 0 spare e) → ROOM ≤ spare
-      → n.calls ≡ c.calls → n.tail.items ≡ [] → n.end ≡ Some (Faulty e)
-      → ((n.output.items ≡ out ++ []) ⊎ (n.output.items ≡ out ++ FAULT.now)) → Holds n
-  loses e out spare same why room calls bare is how = record {
-    answered = due.answered;
-    text = due.text;
-    rest = due.rest;
-    transcript = same_stream _ _ _ due.transcript;
-    stands = subst (λ (s : Option Ending). Stands s n due.answered due.text due.rest) (sym is) (
-      record {
-        last = (b.request, a);
-        calls = (λ i. (calls i).items) ∙ due.calls;
-        message = due.message;
-        after = c.input.items;
-        reads = subst (λ (k : Bounds). (more : List ℕ) → ReadsRequestMessage k.limits (due.rest ++ more) due.message (c.input.items ++ more)) (sym quiet.bounds) due.reads;
-        asked = due.asked;
-        why = elim why [
-          | inl k ↦ inl k
-          | inr k ↦ inr (b.server, λ memory. let r = k memory in (r.0, elim r.1 [ inl x ↦ inl x | inr x ↦ inr (less _ x) ]))
-        ];
-      },
-      elim how [ inl x ↦ inl (more_out out [] same x bare) | inr x ↦ inr (more_out out FAULT.now same x bare) ],
-    );
-  } where
-    less : (len : ℕ) → LacksRoom spare len → LacksRoom ROOM len
-    less len (inl x) = inl (omega arith)
-    less len (inr x) = inr x
-
 module _ (c m n : Connection) (b : Begun) (a : Response) (due : IsDue c b a) (only : m ≡ record c { output = m.output; tail = m.tail }) (next : Server)
     (settled : ((n ≡ m) × (¬ (IsClosed next))) ⊎ ((n ≡ record m { end = Some Closed; begun = None }) × IsClosed next)) where
-  pub reply_ok : (out : List ℕ) (sent_bytes : ℕ) (piece : List ℕ) → Heads b.server a.status (fields_of a) (length a.body.items) sent_bytes c.output.items out next
+  pub reply_ok : (out : List ℕ) (sent_bytes : ℕ) (piece : List ℕ) → Heads b.server (code_of a.status) (fields_of a) (length a.body.items) sent_bytes c.output.items out next
       → piece ≡ (if is_head (method_kind b.request.method) then [] else a.body.items) → length piece ≡ sent_bytes → pending m ≡ out ++ piece → Holds n
   reply_ok out sent_bytes piece heads is len pends =
       let silent : IsSilent c m = record { bounds = λ i. (only i).bounds; reads = λ i. (only i).reads; writes = λ i. (only i).writes } in
@@ -228,7 +174,7 @@ settles m n next false is (inr e) = let bad : false ≡ true = e.1 in cc
 
 -- the service was asked, and its response is due
 pub due_now : (c n : Connection) (b begun : Begun) (a : Response) → Holds (record c { begun = Some b }) → c.end ≡ None → c.begun ≡ None → c.tail.items ≡ []
-    → IsWhole c.bounds.limits c.input.items begun → begun.expects_continue ≡ b.expects_continue
+    → IsWhole c.bounds c.input.items begun → begun.expects_continue ≡ b.expects_continue
     → n.bounds ≡ c.bounds → n.reads ≡ c.reads → n.writes ≡ c.writes → n.end ≡ c.end → n.begun ≡ c.begun → n.tail ≡ c.tail → n.output.items ≡ c.output.items
     → n.calls.items ≡ c.calls.items ++ (begun.request, a) ∷ [] → n.input.items ≡ drop begun.at c.input.items → IsDue n begun a
 due_now c n b begun a h goes_on none bare w same bounds reads writes state first tail out calls input =
@@ -238,7 +184,7 @@ due_now c n b begun a h goes_on none bare w same bounds reads writes state first
       answered = h.answered;
       text = h.text;
       rest = h.rest;
-      transcript = subst₂ (λ (k : Bounds) (stream : List ℕ). IsTranscript k.limits stream h.answered h.text h.rest) (sym bounds) (sym (received_same c n quiet)) h.transcript;
+      transcript = subst₂ (λ (k : Bounds) (stream : List ℕ). IsTranscript k stream h.answered h.text h.rest) (sym bounds) (sym (received_same c n quiet)) h.transcript;
       out = subst₂ (λ (s p : List ℕ). s ++ p ≡ h.text ++ interim_for begun.expects_continue) (sym (sent_same c n quiet)) (λ i. sym out i ++ (sym tail i).items)
           (o.2.1 ∙ ap (λ (e : Bool). h.text ++ interim_for e) (sym same));
       message = w.message;
@@ -247,6 +193,7 @@ due_now c n b begun a h goes_on none bare w same bounds reads writes state first
       asked = w.asked;
       serves = w.serves;
       continued = w.continued;
+      fits = subst (λ (k : Bounds). length begun.request.body.items ≤ k.max_body) (sym bounds) w.fits;
       kept = o.3;
       calls = calls ∙ ap (λ (cs : List Call). cs ++ (begun.request, a) ∷ []) o.0;
       bare = (λ i. (tail i).items) ∙ bare;

@@ -1,27 +1,20 @@
 -- What is true of a connection.
-use Rattle.std.specs.Prelude.{◌≡◌, ◌≢◌, ◌⊎◌, All, IsTrue, false, ℕ, ◌+◌, ◌-◌, ◌*◌, ◌^◌, ◌<◌, ◌≤◌, min, List, [], ◌∷◌, ◌++◌, length, take, drop, flat_map, Option, Some, None}
+use Rattle.std.specs.Prelude.{◌≡◌, ◌≢◌, ◌⊎◌, All, IsTrue, IsFalse, false, ℕ, ◌+◌, ◌-◌, ◌*◌, ◌^◌, ◌<◌, ◌≤◌, min, List, [], ◌∷◌, ◌++◌, length, take, drop, flat_map, Option, Some, None}
 use Rattle.httparse.specs.Grammar.{RequestHead}
 use Rattle.http1.specs.declared.conn.Limits.{Limits}
-use Rattle.http1.specs.declared.error.WriteError.{WriteError}
 use Rattle.http1.specs.declared.framing.Framing.{Framing}
-use Rattle.http1.specs.declared.server.Server.{Server}
 use Rattle.http1.specs.Message as Wire
 use Rattle.http1.specs.Message.{AcceptsRequest, ReadsRequestMessage}
-use Rattle.mg_wire.specs.declared.advance.TheConstants.{ROOM}
 use Rattle.mg_wire.specs.declared.body.Begun.{Begun}
 use Rattle.mg_wire.specs.declared.connection.Connection.{Connection}
 use Rattle.mg_wire.specs.declared.connection.Ending.{Ending}
-use Rattle.mg_wire.specs.declared.connection.Ending.TheVariants.{Closed, InputEnded, Refused, NoMemory, Faulty}
-use Rattle.mg_wire.specs.declared.refusal.TheConstants.{FAULT}
+use Rattle.mg_wire.specs.declared.connection.Ending.TheVariants.{Closed, InputEnded, Refused, NoMemory}
 use Rattle.mg_wire.specs.declared.refusal.Refusal.{Refusal}
-use Rattle.mg_wire.specs.declared.reply.TheConstants.{MAX_RESPONSE_FIELDS}
 use Rattle.mg_wire.specs.declared.request.Request.{Request}
 use Rattle.mg_wire.specs.declared.response.Response.{Response}
-use Rattle.mg_wire.specs.Body.{Serves, IsBegun, HasNoMessage}
+use Rattle.mg_wire.specs.Body.{Serves, IsBegun, HasNoMessage, AwaitsHead}
 use Rattle.mg_wire.specs.Refusal.{Refuses, refusal_text}
-use Rattle.mg_wire.specs.Reply.{FailsToHead}
 use Rattle.mg_wire.specs.Request.{IsAsked, asks_to_continue}
-use Rattle.mg_wire.specs.Response.{fields_of}
 use Rattle.mg_wire.specs.Transcript.{Call, interim_for, IsTranscript, KeepsOpen, IsClosedBy, Chain, AnswersMet}
 
 -- all bytes that were received
@@ -56,19 +49,7 @@ Follows c rest text more =
 -- after the responses, the next request has begun or not
 abbrev pub StandsAt : Option Begun → Connection → List ℕ → Type 0
 StandsAt None c text = said c ≡ text
-StandsAt (Some b) c text = IsBegun c.bounds.limits c.input.items b × (said c ≡ text ++ interim_for b.expects_continue)
-
--- The service was asked the request that comes next, and its response cannot be sent: for want of memory only if its head is longer than
--- the room that was taken before.
-pub record IsLost (e : WriteError) (c : Connection) (answered : List Call) (rest : List ℕ) : Type 0 where
-  pub last : Call
-  pub calls : c.calls.items ≡ answered ++ last ∷ []
-  pub message : Wire.Request
-  pub after : List ℕ
-  pub reads : (more : List ℕ) → ReadsRequestMessage c.bounds.limits (rest ++ more) message (after ++ more)
-  pub asked : IsAsked message last.0
-  pub why : (MAX_RESPONSE_FIELDS < length last.1.fields.items)
-      ⊎ ((s : Server) × FailsToHead s last.1.status (fields_of last.1) (length last.1.body.items) 0 ROOM e)
+StandsAt (Some b) c text = IsBegun c.bounds c.input.items b × (said c ≡ text ++ interim_for b.expects_continue)
 
 -- The connection said the responses of the calls that were answered, and why it ends. `NoMemory`: the next request is refused, for want of
 -- memory or for another reason, and there was no memory to say so.
@@ -79,7 +60,6 @@ EndsFor (Refused r) c answered text rest =
     (c.calls.items ≡ answered) × Follows c rest text (refusal_text r) × Refuses c.bounds c.has_ended c.is_starved rest r
 EndsFor NoMemory c answered text rest =
     (c.calls.items ≡ answered) × Follows c rest text [] × ((r : Refusal) × Refuses c.bounds c.has_ended c.is_starved rest r)
-EndsFor (Faulty e) c answered text rest = IsLost e c answered rest × (Follows c rest text [] ⊎ Follows c rest text FAULT.now)
 
 -- the connection goes on after calls that keep it open, and the input is what is not answered; or it ends
 abbrev pub Stands : Option Ending → Connection → List Call → List ℕ → List ℕ → Type 0
@@ -92,7 +72,7 @@ pub record Holds (c : Connection) : Type 0 where
   pub answered : List Call
   pub text : List ℕ
   pub rest : List ℕ
-  pub transcript : IsTranscript c.bounds.limits (received c) answered text rest
+  pub transcript : IsTranscript c.bounds (received c) answered text rest
   pub stands : Stands c.end c answered text rest
 
 -- what was said on the connection is right for what was received, from the first state of the service to the second one; `meets`: which
@@ -119,13 +99,14 @@ pub record IsDue (c : Connection) (b : Begun) (r : Response) : Type 0 where
   pub answered : List Call
   pub text : List ℕ
   pub rest : List ℕ
-  pub transcript : IsTranscript c.bounds.limits (received c) answered text rest
+  pub transcript : IsTranscript c.bounds (received c) answered text rest
   pub out : said c ≡ text ++ interim_for b.expects_continue
   pub message : Wire.Request
   pub reads : (more : List ℕ) → ReadsRequestMessage c.bounds.limits (rest ++ more) message (c.input.items ++ more)
   pub asked : IsAsked message b.request
   pub serves : Serves message.head b
   pub continued : b.server.request.expects_continue ≡ false
+  pub fits : length b.request.body.items ≤ c.bounds.max_body
   pub kept : All KeepsOpen answered
   pub calls : c.calls.items ≡ answered ++ (b.request, r) ∷ []
   pub bare : c.tail.items ≡ []
@@ -147,9 +128,17 @@ room_of c = (length c.input.items + c.input.spare) + (length c.output.items + c.
 abbrev pub held_by : Connection → ℕ
 held_by c = min (room_of c) (2 ^ 64 - 1)
 
--- a connection that goes on, and has no more pending than may be, has answered each whole request that was received
+-- Each whole request that was received is answered, and there may be another one: the client has not ended its side, there was memory for each
+-- read, and what came of the next head is no error.
+pub record AwaitsRequest (c : Connection) : Type 0 where
+  pub answered : HasNoMessage c.bounds.limits c.input.items
+  pub goes_on : IsFalse c.has_ended
+  pub fed : IsFalse c.is_starved
+  pub valid : c.begun ≡ None → AwaitsHead c.bounds.limits c.input.items
+
+-- a connection that goes on, and has no more pending than may be, awaits a request
 abbrev pub Rests : Connection → Type 0
-Rests c = c.end ≡ None → c.tail.items ≡ [] → length c.output.items ≤ c.bounds.max_pending → HasNoMessage c.bounds.limits c.input.items
+Rests c = c.end ≡ None → c.tail.items ≡ [] → length c.output.items ≤ c.bounds.max_pending → AwaitsRequest c
 
 -- a head was read, and its body is next
 abbrev pub Starts : Connection → Connection → Type 0

@@ -1,5 +1,7 @@
 pub mod Target
 pub mod Request
+pub mod Status
+pub mod Sendable
 pub mod Response
 pub mod Body
 pub mod Reply

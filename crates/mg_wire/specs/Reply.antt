@@ -1,20 +1,23 @@
 -- What is sent of a response.
-use Rattle.std.specs.Prelude.{◌≡◌, ◌⊎◌, ℕ, ◌&&◌, not, true, false, List, [], ◌∷◌, ◌++◌, length, Ok, Some, None, if◌then◌else◌, ◌==◌}
+use Rattle.std.specs.Prelude.{◌≡◌, ℕ, ◌&&◌, not, true, false, List, [], ◌∷◌, ◌++◌, length, Ok, Option, Some, None, if◌then◌else◌, ◌==◌}
 use Rattle.http1.specs.declared.conn.BodySize.{BodySize}
 use Rattle.http1.specs.declared.conn.BodySize.TheVariants.{Empty, Known}
-use Rattle.http1.specs.declared.error.WriteError.{WriteError}
-use Rattle.http1.specs.declared.error.WriteError.TheVariants.{OutOfMemory}
 use Rattle.http1.specs.declared.server.Server.{Server}
 use Rattle.http1.specs.Fields.{Header, known_fields}
 use Rattle.http1.specs.Head.{is_status_line, head_refusal, response_text}
 use Rattle.http1.specs.Encoder.{encoder_for, body_text, AreAccepted}
-use Rattle.http1.specs.Output.{LacksRoom}
 use Rattle.http1.specs.Conn.{Plan}
-use Rattle.http1.specs.Server.{response_plan, response_refusal, planned_response, peer_minor, IsClosed}
+use Rattle.http1.specs.Server.{response_plan, peer_minor, IsClosed}
+use Rattle.httpdate.specs.declared.date.HttpDate.{HttpDate as Date}
 
 -- a length, as `http1` is given it
 abbrev pub size_for : ℕ → BodySize
 size_for len = if len == 0 then Empty else Known len
+
+-- where the fields of a response begin, after room for a date
+abbrev pub first_of : Option Date → ℕ
+first_of None = 1
+first_of (Some d) = 0
 
 -- The head of a response was appended, so that it and then these bytes are the whole response. `next`: the server after it
 pub record Heads (s : Server) (status : ℕ) (fields : List Header) (body_len sent : ℕ) (old new : List ℕ) (next : Server) : Type 0 where
@@ -28,9 +31,3 @@ pub record Heads (s : Server) (status : ℕ) (fields : List Header) (body_len se
   pub keeps : s.request.expects_continue ≡ false → plan.keep_alive ≡ (s.request.keep_alive && not (known_fields fields).close)
   pub closes : IsClosed next → plan.keep_alive ≡ false
   pub goes_on : ¬ (IsClosed next) → plan.keep_alive ≡ true
-
--- Why no head was appended, where it is said to be for want of memory: it is longer than the room.
-abbrev pub FailsToHead : Server → ℕ → List Header → ℕ → ℕ → ℕ → WriteError → Type 0
-FailsToHead s status fields body_len sent spare e =
-    e ≡ OutOfMemory → (reason : List ℕ) × ((response_refusal s status reason (size_for body_len) fields ≡ Some OutOfMemory)
-    ⊎ LacksRoom spare (length (planned_response s status reason (size_for body_len) fields)))

@@ -9,11 +9,13 @@ use Rattle.http1.specs.Fields.{Header, known_fields}
 use Rattle.http1.specs.Message as Wire
 use Rattle.http1.specs.Message.{ReadsRequestMessage, ReadsResponseMessage}
 use Rattle.http1.specs.Server.{is_head}
+use Rattle.mg_wire.specs.declared.bounds.Bounds.{Bounds}
 use Rattle.mg_wire.specs.declared.request.Request.{Request}
 use Rattle.mg_wire.specs.declared.response.Response.{Response}
 use Rattle.mg_wire.specs.declared.refusal.TheConstants.{CONTINUE}
 use Rattle.mg_wire.specs.Request.{IsAsked, fields_in, asks_to_continue}
 use Rattle.mg_wire.specs.Response.{fields_of}
+use Rattle.mg_wire.specs.Status.{code_of}
 use Rattle.mg_wire.specs.Target.{IsProper}
 
 -- a call of the service: what it was asked, and what it responded
@@ -26,7 +28,7 @@ pub record Spells (h : RequestHead) (r : Response) (text : List ℕ) : Type 0 wh
   pub message : Wire.Response
   pub reads : (limits : Limits) → length (print_response message.head) ≤ limits.max_head_len → 2 ≤ limits.max_trailers_len
       → ReadsResponseMessage limits (method_kind h.method) text message []
-  pub status : status_code message.head ≡ r.status
+  pub status : status_code message.head ≡ code_of r.status
   pub added : List Header
   pub fields : map name_and_value message.head.fields ≡ fields_of r ++ added
   pub body : message.body.bytes ≡ (if is_head (method_kind h.method) then [] else r.body.items)
@@ -35,11 +37,13 @@ pub record Spells (h : RequestHead) (r : Response) (text : List ℕ) : Type 0 wh
 abbrev pub interim_for : Bool → List ℕ
 interim_for asks = if asks then CONTINUE.now else []
 
--- Whatever follows, the stream begins with the request that the service was asked, and the text is its response.
-pub record Turn (limits : Limits) (stream : List ℕ) (c : Call) (text rest : List ℕ) : Type 0 where
+-- Whatever follows, the stream begins with the request that the service was asked, whose body is no longer than may be, and the text is its
+-- response.
+pub record Turn (bounds : Bounds) (stream : List ℕ) (c : Call) (text rest : List ℕ) : Type 0 where
   pub message : Wire.Request
-  pub reads : (more : List ℕ) → ReadsRequestMessage limits (stream ++ more) message (rest ++ more)
+  pub reads : (more : List ℕ) → ReadsRequestMessage bounds.limits (stream ++ more) message (rest ++ more)
   pub proper : IsProper message.head
+  pub fits : length c.0.body.items ≤ bounds.max_body
   pub asked : IsAsked message c.0
   pub response : List ℕ
   pub spells : Spells message.head c.1 response
@@ -60,11 +64,11 @@ pub record IsClosedBy (cs : List Call) : Type 0 where
   pub closes : keeps_open last ≡ false
 
 -- The stream is the requests of these calls and then the rest, and the text is their responses, in order.
-abbrev pub IsTranscript : Limits → List ℕ → List Call → List ℕ → List ℕ → Type 0
-IsTranscript limits stream [] text rest = (stream ≡ rest) × (text ≡ [])
-IsTranscript limits stream (c ∷ cs) text rest =
+abbrev pub IsTranscript : Bounds → List ℕ → List Call → List ℕ → List ℕ → Type 0
+IsTranscript bounds stream [] text rest = (stream ≡ rest) × (text ≡ [])
+IsTranscript bounds stream (c ∷ cs) text rest =
     (first : List ℕ) × (after : List ℕ) × (later : List ℕ) × (text ≡ first ++ later)
-    × Turn limits stream c first after × IsTranscript limits after cs later rest
+    × Turn bounds stream c first after × IsTranscript bounds after cs later rest
 
 -- `answers old request response new`: in the state `old`, the service may answer the request with the response, and is then in the state `new`
 module _ {S : Type 0} (answers : S → Request → Response → S → Type 0) where

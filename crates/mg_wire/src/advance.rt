@@ -6,21 +6,19 @@ ghost use Rattle.mg_wire.specs.Connection.{pending, IsQuiet, IsSilent, Holds, Is
 ghost use Rattle.mg_wire.specs.Refusal.{Refuses};
 ghost use Rattle.mg_wire.specs.Transcript.{Asks};
 
-use crate::body::{Begun, Step, begin};
+use crate::body::{Begun, Step};
 use crate::connection::{Connection, Ending};
-use crate::refusal::{CONTINUE, FAULT, Refusal, refusal_text};
-use crate::reply::write_reply;
+use crate::refusal::{CONTINUE, Refusal, refusal_text};
+use crate::reply::{ROOM, write_reply};
 use crate::response::Response;
 use crate::service::Service;
+use crate::start::begin;
 use bytes::BytesMut;
+use http1::BodySize;
 use http1::framing::MethodKind;
-use http1::{BodySize, WriteError};
 use std::alloc::Global;
 use std::sync::Wait;
 use std::thread::Threads;
-
-/// Room for the head of a response, which is taken before the service is asked.
-pub(crate) const ROOM: usize = 8192;
 
 /// A body that is no longer than this is sent with its head.
 const FOLDED: usize = 65536;
@@ -65,7 +63,8 @@ impl Connection {
         ensures calls { self.new.calls ≡ self.old.calls }
         ensures holds { self.old.tail.items ≡ [] → self.old.end ≡ None
             → HasNoMessage self.old.bounds.limits self.old.input.items → Holds self.old → Holds self.new }
-        ensures waits { (self.new.end ≢ None) ⊎ (self.new ≡ self.old) }
+        ensures waits { (self.new.end ≢ None)
+            ⊎ ((self.new ≡ self.old) × IsFalse self.old.has_ended × IsFalse self.old.is_starved) }
     {
         if self.is_starved {
             self.refuse(Refusal::NoMemory);
@@ -113,7 +112,7 @@ impl Connection {
 
     /// Why the request with this head is refused.
     fn objection(&self, begun: &Begun) -> Option<Refusal>
-        ensures { IsFresh self.now.bounds.limits self.now.input.items begun.now
+        ensures { IsFresh self.now.bounds self.now.input.items begun.now
             → MatchOption result (Unit {0}) (Refuses self.now.bounds self.now.has_ended self.now.is_starved self.now.input.items) }
     {
         if begun.server.has_codings() {
@@ -132,7 +131,7 @@ impl Connection {
         ensures quiet { IsQuiet self.old self.new }
         ensures calls { self.new.calls ≡ self.old.calls }
         ensures holds { self.old.tail.items ≡ [] → self.old.begun ≡ None → self.old.end ≡ None
-            → IsFresh self.old.bounds.limits self.old.input.items begun → Holds self.old → Holds self.new }
+            → IsFresh self.old.bounds self.old.input.items begun → Holds self.old → Holds self.new }
         ensures ends { IsFalse result → self.new.end ≢ None }
         ensures works { IsTrue result → (self.new.begun ≡ Some begun) × (self.new.input.items ≡ self.old.input.items) }
     {
@@ -150,7 +149,7 @@ impl Connection {
         ensures quiet { IsQuiet self.old self.new }
         ensures calls { self.new.calls ≡ self.old.calls }
         ensures holds { self.old.tail.items ≡ [] → self.old.begun ≡ None → self.old.end ≡ None
-            → IsBegun self.old.bounds.limits self.old.input.items begun → Holds self.old → Holds self.new }
+            → IsBegun self.old.bounds self.old.input.items begun → Holds self.old → Holds self.new }
         ensures ends { IsFalse result → self.new.end ≢ None }
         ensures works { IsTrue result → (self.new.begun ≡ Some begun) × (self.new.input.items ≡ self.old.input.items) }
     {
@@ -183,11 +182,11 @@ impl Connection {
     }
 
     /// Sends the response to the request that was read.
-    fn reply(&mut self, begun: Begun, response: Response) -> bool
+    fn reply(&mut self, begun: Begun, response: Response)
+        requires room { ROOM ≤ self.old.output.spare }
         ensures quiet { IsSilent self.old self.new }
         ensures calls { self.new.calls ≡ self.old.calls }
-        ensures holds { IsDue self.old begun response → ROOM ≤ self.old.output.spare → Holds self.new }
-        ensures ends { IsFalse result → self.new.end ≢ None }
+        ensures holds { IsDue self.old begun response → Holds self.new }
         ensures works { self.old.begun ≡ None → (self.new.begun ≡ None) × (self.new.input.items ≡ self.old.input.items) }
     {
         let Begun {
@@ -199,17 +198,9 @@ impl Connection {
         let mut server = server;
         let method = MethodKind::of(request.method.as_slice());
         let sent = sent_len(method, response.body.len());
-        match write_reply(&mut server, &mut self.output, &response, sent) {
-            Ok(()) => {
-                self.attach(sent_body(self.alloc, method, response.body));
-                self.settle(server.is_closed());
-                true
-            }
-            Err(error) => {
-                self.fail(error);
-                false
-            }
-        }
+        write_reply(&mut server, &mut self.output, &response, sent);
+        self.attach(sent_body(self.alloc, method, response.body));
+        self.settle(server.is_closed());
     }
 
     /// Ends the connection after a response that says so.
@@ -220,18 +211,6 @@ impl Connection {
         if closes {
             self.close(Ending::Closed);
         }
-    }
-
-    /// The response cannot be sent.
-    fn fail(&mut self, error: WriteError)
-        ensures quiet { IsQuiet self.old self.new }
-        ensures calls { self.new.calls ≡ self.old.calls }
-        ensures input { (self.new.begun ≡ None) × (self.new.input.items ≡ self.old.input.items) }
-        ensures end { self.new.end ≡ Some (Ending.Faulty error) }
-        ensures output { (self.new.output.items ≡ self.old.output.items ++ []) ⊎ (self.new.output.items ≡ self.old.output.items ++ FAULT.now) }
-    {
-        let _ = self.output.extend_from_slice(FAULT);
-        self.close(Ending::Faulty(error));
     }
 
     /// Asks the service, once there is room for the head of its response.
@@ -245,7 +224,7 @@ impl Connection {
         ensures asks { Asks S.answers self.old.calls.items service.old self.new.calls.items service.new }
         ensures holds { (b : Begun) → self.old.tail.items ≡ [] → self.old.end ≡ None → self.old.begun ≡ None
             → begun.expects_continue ≡ b.expects_continue → Holds (record self.old { begun = Some b })
-            → IsWhole self.old.bounds.limits self.old.input.items begun → Holds self.new }
+            → IsWhole self.old.bounds self.old.input.items begun → Holds self.new }
         ensures ends { IsFalse result → self.new.end ≢ None }
         ensures works { self.old.begun ≡ None → IsTrue result → (self.new.begun ≡ None)
             × (self.new.input.items ≡ drop (min begun.at (length self.old.input.items)) self.old.input.items) }
@@ -261,7 +240,8 @@ impl Connection {
         service.call(rt, &begun.request, &mut response);
         self.calls = self.calls.and(&begun.request, &response);
         self.input.advance(begun.at.min(self.input.len()));
-        self.reply(begun, response)
+        self.reply(begun, response);
+        true
     }
 
     /// Reads on in the body of the request.

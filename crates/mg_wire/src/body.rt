@@ -1,15 +1,14 @@
-//! From the bytes that were received to a request: its head, and then its body as it comes.
-ghost use Rattle.std.specs.Prelude.{◌≡◌, MatchOption, IfOk, IfErr, Bool};
-ghost use Rattle.mg_wire.specs.Body.{HasNoMessage, IsBegun, IsFresh, StepsTo, Moves};
-ghost use Rattle.mg_wire.specs.Refusal.{Refuses};
+//! A request whose head was read, and its body as it comes.
+ghost use Rattle.std.specs.Prelude.{◌≡◌, ◌≤◌, true, false};
+ghost use Rattle.http1.specs.Conn.{is_connect};
+ghost use Rattle.http1.specs.Framing.{method_kind};
+ghost use Rattle.http1.specs.Server.{is_head, may_respond, peer_method, peer_minor};
 
 use crate::bounds::Bounds;
 use crate::refusal::Refusal;
-use crate::request::{Request, request_at};
-use crate::target::line_refusal;
+use crate::request::Request;
 use http1::{Event, Server};
 use httparse::spans::EMPTY_HEADER_SPAN;
-use std::alloc::Global;
 
 /// A head or a trailer section may have so many fields.
 pub(crate) const MAX_FIELDS: usize = 64;
@@ -22,6 +21,11 @@ pub(crate) struct Begun {
     pub(crate) at: usize,
     /// The client sends its body only after `100 Continue`.
     pub(crate) expects_continue: bool,
+    // The server awaits the response to the request, which is no `CONNECT`.
+    ghost awaits: { may_respond server ≡ true },
+    ghost no_tunnel: { is_connect (peer_method server) ≡ false },
+    ghost same_method: { is_head (peer_method server) ≡ is_head (method_kind request.method) },
+    ghost minor: { peer_minor server ≤ 1 },
 }
 
 /// How far a step came.
@@ -34,46 +38,16 @@ pub(crate) enum Step {
     Whole,
 }
 
-/// Reads the head that the input begins with, and checks its first line. `None`: it is not there yet.
-pub(crate) fn begin(alloc: Global, bounds: Bounds, input: &[u8]) -> Result<Option<Begun>, Refusal>
-    ensures read { IfOk result (λ r. MatchOption r (HasNoMessage bounds.limits input.now) (IsFresh bounds.limits input.now)) }
-    ensures refused { (ended starved : Bool) → IfErr result (Refuses bounds ended starved input.now) }
-{
-    let mut server = Server::new(bounds.limits);
-    let mut spans = [EMPTY_HEADER_SPAN; MAX_FIELDS];
-    match server.read(input, &mut spans) {
-        Ok(read) => match read.event {
-            Event::Head(head) => {
-                let method = head.method.of(input);
-                let target = head.path.of(input);
-                match line_refusal(method, target) {
-                    Some(refusal) => Err(refusal),
-                    None => match request_at(alloc, input, &head, &spans) {
-                        Ok(request) => {
-                            let waits = server.expects_continue();
-                            Ok(Some(Begun {
-                                server,
-                                request,
-                                at: read.consumed,
-                                expects_continue: waits,
-                            }))
-                        }
-                        Err(_) => Err(Refusal::NoMemory),
-                    },
-                }
-            }
-            _ => Ok(None),
-        },
-        Err(error) => Err(Refusal::Unreadable(error)),
-    }
-}
-
 impl Begun {
+    ghost use Rattle.std.specs.Prelude.{IfOk, IfErr, Bool};
+    ghost use Rattle.mg_wire.specs.Body.{IsBegun, StepsTo, Moves};
+    ghost use Rattle.mg_wire.specs.Refusal.{Refuses};
+
     /// Reads a piece of the body.
     pub(crate) fn step(&mut self, bounds: Bounds, input: &[u8]) -> Result<Step, Refusal>
-        ensures read { IsBegun bounds.limits input.now self.old
-            → IfOk result (StepsTo bounds.limits input.now self.old.at self.new) }
-        ensures refused { (ended starved : Bool) → IsBegun bounds.limits input.now self.old
+        ensures read { IsBegun bounds input.now self.old
+            → IfOk result (StepsTo bounds input.now self.old.at self.new) }
+        ensures refused { (ended starved : Bool) → IsBegun bounds input.now self.old
             → IfErr result (Refuses bounds ended starved input.now) }
         ensures kept { self.new.expects_continue ≡ self.old.expects_continue }
         ensures moves { IfOk result (Moves input.now self.old.at self.new.at) }

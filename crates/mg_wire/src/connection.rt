@@ -1,5 +1,5 @@
 //! A connection as a value: its buffers, and how far it came.
-ghost use Rattle.std.specs.Prelude.{◌≡◌, ℕ, ◌<◌, ◌≤◌, ◌↔◌, List, [], ◌++◌, length, take, drop, ◌-◌, ◌^◌, min, Some, None, IfOk, OnErr, MatchOption, IsTrue};
+ghost use Rattle.std.specs.Prelude.{◌≡◌, ℕ, ◌<◌, ◌≤◌, ◌↔◌, ◌⊎◌, List, [], ◌++◌, length, take, drop, ◌-◌, ◌^◌, min, Some, None, Ok, IfOk, OnErr, MatchOption, IsTrue, true};
 ghost use Rattle.std.specs.Io.KnownBytes.{Consumes, IsAtEnd, Keeps};
 ghost use Rattle.bytes.specs.Unread.{IsChunkOf};
 ghost use Rattle.mg_wire.specs.Connection.{received, sent, pending, Holds, IsIdle, IsDone, room_of};
@@ -11,7 +11,6 @@ use crate::request::Request;
 use crate::response::Response;
 use bytes::BytesMut;
 use http_server::Log;
-use http1::WriteError;
 use std::alloc::Global;
 use std::io;
 use std::io::{ErrorKind, Read};
@@ -30,8 +29,6 @@ pub enum Ending {
     Refused(Refusal),
     /// There was no memory for the next request, and none to say so.
     NoMemory,
-    /// The service's last response cannot be sent.
-    Faulty(WriteError),
 }
 
 /// What a client and a service say to each other over one connection.
@@ -140,9 +137,10 @@ impl Connection {
             .saturating_add(self.tail.capacity())
     }
 
-    /// Reads once; 0: the input has ended. `None`: there was no memory to read, which `run` tells the client.
+    /// Reads once; 0: the input has ended, between two requests. `None`: there was no memory to read, which `run` tells the client.
     ///
-    /// Errors: those of the reader, and `NotConnected` if the connection has ended. Nothing has changed.
+    /// Errors: those of the reader; `Interrupted` if the input has ended within a request, which `run` then refuses; `NotConnected` if the
+    /// connection has ended. Nothing was received.
     pub(crate) fn receive<R: Read>(&mut self, reader: &mut R) -> io::Result<Option<usize>>
         ensures ok { IfOk result (λ read. MatchOption read
             ((received self.new ≡ received self.old) × (R.remaining reader.new ≡ R.remaining reader.old))
@@ -150,6 +148,9 @@ impl Connection {
             × Consumes (R.remaining reader.old) (R.remaining reader.new) more
             × (received self.new ≡ received self.old ++ more))) }
         ensures end { IfOk result (λ read. MatchOption read (Unit {0}) (λ n. n ≡ 0 → IsAtEnd (R.remaining reader.new))) }
+        ensures between { result ≡ Ok (Some 0) → (self.new.begun ≡ None) × (self.new.input.items ≡ []) }
+        ensures ended { IsTrue self.new.has_ended → IsTrue self.old.has_ended ⊎ IsAtEnd (R.remaining reader.new) }
+        ensures starved { IsTrue self.new.is_starved → IsTrue self.old.is_starved ⊎ (result ≡ Ok None) }
         ensures err { OnErr result ((received self.new ≡ received self.old)
             × Keeps (R.remaining reader.old) (R.remaining reader.new)) }
         ensures sent { sent self.new ≡ sent self.old }
@@ -161,26 +162,6 @@ impl Connection {
         if self.end.is_some() {
             return Err(ErrorKind::NotConnected.into());
         }
-        self.read_once(reader)
-    }
-
-    /// Reads once, as `receive` does.
-    fn read_once<R: Read>(&mut self, reader: &mut R) -> io::Result<Option<usize>>
-        requires { self.old.end ≡ None }
-        ensures ok { IfOk result (λ read. MatchOption read
-            ((received self.new ≡ received self.old) × (R.remaining reader.new ≡ R.remaining reader.old))
-            (λ n. (more : List ℕ) × (length more ≡ n)
-            × Consumes (R.remaining reader.old) (R.remaining reader.new) more
-            × (received self.new ≡ received self.old ++ more))) }
-        ensures end { IfOk result (λ read. MatchOption read (Unit {0}) (λ n. n ≡ 0 → IsAtEnd (R.remaining reader.new))) }
-        ensures err { OnErr result ((received self.new ≡ received self.old)
-            × Keeps (R.remaining reader.old) (R.remaining reader.new)) }
-        ensures sent { sent self.new ≡ sent self.old }
-        ensures pending { pending self.new ≡ pending self.old }
-        ensures calls { self.new.calls ≡ self.old.calls }
-        ensures holds { Holds self.old → Holds self.new }
-        ensures gives_back { OnErr result (IsIdle self.new → room_of self.new ≡ 0) }
-    {
         if self.input.reserve(READ_ROOM).is_err() {
             self.is_starved = true;
             return Ok(None);
@@ -194,8 +175,25 @@ impl Connection {
             }
         };
         self.reads = self.reads.and(&self.input, &len);
-        self.has_ended |= count == 0;
-        Ok(Some(count))
+        if count > 0 {
+            Ok(Some(count))
+        } else {
+            self.note_end()
+        }
+    }
+
+    /// The input has ended. Within a request that is not reported yet: the connection has to refuse the request first.
+    fn note_end(&mut self) -> io::Result<Option<usize>>
+        ensures only { self.new ≡ record self.old { has_ended = true } }
+        ensures ok { IfOk result (λ read. (read ≡ Some 0) × (self.old.begun ≡ None) × (self.old.input.items ≡ [])) }
+        ensures err { OnErr result (¬ (IsIdle self.new)) }
+    {
+        self.has_ended = true;
+        if self.begun.is_none() && self.input.is_empty() {
+            Ok(Some(0))
+        } else {
+            Err(ErrorKind::Interrupted.into())
+        }
     }
 
     /// The next bytes to send.

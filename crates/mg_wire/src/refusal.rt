@@ -52,9 +52,6 @@ pub(crate) const NO_TUNNELS: &[u8] =
 pub(crate) const NO_MEMORY: &[u8] =
     b"HTTP/1.1 503 Service Unavailable\r\ncontent-type: application/json\r\ncontent-length: 68\r\nconnection: close\r\n\r\n{\"error\":\"out_of_memory\",\"reason\":\"the server lacks memory for it\"}\n";
 
-pub(crate) const FAULT: &[u8] =
-    b"HTTP/1.1 500 Internal Server Error\r\ncontent-type: application/json\r\ncontent-length: 71\r\nconnection: close\r\n\r\n{\"error\":\"internal_server_error\",\"reason\":\"the answer cannot be sent\"}\n";
-
 /// The response to a request that is refused.
 pub(crate) fn refusal_text(refusal: Refusal) -> &'static [u8]
     ensures { result.now ≡ refusal_text refusal }

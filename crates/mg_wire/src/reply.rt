@@ -1,40 +1,32 @@
 //! From a response to its bytes.
-ghost use Rattle.std.specs.Prelude.{◌≡◌, ◌<◌, ◌⊎◌, length, IfErr, OnOk};
+ghost use Rattle.std.specs.Prelude.{◌≡◌, ◌≤◌, ◌∷◌, length, take, codes, if◌then◌else◌, true, false, MatchOption};
+ghost use Rattle.http1.specs.Conn.{is_connect};
 ghost use Rattle.http1.specs.Head.{pairs};
+ghost use Rattle.http1.specs.Server.{is_head, may_respond, peer_method, peer_minor};
+ghost use Rattle.httpdate.specs.Date.{date_text};
 ghost use Rattle.mg_wire.specs.Response.{fields_of};
-ghost use Rattle.mg_wire.specs.Reply.{size_for, Heads, FailsToHead};
+ghost use Rattle.mg_wire.specs.Sendable.{are_sendable, lines_len, parts_of};
+ghost use Rattle.mg_wire.specs.Status.{code_of};
+ghost use Rattle.mg_wire.specs.Reply.{size_for, first_of, Heads};
 
+use crate::fields::MAX_RESPONSE_FIELDS;
+use crate::request::Field;
 use crate::response::Response;
+use crate::status::Status;
 use bytes::BytesMut;
-use http1::{BodySize, Header, Server, WriteError};
+use http1::{BodySize, Header, Server};
+use httpdate::HttpDate;
 
-/// A response has at most so many fields.
-pub(crate) const MAX_RESPONSE_FIELDS: usize = 16;
+/// Room for the head of any response, which is taken before the service is asked.
+pub(crate) const ROOM: usize = 8192;
+
+/// The date of a response, and its other fields.
+const MAX_FIELDS_SENT: usize = MAX_RESPONSE_FIELDS + 1;
 
 const NO_HEADER: Header<'static> = Header {
     name: b"",
     value: b"",
 };
-
-fn reason(status: u16) -> &'static [u8] {
-    match status {
-        200 => b"OK",
-        201 => b"Created",
-        202 => b"Accepted",
-        304 => b"Not Modified",
-        400 => b"Bad Request",
-        401 => b"Unauthorized",
-        403 => b"Forbidden",
-        404 => b"Not Found",
-        405 => b"Method Not Allowed",
-        409 => b"Conflict",
-        412 => b"Precondition Failed",
-        413 => b"Content Too Large",
-        500 => b"Internal Server Error",
-        503 => b"Service Unavailable",
-        _ => b"",
-    }
-}
 
 /// A length, as `http1` is given it.
 fn size_for(len: usize) -> BodySize
@@ -48,86 +40,100 @@ fn size_for(len: usize) -> BodySize
 }
 
 /// Appends the head of a response with these fields and so long a body, of which `sent` bytes are sent.
-///
-/// Errors: nothing is appended.
 pub(crate) fn write_head(
     server: &mut Server,
     output: &mut BytesMut,
-    status: u16,
+    status: Status,
     fields: &[Header<'_>],
     body_len: usize,
     sent: usize,
-) -> Result<(), WriteError>
-    ensures ok { OnOk result
-        (Heads server.old status (pairs fields.now) body_len sent output.old.items output.new.items server.new) }
-    ensures err { IfErr result (λ e. (output.new.items ≡ output.old.items)
-        × FailsToHead server.old status (pairs fields.now) body_len sent output.old.spare e) }
+)
+    requires awaits { may_respond server.old ≡ true }
+    requires no_tunnel { is_connect (peer_method server.old) ≡ false }
+    requires minor { peer_minor server.old ≤ 1 }
+    requires sendable { are_sendable (pairs fields.now) ≡ true }
+    requires short { lines_len (pairs fields.now) ≤ 7717 }
+    requires room { ROOM ≤ output.old.spare }
+    requires sent { sent ≡ (if is_head (peer_method server.old) then 0 else body_len) }
+    ensures { Heads server.old (code_of status) (pairs fields.now) body_len sent output.old.items output.new.items server.new }
 {
-    let before = output.len();
     let size = size_for(body_len);
-    match server.write_response(output, status, reason(status), fields, size) {
+    match server.write_response(output, status.code(), status.reason(), fields, size) {
         Ok(()) => {}
-        Err(e) => return Err(e),
+        Err(_) => unreachable!(),
     }
-    let frame = match server.frame_data(sent) {
-        Ok(frame) => frame,
-        Err(e) => {
-            output.truncate(before);
-            return Err(e);
-        }
-    };
-    if !frame.prefix().is_empty() {
-        output.truncate(before);
-        return Err(WriteError::UnusualFraming);
+    match server.frame_data(sent) {
+        Ok(_) => {}
+        Err(_) => unreachable!(),
     }
     match server.write_end(output, &[]) {
-        Ok(()) => Ok(()),
-        // Only a coding of the response itself would add bytes here.
-        Err(_) => {
-            output.truncate(before);
-            Err(WriteError::UnusualFraming)
-        }
+        Ok(()) => {}
+        Err(_) => unreachable!(),
     }
 }
 
-/// Appends the head of the response, of whose body so many bytes are sent.
-///
-/// Errors: nothing is appended.
-pub(crate) fn write_reply(
-    server: &mut Server,
-    output: &mut BytesMut,
-    response: &Response,
-    sent: usize,
-) -> Result<(), WriteError>
-    ensures ok { OnOk result (Heads server.old response.now.status (fields_of response.now)
-        (length response.now.body.items) sent output.old.items output.new.items server.new) }
-    ensures err { IfErr result (λ e. (output.new.items ≡ output.old.items)
-        × ((MAX_RESPONSE_FIELDS < length response.now.fields.items)
-        ⊎ FailsToHead server.old response.now.status (fields_of response.now)
-        (length response.now.body.items) sent output.old.spare e)) }
+/// The text of a date. Without one, blanks that are not sent.
+fn date_bytes(date: Option<HttpDate>) -> [u8; 29]
+    ensures { MatchOption date (Unit {0}) (λ d. result ≡ date_text d) }
 {
-    let mut headers = [NO_HEADER; MAX_RESPONSE_FIELDS];
-    let mut count = 0;
-    for field in &response.fields {
-        if count == MAX_RESPONSE_FIELDS {
-            return Err(WriteError::InvalidHeader);
-        }
+    match date {
+        Some(date) => date.to_bytes(),
+        None => [b' '; 29],
+    }
+}
+
+/// Where the fields of a response begin, in whose room the first one is for its date.
+fn first_of(date: Option<HttpDate>) -> usize
+    ensures first { result ≡ first_of date }
+    ensures few { result ≤ 1 }
+{
+    match date {
+        Some(_) => 0,
+        None => 1,
+    }
+}
+
+/// Returns room in which the first is a date, and the fields follow; and how many these are.
+fn headers_of<'a>(date: &'a [u8], fields: &'a [Field]) -> ([Header<'a>; MAX_FIELDS_SENT], usize)
+    requires few { length fields.now ≤ 16 }
+    ensures room { result.1 ≤ length result.0 }
+    ensures same { pairs (take result.1 result.0) ≡ (codes "date", date.now) ∷ parts_of fields.now }
+{
+    let mut headers = [NO_HEADER; MAX_FIELDS_SENT];
+    headers[0] = Header {
+        name: b"date",
+        value: date,
+    };
+    let mut count = 1;
+    for field in fields {
         headers[count] = Header {
             name: field.name.as_slice(),
             value: field.value.as_slice(),
         };
         count += 1;
     }
+    (headers, count)
+}
+
+/// Appends the head of the response, of whose body so many bytes are sent.
+pub(crate) fn write_reply(
+    server: &mut Server,
+    output: &mut BytesMut,
+    response: &Response,
+    sent: usize,
+)
+    requires awaits { may_respond server.old ≡ true }
+    requires no_tunnel { is_connect (peer_method server.old) ≡ false }
+    requires minor { peer_minor server.old ≤ 1 }
+    requires room { ROOM ≤ output.old.spare }
+    requires sent { sent ≡ (if is_head (peer_method server.old) then 0 else length response.now.body.items) }
+    ensures { Heads server.old (code_of response.now.status) (fields_of response.now)
+        (length response.now.body.items) sent output.old.items output.new.items server.new }
+{
+    let date = date_bytes(response.date);
+    let (headers, count) = headers_of(&date, response.fields.list.as_slice());
     let len = response.body.len();
-    match write_head(
-        server,
-        output,
-        response.status,
-        &headers[..count],
-        len,
-        sent,
-    ) {
-        Ok(()) => Ok(()),
-        Err(e) => Err(e),
-    }
+    let fields = &headers[..count];
+    let first = first_of(response.date);
+    write_head(server, output, response.status, &fields[first..], len, sent);
 }

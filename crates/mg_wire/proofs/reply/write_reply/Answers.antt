@@ -1,28 +1,54 @@
-use Rattle.std.proofs.Common.{◌+◌, ◌≡◌, ◌≢◌, ◌<◌, ℕ, List, ◌∷◌, [], ◌++◌, map, take, length, get_or, sym, ap, subst, ◌∙◌, arith}
-use Rattle.std.proofs.lemmas.List.{take_more, take_more_set, map-append}
-use Rattle.std.proofs.Math.ListN.{set, length-set}
+use Rattle.std.proofs.Common.{◌≡◌, ◌≤◌, ◌-◌, ℕ, true, List, ◌∷◌, ◌++◌, length, take, drop, MatchOption, sym, ap, subst, subst₂, ◌∙◌, arith}
+use Rattle.std.specs.Prelude.{codes}
+use Rattle.std.proofs.lemmas.Grind.{common_steps}
+use Rattle.std.proofs.lemmas.List.{take_all, length-drop, drop-map}
 use Rattle.http1.specs.declared.head.Header as Sent
 use Rattle.http1.specs.Fields.{Header}
 use Rattle.http1.specs.Head.{pairs, header_parts}
+use Rattle.httpdate.specs.Date.{date_text}
 use Rattle.mg_wire.specs.declared.request.Field.{Field}
-use Rattle.mg_wire.specs.Request.{field_parts}
+use Rattle.mg_wire.specs.declared.response.Response.{Response}
+use Rattle.mg_wire.specs.Reply.{first_of, Heads}
+use Rattle.mg_wire.specs.Response.{date_fields, fields_of, listed}
+use Rattle.mg_wire.specs.Sendable.{are_sendable, lines_len, parts_of}
+use Rattle.mg_wire.specs.Status.{code_of}
+use Rattle.mg_wire.proofs.DateLemmas.{dated, dated_sendable, dated_short}
+use Rattle.mg_wire.proofs.SendableLemmas.{sendable_of}
 use Rattle.mg_wire.proofs.reply.write_reply.Goals as goal
 
-one_more : (hs : List Sent.Header) (fs : List Field) (count index : ℕ) (h : Sent.Header) (f : Field) → count ≡ index → count < length hs → index < length fs
-    → get_or fs index f ≡ f → header_parts h ≡ field_parts f → pairs (take count hs) ≡ map field_parts (take index fs)
-    → pairs (take (count + 1) (set hs count h)) ≡ map field_parts (take (index + 1) fs)
-one_more hs fs count index h f same room fits is parts before =
-    ap pairs (take_more_set hs count h room) ∙ map-append header_parts (take count hs) (h ∷ []) ∙
-    ap (λ (xs : List Header). xs ++ header_parts h ∷ []) before ∙
-    ap (λ (x : Header). map field_parts (take index fs) ++ x ∷ []) (parts ∙ ap field_parts (sym is)) ∙
-    sym (map-append field_parts (take index fs) (get_or fs index f ∷ [])) ∙ ap (map field_parts) (sym (take_more fs index f fits))
+-- what is sent of the room is the fields of the response
+sent_fields : (r : Response) (text : List ℕ) (first : ℕ) (room : List Sent.Header) (fields : List Field) → first ≡ first_of r.date
+    → MatchOption r.date (Unit {0}) (λ d. text ≡ date_text d) → pairs room ≡ (codes "date", text) ∷ parts_of fields → fields ≡ r.fields.list.items
+    → pairs (take (length room - first) (drop first room)) ≡ fields_of r
+sent_fields r text first room fields at is same given =
+    ap pairs (take_all (length room - first) (drop first room) (omega (arith, length-drop first room)))
+    ∙ sym (drop-map header_parts first room)
+    ∙ (λ i. drop (at i) (same i))
+    ∙ dated r.date text (parts_of fields) is
+    ∙ ap (λ (fs : List Field). date_fields r.date ++ parts_of fs) given
 
-pub loop-field-preserved : goal.loop-field-preserved
-loop-field-preserved c =
-    let other : c.loop-field.count ≢ 16 = c.if-count-eq-MAX_RESPONSE_FIELDS.false in
-    record {
-      counted = omega arith;
-      all = length-set c.loop-field.headers c.loop-field.count _ ∙ c.loop-field.invariant.all;
-      room = omega (arith, other, c.loop-field.invariant.room);
-      same = one_more c.loop-field.headers c.args.response.now.fields.items c.loop-field.count c.loop-field.field-index _ c.field-item.result c.loop-field.invariant.counted (omega (arith, other, c.loop-field.invariant.room, c.loop-field.invariant.all)) (omega arith) (subst (λ (xs : List Field). get_or xs c.loop-field.field-index c.field-item.result ≡ c.field-item.result) c.deref-field-items.ensures.value (sym c.field-item.is)) (λ i. (c.as_slice.ensures i, c.as_slice-in-loop-field.ensures i)) c.loop-field.invariant.same;
-    }
+sendable : (r : Response) → are_sendable (fields_of r) ≡ true
+sendable r = dated_sendable r.date (listed r.fields) (sendable_of (listed r.fields) r.fields.addable)
+
+short : (r : Response) → lines_len (fields_of r) ≤ 7717
+short r = dated_short r.date (listed r.fields) (omega (arith, r.fields.counted, r.fields.short))
+
+pub write_head-requires-clause-sendable : goal.write_head-requires-clause-sendable
+write_head-requires-clause-sendable c =
+    let same = sent_fields c.args.response.now c.date_bytes-date.result c.first_of-first.result (take c.headers_of-count.result.1 c.headers_of-count.result.0) c.as_slice.result.now
+    c.first_of-first.ensures.first c.date_bytes-date.ensures c.headers_of-count.ensures.same c.as_slice.ensures.value in
+    subst (λ (hs : List Header). are_sendable hs ≡ true) (sym same) (sendable c.args.response.now)
+
+pub write_head-requires-clause-short : goal.write_head-requires-clause-short
+write_head-requires-clause-short c =
+    let same = sent_fields c.args.response.now c.date_bytes-date.result c.first_of-first.result (take c.headers_of-count.result.1 c.headers_of-count.result.0) c.as_slice.result.now
+    c.first_of-first.ensures.first c.date_bytes-date.ensures c.headers_of-count.ensures.same c.as_slice.ensures.value in
+    subst (λ (hs : List Header). lines_len hs ≤ 7717) (sym same) (short c.args.response.now)
+
+pub returns : goal.returns
+returns c =
+    let same = sent_fields c.args.response.now c.date_bytes-date.result c.first_of-first.result (take c.headers_of-count.result.1 c.headers_of-count.result.0) c.as_slice.result.now
+    c.first_of-first.ensures.first c.date_bytes-date.ensures c.headers_of-count.ensures.same c.as_slice.ensures.value in
+    let full : c.len-len.result ≡ length c.args.response.now.body.items = grind (arith, common_steps) in
+    subst₂ (λ (hs : List Header) (n : ℕ). Heads c.args.server.now (code_of c.args.response.now.status) hs n c.args.sent c.args.output.now.items c.write_head.new.output.items c.write_head.new.server)
+    same full c.write_head.ensures

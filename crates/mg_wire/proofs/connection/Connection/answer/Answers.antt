@@ -31,4 +31,7 @@ pub returns-clause-holds : goal.returns-clause-holds
 returns-clause-holds g c = λ b bare goes_on none same h w.
     let at : c.min.result ≡ c.args.begun.at = grind (arith, common_steps, w.within) in
     c.reply.ensures.holds (due_now c.args.self.now _ b c.args.begun c.call.new.response h goes_on none bare w same refl refl refl refl refl refl c.in-Ok.ensures.items c.and-self.ensures
-    (c.advance.ensures.items ∙ ap (λ (k : ℕ). drop k c.args.self.now.input.items) at)) c.in-Ok.ensures.spare.1
+    (c.advance.ensures.items ∙ ap (λ (k : ℕ). drop k c.args.self.now.input.items) at))
+
+pub reply-requires : goal.reply-requires
+reply-requires g c = record { room = c.in-Ok.ensures.spare.1 }

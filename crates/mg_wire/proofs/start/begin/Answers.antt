@@ -2,7 +2,7 @@ use Rattle.std.proofs.Common.{subst, refl, inl, inr}
 use Rattle.http1.specs.declared.server.Server.{Server}
 use Rattle.http1.specs.Server.{ServerReads, ServerRefuses}
 use Rattle.mg_wire.proofs.StartLemmas.{takes, begins_taken, line_refused, line_proper, begun, no_head_yet, head_refused}
-use Rattle.mg_wire.proofs.body.begin.Goals as goal
+use Rattle.mg_wire.proofs.start.begin.Goals as goal
 
 pub returns-in-Ok-request_at-clause-read : goal.returns-in-Ok-request_at-clause-read
 returns-in-Ok-request_at-clause-read c =
