@@ -132,6 +132,7 @@ def other_commits(program, folder, tally):
     tally.expect("the kinds of the rows", [kind for _, kind, _ in rows], ["header", "bulk", "create_index", "create_index", "drop_index", "reshard"])
     with Server(program, file) as server, contextlib.closing(Client(server.port)) as client:
         after = [client.ask("POST", "/db/_find", {"selector": {"n": {"$gt": 3}}, "sort": ["n"], "limit": 5}), client.ask("GET", "/db/_index")]
+        tally.expect("what the file is said to have", server.said[0].partition(" has ")[2], "5 commits, 20 documents and 1 indexes")
     tally.expect("the same answers after a kill", after, before)
     with Server(program, folder / "again.db") as server, contextlib.closing(Client(server.port)) as client:
         for _, kind, body in rows[1:]:

@@ -8,9 +8,9 @@ use crate::keeper::FileKeeper;
 use crate::replay::replayed;
 use crate::service::StoredService;
 use mg_http::{Connection, SeatService};
-use mg_live::{CommitLog, Database, Live, Seat, Seen};
+use mg_live::{CommitLog, Database, Keeper, Live, Seat, Seen};
 use mg_server::Edge;
-use mg_shard::Md5Placement;
+use mg_shard::{Md5Placement, Shard};
 use mg_value::NoMemory;
 use std::alloc::Global;
 use std::io::{Eprint, ErrorKind};
@@ -59,15 +59,46 @@ fn stored<D: Database, H: Wait + Threads + Sync + Copy + Drop + AllocGlobal + Ep
             return Err(Exit::REFUSED);
         }
     };
-    let _ = eprintln!(rt;
-        "mango_server: {} has {} commits",
-        settings.file,
-        log.count()
-    );
+    let commits = log.count();
     match seat.replace_keeper(&rt, FileKeeper::in_file(rt, log, lost)) {
-        Ok(_) => Ok(seat),
+        Ok(_) => Ok(announced(&rt, settings.file, seat, commits)),
         Err(_) => Err(Exit::STORAGE),
     }
+}
+
+/// Counts the documents of a shard, without the deleted ones. Cost: a step a document.
+fn count_documents(shard: &Shard) -> usize {
+    let mut count: usize = 0;
+    for _ in shard.docs() {
+        count = count.saturating_add(1);
+    }
+    count
+}
+
+/// Counts the documents of all shards, without the deleted ones.
+fn count_all(shards: &[Arc<Shard>]) -> usize {
+    let mut count: usize = 0;
+    for shard in shards {
+        count = count.saturating_add(count_documents(shard));
+    }
+    count
+}
+
+/// Says what a file has, unless there are too many references to the database. Returns the seat.
+fn announced<D: Database, C: Keeper, H: Eprint>(
+    rt: &H,
+    file: &str,
+    mut seat: Seat<D, C>,
+    commits: u32,
+) -> Seat<D, C> {
+    if let Ok(snapshot) = seat.snapshot() {
+        let documents = count_all(snapshot.shards());
+        let indexes = snapshot.catalog().list().len();
+        let _ = eprintln!(rt;
+            "mango_server: {file} has {commits} commits, {documents} documents and {indexes} indexes"
+        );
+    }
+    seat
 }
 
 /// Serves the database in a file, until the file can no longer be written or the listener fails. Returns how the program ends. The commit
