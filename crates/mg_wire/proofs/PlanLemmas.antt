@@ -30,9 +30,10 @@ use Rattle.http1.specs.Conn.{Plan, with_framing, states_framing, states_no_conte
 use Rattle.http1.specs.Server.{is_head, is_sized, framing_headers, stays_open, connection_headers, plan_stated, plan_fields, response_plan, may_respond, peer_method}
 use Rattle.http1.proofs.FieldsLemmas.{and_plain, known_fields_push}
 use Rattle.http1.proofs.HeadLemmas.{are_headers-append}
+use Rattle.http1.proofs.TextLemmas.{list_all-append}
 use Rattle.http1.proofs.NumeralLemmas.{numeral_reads_back, decimal_is_number, decimal_is_plain, decimal_is_trimmed}
 use Rattle.mg_wire.specs.Reply.{size_for}
-use Rattle.mg_wire.specs.Sendable.{is_sendable, are_sendable, lines_len}
+use Rattle.mg_wire.specs.Sendable.{is_sendable, are_sendable, lines_len, is_own}
 use Rattle.mg_wire.proofs.SendableLemmas.{unframing, lines_push}
 
 -- no field states how long the body is
@@ -97,19 +98,19 @@ told_alike : (r : Request) (k : KnownFields) (keep : Bool) (hs : List Header) �
 told_alike r k true hs = connection_kept hs _ _
 told_alike r k false hs = connection_kept hs _ _
 
--- the fields that `http1` adds can be sent, and are short
+-- the fields that `http1` adds can be sent, are short, and are the connection's own
 abbrev IsShort : ℕ → List Header → Type 0
-IsShort most hs = (are_headers hs ≡ true) × (lines_len hs ≤ most)
+IsShort most hs = (are_headers hs ≡ true) × (lines_len hs ≤ most) × (list_all is_own hs ≡ true)
 
 close_short : (t : Bool) → IsShort 24 (cond t (connection_header (codes "close") ∷ []) [])
-unfolding are_headers is_token_byte
-close_short true = (refl, omega arith)
-close_short false = (refl, omega arith)
+unfolding are_headers is_token_byte eq_ignore_case
+close_short true = (refl, omega arith, refl)
+close_short false = (refl, omega arith, refl)
 
 alive_short : (t : Bool) → IsShort 24 (cond t (connection_header (codes "keep-alive") ∷ []) [])
-unfolding are_headers is_token_byte
-alive_short true = (refl, omega arith)
-alive_short false = (refl, omega arith)
+unfolding are_headers is_token_byte eq_ignore_case
+alive_short true = (refl, omega arith, refl)
+alive_short false = (refl, omega arith, refl)
 
 told_short : (r : Request) (k : KnownFields) (keep : Bool) → IsShort 24 (connection_headers r k keep)
 told_short r k true = alive_short _
@@ -124,17 +125,19 @@ numeral_short n small = by_test (eqb n 0)
     by_test false = omega (arith, length-map (digits_of 10 n) digit_char, length-digits_of-le 10 20 n (omega arith) (omega arith))
 
 length_short : (n : ℕ) → n < 2 ^ 64 → IsShort 38 (length_header n ∷ [])
-unfolding are_headers is_token_byte
+unfolding are_headers is_token_byte eq_ignore_case
 length_short n small = (
   and_from _ _ (decimal_is_trimmed n) refl,
   omega (arith, lines_push [] (length_header n), numeral_short n small),
+  refl,
 )
 
 join_short : (a b : ℕ) (xs ys : List Header) → IsShort a xs → IsShort b ys → IsShort (a + b) (xs ++ ys)
-join_short a b [] ys x y = (y.0, omega (arith, y.1))
+join_short a b [] ys x y = (y.0, omega (arith, y.1), y.2)
 join_short a b (h ∷ xs) ys x y = (
   are_headers-append (h ∷ xs) ys ∙ and_from _ _ x.0 y.0,
   omega (arith, x.1, y.1, lines_join (h ∷ xs) ys),
+  list_all-append is_own (h ∷ xs) ys ∙ and_from _ _ x.2 y.2,
 ) where
   lines_join : (us vs : List Header) → lines_len (us ++ vs) ≡ lines_len us + lines_len vs
   lines_join [] vs = omega arith
@@ -211,6 +214,7 @@ pub record Plans (s : Server) (status n : ℕ) (fields : List Header) : Type 0 w
   pub framing : plan.framing ≡ final_for (peer_method s) n
   pub valid : are_headers plan.extra ≡ true
   pub short : lines_len plan.extra ≤ 62
+  pub own : list_all is_own plan.extra ≡ true
 
 module _ (s : Server) (status n : ℕ) (fields : List Header) (awaits : may_respond s ≡ true) (no_tunnel : is_connect (peer_method s) ≡ false)
     (final : IsFinal status) (small : n < 2 ^ 64) (sendable : are_sendable fields ≡ true) where
@@ -273,6 +277,7 @@ module _ (s : Server) (status n : ℕ) (fields : List Header) (awaits : may_resp
         framing = refl;
         valid = short.0;
         short = short.1;
+        own = short.2;
       }
   plans_at false is =
       let k = known_fields (fields ++ []) in
@@ -291,6 +296,7 @@ module _ (s : Server) (status n : ℕ) (fields : List Header) (awaits : may_resp
         framing = refl;
         valid = short.0;
         short = omega (arith, short.1);
+        own = short.2;
       }
 
   pub plans : Plans s status n fields

@@ -3,6 +3,7 @@ use Rattle.std.proofs.Common.{◌≡◌, ℕ, zero, suc, ◌+◌, ◌-◌, ◌<�
 use Rattle.std.specs.Prelude.{codes}
 use Rattle.std.proofs.lemmas.Bool.{and_parts, and_from, leb-true}
 use Rattle.std.proofs.lemmas.Bool.Decides.{nat_tests}
+use Rattle.std.specs.List.{list_all}
 use Rattle.httparse.specs.Ascii.{crlf_bytes}
 use Rattle.http1.specs.declared.conn.BodySize.{BodySize}
 use Rattle.http1.specs.declared.conn.Writing.{Writing}
@@ -26,7 +27,7 @@ use Rattle.http_server.proofs.PlanLemmas.{plan_for_size}
 use Rattle.mg_wire.specs.declared.status.Status.{Status}
 use Rattle.mg_wire.specs.declared.status.Status.TheVariants as Is
 use Rattle.mg_wire.specs.Reply.{size_for, Heads}
-use Rattle.mg_wire.specs.Sendable.{are_sendable, lines_len}
+use Rattle.mg_wire.specs.Sendable.{are_sendable, lines_len, is_own}
 use Rattle.mg_wire.specs.Status.{code_of, reason_of}
 use Rattle.mg_wire.proofs.PlanLemmas.{IsFinal, final_for, Plans, plans}
 use Rattle.mg_wire.proofs.SendableLemmas.{not_true, headers_of}
@@ -103,8 +104,9 @@ module _ (s one two three : Server) (status body_len sent : ℕ) (fields : List 
       → out2 ≡ out1 ++ finish_text (writing two) []
       → three ≡ after_end two
       → sent < 2 ^ 64
+      → ((q : Plan) → response_plan s status (size_for body_len) fields ≡ Ok q → list_all is_own q.extra ≡ true)
       → Heads s status fields body_len sent out0 out2 three
-  heads size spare len spare2 len2 x f sized given written after framed prefix counted last ended then_is fits =
+  heads size spare len spare2 len2 x f sized given written after framed prefix counted last ended then_is fits owned =
       let first = subst (λ (z : BodySize). GivesOrRefuses (response_refusal s status reason z fields) spare len (Ok x)) sized given in
       let wrote = written ∙ ap (λ (z : BodySize). out0 ++ planned_response s status reason z fields) sized in
       let next = after ∙ ap (λ (z : BodySize). after_response s status z fields) sized in
@@ -126,6 +128,7 @@ module _ (s one two three : Server) (status body_len sent : ℕ) (fields : List 
       record {
         plan = p;
         reason = reason;
+        own = owned p planned.1;
         planned = planned.1;
         valid = planned.2;
         whole = λ piece is. (
@@ -226,6 +229,13 @@ module _ (s : Server) (status : Status) (n sent : ℕ) (fields : List Header) (m
   line =
       let f = fine_parts status in
       and_from _ _ (one_at_most (peer_minor s) m.minor) (and_from _ _ f.final.low (and_from _ _ f.final.high f.reason))
+
+  -- the connection adds no other fields than its own
+  pub own_fields : (code : ℕ) → code ≡ code_of status → (q : Plan) → response_plan s code (size_for n) fields ≡ Ok q → list_all is_own q.extra ≡ true
+  own_fields code is q planned =
+      let both : ◌≡◌ {A = Result Plan WriteError} (Ok p.plan) (Ok q) = sym p.planned ∙ (λ i. response_plan s (sym is i) (size_for n) fields) ∙ planned in
+      let same : p.plan ≡ q = cc in
+      subst (λ (x : Plan). list_all is_own x.extra ≡ true) same p.own
 
   not_refused : response_refusal s (code_of status) (reason_of status) (size_for n) fields ≡ None
   not_refused =

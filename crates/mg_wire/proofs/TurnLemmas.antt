@@ -85,6 +85,7 @@ module _ (b : Begun) (a : Response) (sent_bytes : ℕ) (old new : List ℕ) (nex
             b.server (code_of a.status) h.reason h.planned h.valid fits);
         status = back.code;
         added = h.plan.extra;
+        own = h.own;
         fields = back.fields;
         body = append-nil piece ∙ is;
       }

@@ -1,5 +1,6 @@
 -- What is sent of a response.
 use Rattle.std.specs.Prelude.{◌≡◌, ℕ, ◌&&◌, not, true, false, List, [], ◌∷◌, ◌++◌, length, Ok, Option, Some, None, if◌then◌else◌, ◌==◌}
+use Rattle.std.specs.List.{list_all}
 use Rattle.http1.specs.declared.conn.BodySize.{BodySize}
 use Rattle.http1.specs.declared.conn.BodySize.TheVariants.{Empty, Known}
 use Rattle.http1.specs.declared.server.Server.{Server}
@@ -9,6 +10,7 @@ use Rattle.http1.specs.Encoder.{encoder_for, body_text, AreAccepted}
 use Rattle.http1.specs.Conn.{Plan}
 use Rattle.http1.specs.Server.{response_plan, peer_minor, IsClosed}
 use Rattle.httpdate.specs.declared.date.HttpDate.{HttpDate as Date}
+use Rattle.mg_wire.specs.Sendable.{is_own}
 
 -- a length, as `http1` is given it
 abbrev pub size_for : ℕ → BodySize
@@ -23,6 +25,7 @@ first_of (Some d) = 0
 pub record Heads (s : Server) (status : ℕ) (fields : List Header) (body_len sent : ℕ) (old new : List ℕ) (next : Server) : Type 0 where
   pub plan : Plan
   pub reason : List ℕ
+  pub own : list_all is_own plan.extra ≡ true
   pub planned : response_plan s status (size_for body_len) fields ≡ Ok plan
   pub valid : head_refusal (is_status_line (peer_minor s) status reason) (fields ++ plan.extra) ≡ None
   pub whole : (piece : List ℕ) → length piece ≡ sent

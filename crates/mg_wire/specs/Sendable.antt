@@ -1,5 +1,5 @@
 -- The fields that a service may send (RFC 9110, section 5; RFC 9112, sections 5 and 6).
-use Rattle.std.specs.Prelude.{ℕ, Bool, not, ◌&&◌, List, map, length, codes}
+use Rattle.std.specs.Prelude.{ℕ, Bool, not, ◌&&◌, ◌||◌, List, map, length, codes}
 use Rattle.std.specs.List.{list_all}
 use Rattle.http1.specs.Fields.{Header, is_framing_field, is_named}
 use Rattle.http1.specs.Head.{is_header, print_headers}
@@ -22,6 +22,10 @@ are_sendable hs = list_all is_sendable hs
 -- a service may add each of them
 abbrev pub are_addable : List Header → Bool
 are_addable hs = list_all is_addable hs
+
+-- The connection adds the field to those of a response: it says how long the body is, or whether the connection stays open.
+abbrev pub is_own : Header → Bool
+is_own h = is_named (codes "content-length") h || is_named (codes "connection") h
 
 -- the names and the values
 abbrev pub parts_of : List Field → List Header

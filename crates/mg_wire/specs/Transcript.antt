@@ -1,5 +1,6 @@
 -- What a connection says: the responses of a service to the requests that the bytes which were received begin with (RFC 9112, section 9.3.2).
 use Rattle.std.specs.Prelude.{◌≡◌, ℕ, ◌≤◌, Bool, true, false, not, ◌&&◌, List, [], ◌∷◌, ◌++◌, length, map, if◌then◌else◌}
+use Rattle.std.specs.List.{list_all}
 use Rattle.httparse.specs.Grammar.{RequestHead, status_code, print_response}
 use Rattle.httparse.specs.Spans.{name_and_value}
 use Rattle.http1.specs.declared.conn.Limits.{Limits}
@@ -15,6 +16,7 @@ use Rattle.mg_wire.specs.declared.response.Response.{Response}
 use Rattle.mg_wire.specs.declared.refusal.TheConstants.{CONTINUE}
 use Rattle.mg_wire.specs.Request.{IsAsked, fields_in, asks_to_continue}
 use Rattle.mg_wire.specs.Response.{fields_of}
+use Rattle.mg_wire.specs.Sendable.{is_own}
 use Rattle.mg_wire.specs.Status.{code_of}
 use Rattle.mg_wire.specs.Target.{IsProper}
 
@@ -22,14 +24,15 @@ use Rattle.mg_wire.specs.Target.{IsProper}
 abbrev pub Call : Type 0
 Call = Request × Response
 
--- A client that sent a request with the head h, and has room for the response's head, reads the text, whole, as the response r. To `HEAD` no
--- body is sent (RFC 9110, section 9.3.2).
+-- A client that sent a request with the head h, and has room for the response's head, reads the text, whole, as the response r. To its fields
+-- the connection adds only its own. To `HEAD` no body is sent (RFC 9110, section 9.3.2).
 pub record Spells (h : RequestHead) (r : Response) (text : List ℕ) : Type 0 where
   pub message : Wire.Response
   pub reads : (limits : Limits) → length (print_response message.head) ≤ limits.max_head_len → 2 ≤ limits.max_trailers_len
       → ReadsResponseMessage limits (method_kind h.method) text message []
   pub status : status_code message.head ≡ code_of r.status
   pub added : List Header
+  pub own : list_all is_own added ≡ true
   pub fields : map name_and_value message.head.fields ≡ fields_of r ++ added
   pub body : message.body.bytes ≡ (if is_head (method_kind h.method) then [] else r.body.items)
 

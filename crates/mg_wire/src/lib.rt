@@ -7,13 +7,13 @@
 //! head is no error, and the client has not ended its side. A request that the client cuts short is refused: the
 //! end of the input is reported only between two requests. A service is asked only requests with one `Host`, a
 //! target of a form that the method may have, no `CONNECT` (`IsProper`), and a body that is no longer than may
-//! be. Each response that a service gives is sent: no value of `Status` or `Fields` is refused. It has a `Date`
-//! exactly if the service gives its date, since a connection has no clock. A refusal has a reason that holds
-//! whatever bytes follow (`Refuses`); want of memory is one only for a read, and for a request whose head has
-//! come. The connection closes after a response only if the request or the response asks for it, and goes on only
-//! if neither does (`keeps_open`). It is done as soon as its last response is sent: what the client still sends
-//! is the edge's to drop, for some time, once it has closed its own side (RFC 9112, section 9.6). A connection
-//! that is idle gives its buffers back.
+//! be. Each response that a service gives is sent: no value of `Status` or `Fields` is refused, and to its fields
+//! only `Content-Length` and `Connection` are added. It has a `Date` exactly if the service gives its date, since
+//! a connection has no clock. A refusal has a reason that holds whatever bytes follow (`Refuses`); want of memory
+//! is one only for a read, and for a request whose head has come. The connection closes after a response only if
+//! the request or the response asks for it, and goes on only if neither does (`keeps_open`). It is done as soon
+//! as its last response is sent: what the client still sends is the edge's to drop, for some time, once it has
+//! closed its own side (RFC 9112, section 9.6). A connection that is idle gives its buffers back.
 #![tactic(auto)]
 
 mod advance;

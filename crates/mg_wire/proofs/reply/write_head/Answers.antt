@@ -3,7 +3,7 @@ use Rattle.http1.specs.Head.{pairs}
 use Rattle.http1.specs.Conn.{finish_text}
 use Rattle.http1.specs.Server.{writing}
 use Rattle.mg_wire.specs.Reply.{Heads}
-use Rattle.mg_wire.proofs.ReplyLemmas.{heads, MayReply, not_refused_as, head_fits_as, writes_as, not_too_long, bare_frame, not_too_short, end_fits, no_failure, no_frame_failure}
+use Rattle.mg_wire.proofs.ReplyLemmas.{heads, MayReply, not_refused_as, head_fits_as, writes_as, not_too_long, bare_frame, not_too_short, end_fits, no_failure, no_frame_failure, own_fields}
 use Rattle.mg_wire.proofs.reply.write_head.Goals as goal
 
 pub unreachable-requires : goal.unreachable-requires
@@ -39,4 +39,4 @@ returns c =
     subst (λ (k : ℕ). Heads c.args.server.now k (pairs c.args.fields.now) c.args.body_len c.args.sent c.args.output.now.items c.write_end.new.output.items c.write_end.new.self) c.code.ensures
     (heads c.args.server.now c.write_response.new.self c.frame_data.new.self c.write_end.new.self c.code.result c.args.body_len c.args.sent _ c.reason.result.now c.args.output.now.items c.write_response.new.output.items c.write_end.new.output.items
     c.size_for-size.result _ _ _ _ _ _ c.size_for-size.ensures c.in-Ok.ensures.outcome c.in-Ok.ensures.ok c.in-Ok.ensures.next c.in-Ok-frame_data.ensures.outcome
-    (bare_frame _ c.args.status _ _ _ m c.write_response.new.self body) c.in-Ok-frame_data.ensures.counted c.in-Ok-write_end.ensures.outcome c.in-Ok-write_end.ensures.ok c.in-Ok-write_end.ensures.done c.ranges.sent.fits)
+    (bare_frame _ c.args.status _ _ _ m c.write_response.new.self body) c.in-Ok-frame_data.ensures.counted c.in-Ok-write_end.ensures.outcome c.in-Ok-write_end.ensures.ok c.in-Ok-write_end.ensures.done c.ranges.sent.fits (own_fields _ c.args.status _ _ _ m c.code.result c.code.ensures))
