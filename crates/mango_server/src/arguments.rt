@@ -44,7 +44,7 @@ fn command<'a>(alloc: Global) -> Result<Command<'a>, Error> {
         .value_parser(value_parser!(u16).range(1..17))
         .help("The number of requests that are answered at a time, 1 to 16");
     Command::new(alloc, "mango_server")
-        .version("0.1.0")
+        .version("1.0.0")
         .about("Serves one document database over HTTP, and keeps it in a file")
         .arg(file)?
         .arg(db)?
