@@ -1,0 +1,5 @@
+pub mod JsonLemmas
+pub mod SeatLemmas
+pub mod SegmentLemmas
+pub mod EntryLemmas
+pub mod LineLemmas

@@ -1,0 +1,124 @@
+-- What is answered: the response for each thing that is said, and for each answer of the database.
+use Rattle.std.specs.Prelude.{◌≡◌, ℕ, ◌==◌, List, [], ◌∷◌, ◌++◌, length, nat_le, codes, Option, Some, None, option_and_then, if◌then◌else◌}
+use Rattle.http1.specs.Fields.{Header}
+use Rattle.mg_value.specs.Value.{text, list, item, no_items, object, member, no_members}
+use Rattle.mg_engine.specs.Bodies.{line_of}
+use Rattle.mg_engine.specs.Commands as engine
+use Rattle.mg_engine.specs.Commands.{refused}
+use Rattle.mg_engine.specs.Refusals.{refusal_body}
+use Rattle.mg_engine.specs.declared.refusal.Refusal.TheVariants.{MethodNotAllowed}
+use Rattle.mg_wire.specs.declared.response.Response.{Response}
+use Rattle.mg_wire.specs.declared.status.Status.{Status}
+use Rattle.mg_wire.specs.declared.status.Status.TheVariants as Is
+use Rattle.mg_wire.specs.Response.{listed}
+use Rattle.mg_face.specs.declared.parameter.Parameter.{Parameter}
+use Rattle.mg_face.specs.declared.said.Clash.TheVariants as Clash
+use Rattle.mg_face.specs.declared.said.Said.{Said}
+use Rattle.mg_face.specs.Json.{value_of_line, string_at}
+use Rattle.mg_face.specs.Parameters.{name_of}
+use Rattle.mg_face.specs.Routes.{allowed}
+
+-- an answer: its status, its fields in order, and its body
+pub record Answer : Type 0 where
+  pub status : Status
+  pub fields : List Header
+  pub body : List ℕ
+
+-- each answer has a JSON body
+abbrev pub json_field : Header
+json_field = (codes "content-type", codes "application/json")
+
+-- an answer with no other field
+abbrev pub json : Status → List ℕ → Answer
+json status body = record { status = status; fields = json_field ∷ []; body = body }
+
+-- ---- what is said at once
+
+-- the names of the databases, of which there is one
+abbrev pub databases : List ℕ → List ℕ
+databases db = line_of (list (item (text db) no_items))
+
+-- what the database is: its name
+abbrev pub database : List ℕ → List ℕ
+database db = line_of (object (member (codes "db_name") (text db) (member (codes "instance_start_time") (text (codes "0")) no_members)))
+
+-- the refusal of a parameter, with its name
+abbrev pub unanswered_body : Parameter → List ℕ
+unanswered_body parameter =
+    codes "{\"error\":\"bad_request\",\"reason\":\"" ++ name_of parameter ++ codes ": this server does not answer this parameter.\"}\n"
+
+-- the status of an answer of the database; 500 for one that it does not give
+abbrev pub status_of : ℕ → Status
+status_of code =
+    if code == 200 then Is.Ok
+    else (if code == 201 then Is.Created
+    else (if code == 400 then Is.BadRequest
+    else (if code == 404 then Is.NotFound
+    else (if code == 405 then Is.MethodNotAllowed
+    else (if code == 413 then Is.ContentTooLarge
+    else (if code == 503 then Is.ServiceUnavailable else Is.InternalServerError))))))
+
+-- an answer of the database as it is
+abbrev pub passed : engine.Answer → Answer
+passed a = json (status_of a.status) a.body
+
+-- the answer for each thing that is said; `db` is the name of the database
+abbrev pub answer_of_said : List ℕ → Said → Answer
+answer_of_said db Said.Welcome = json Is.Ok (codes "{\"couchdb\":\"Welcome\",\"version\":\"3.3.3\",\"vendor\":{\"name\":\"mango_server\",\"version\":\"1.0.0\"}}\n")
+answer_of_said db Said.Up = json Is.Ok (codes "{\"status\":\"ok\"}\n")
+answer_of_said db Said.Databases = json Is.Ok (databases db)
+answer_of_said db Said.Database = json Is.Ok (database db)
+answer_of_said db Said.DatabaseExists =
+    json Is.PreconditionFailed (codes "{\"error\":\"file_exists\",\"reason\":\"The database could not be created, the file already exists.\"}\n")
+answer_of_said db Said.OneDatabase = json Is.Forbidden (codes "{\"error\":\"forbidden\",\"reason\":\"This server keeps one database.\"}\n")
+answer_of_said db Said.Committed = json Is.Created (codes "{\"instance_start_time\":\"0\",\"ok\":true}\n")
+answer_of_said db (Said.NotAllowed resource) = record {
+  status = Is.MethodNotAllowed;
+  fields = json_field ∷ (codes "allow", allowed resource) ∷ [];
+  body = refusal_body MethodNotAllowed;
+}
+answer_of_said db (Said.Unanswered parameter) = json Is.BadRequest (unanswered_body parameter)
+answer_of_said db (Said.Clashes Clash.Ids) =
+    json Is.BadRequest (codes "{\"error\":\"bad_request\",\"reason\":\"_id: the document has another one than the path.\"}\n")
+answer_of_said db (Said.Clashes Clash.Revisions) =
+    json Is.BadRequest (codes "{\"error\":\"bad_request\",\"reason\":\"_rev: the document, rev and If-Match have different ones.\"}\n")
+answer_of_said db (Said.Refuses refusal) = passed (refused refusal)
+
+-- ---- answers of the database
+
+-- a text in double quotes: an entity tag (RFC 9110, section 8.8.3)
+abbrev pub quoted : List ℕ → List ℕ
+quoted s = 34 ∷ (s ++ 34 ∷ [])
+
+-- the revision of the document that a body shows: its `_rev`
+abbrev pub revision_in : List ℕ → Option (List ℕ)
+revision_in body = option_and_then (string_at (codes "_rev")) (value_of_line body)
+
+-- the field, unless its value is so long that the fields of a response might have no room for it
+abbrev pub if_short : List ℕ → Header → List Header
+if_short value field = if nat_le (length value) 2048 then field ∷ [] else []
+
+-- the revision as `ETag`
+abbrev pub tag_of : List ℕ → List Header
+tag_of revision = if_short revision (codes "etag", quoted revision)
+
+-- the answer with the revision as its `ETag`
+abbrev pub tagged : Option (List ℕ) → Answer → Answer
+tagged None a = a
+tagged (Some revision) a = record a { fields = a.fields ++ tag_of revision }
+
+-- ---- responses
+
+-- the response is this answer
+pub record IsAnswered (a : Answer) (r : Response) : Type 0 where
+  pub status : r.status ≡ a.status
+  pub fields : listed r.fields ≡ a.fields
+  pub body : r.body.items ≡ a.body
+
+-- the response has the type of its body, and nothing else yet
+pub record IsBegun (r : Response) : Type 0 where
+  pub fields : listed r.fields ≡ json_field ∷ []
+
+-- memory ran out: a 503
+abbrev pub IsLack : Response → Type 0
+IsLack r = r.status ≡ Is.ServiceUnavailable

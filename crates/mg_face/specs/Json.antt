@@ -1,0 +1,23 @@
+-- The value of a JSON text (RFC 8259), as `mg_value` reads it.
+use Rattle.std.specs.Prelude.{ℕ, ◌-◌, List, length, take, Option, Some, None, option_and_then, if◌then◌else◌}
+use Rattle.std.specs.Str.{is_utf8}
+use Rattle.serde_json.specs.Read.{read}
+use Rattle.mg_value.specs.Value.{Value, text, member_of}
+use Rattle.mg_value.specs.Text.{whole_of}
+
+-- the value that a text gives; `None`: it is no JSON text, or a number of it is not whole
+abbrev pub json_of : List ℕ → Option Value
+json_of bytes = if is_utf8 bytes then option_and_then whole_of (read bytes) else None
+
+-- the value of a line: of a text and one more byte, its line feed
+abbrev pub value_of_line : List ℕ → Option Value
+value_of_line line = json_of (take (length line - 1) line)
+
+-- the bytes of a text; `None` for any other value
+abbrev pub string_of : Value → Option (List ℕ)
+string_of (text s) = Some s
+string_of v = None
+
+-- the text that an object has at a name
+abbrev pub string_at : List ℕ → Value → Option (List ℕ)
+string_at name v = option_and_then string_of (member_of name v)

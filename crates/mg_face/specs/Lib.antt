@@ -1,0 +1,10 @@
+pub mod Json
+pub mod Routes
+pub mod Parameters
+pub mod Edit
+pub mod Plan
+pub mod Answer
+pub mod Edited
+pub mod Shown
+pub mod Face
+pub mod Seats

@@ -1,0 +1,80 @@
+-- The parameters of a query (the URL Standard, section 5) that change a meaning in CouchDB and that this server does not answer.
+use Rattle.std.specs.Prelude.{ℕ, Bool, true, false, List, [], ◌∷◌, bytes_eq, codes, Option, Some, None, if◌then◌else◌}
+use Rattle.std.specs.Str.Lossy.{utf8_lossy}
+use Rattle.form_urlencoded.specs.Form.{decode, raw_pairs}
+use Rattle.mg_face.specs.declared.action.Action.{Action}
+use Rattle.mg_face.specs.declared.action.Action.TheVariants as Does
+use Rattle.mg_face.specs.declared.parameter.Parameter.{Parameter}
+use Rattle.mg_face.specs.declared.parameter.Parameter.TheVariants as Is
+
+-- the table of their names
+abbrev pub name_of : Parameter → List ℕ
+name_of Is.Attachments = codes "attachments"
+name_of Is.AttachmentEncoding = codes "att_encoding_info"
+name_of Is.AttachmentsSince = codes "atts_since"
+name_of Is.Batch = codes "batch"
+name_of Is.DeletedConflicts = codes "deleted_conflicts"
+name_of Is.Latest = codes "latest"
+name_of Is.LocalSequence = codes "local_seq"
+name_of Is.Meta = codes "meta"
+name_of Is.NewEdits = codes "new_edits"
+name_of Is.OpenRevisions = codes "open_revs"
+name_of Is.Revision = codes "rev"
+name_of Is.Revisions = codes "revs"
+name_of Is.RevisionsInfo = codes "revs_info"
+
+-- the parameter, if a name is its name
+abbrev pub if_named : List ℕ → Parameter → Option Parameter → Option Parameter
+if_named name parameter other = if bytes_eq name (name_of parameter) then Some parameter else other
+
+-- the parameter of a name
+abbrev pub parameter_of : List ℕ → Option Parameter
+parameter_of name =
+    if_named name Is.Attachments
+    (if_named name Is.AttachmentEncoding
+    (if_named name Is.AttachmentsSince
+    (if_named name Is.Batch
+    (if_named name Is.DeletedConflicts
+    (if_named name Is.Latest
+    (if_named name Is.LocalSequence
+    (if_named name Is.Meta
+    (if_named name Is.NewEdits
+    (if_named name Is.OpenRevisions
+    (if_named name Is.Revision
+    (if_named name Is.Revisions
+    (if_named name Is.RevisionsInfo None))))))))))))
+
+abbrev pub is_revision : Parameter → Bool
+is_revision Is.Revision = true
+is_revision parameter = false
+
+-- an action takes a parameter: a write of a document takes the revision that it is to replace
+abbrev pub takes : Action → Parameter → Bool
+takes Does.PutDocument parameter = is_revision parameter
+takes Does.DeleteDocument parameter = is_revision parameter
+takes action parameter = false
+
+-- the parameter, unless the action takes it
+abbrev pub unless_taken : Action → Option Parameter → Option Parameter
+unless_taken action None = None
+unless_taken action (Some parameter) = if takes action parameter then None else Some parameter
+
+-- the parameter that a name and a value give, unless the action takes it; one whose value is `false` changes nothing
+abbrev pub unanswered : Action → List ℕ × List ℕ → Option Parameter
+unanswered action pair =
+    if bytes_eq (utf8_lossy (decode pair.1)) (codes "false") then None
+    else unless_taken action (parameter_of (utf8_lossy (decode pair.0)))
+
+-- the first of two
+abbrev pub or_else : Option Parameter → Option Parameter → Option Parameter
+or_else None other = other
+or_else (Some parameter) other = Some parameter
+
+-- the first of these pairs that is such a parameter
+abbrev pub first_unanswered : Action → List (List ℕ × List ℕ) → Option Parameter
+first_unanswered action [] = None
+first_unanswered action (pair ∷ pairs) = or_else (unanswered action pair) (first_unanswered action pairs)
+
+-- the first such parameter of a query
+abbrev pub unanswered_in : Action → List ℕ → Option Parameter
+unanswered_in action query = first_unanswered action (raw_pairs query)

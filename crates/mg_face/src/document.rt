@@ -1,0 +1,190 @@
+//! `/{db}/{id}`.
+ghost use Rattle.std.specs.Prelude.{◌≡◌, map, IfOk};
+ghost use Rattle.std.specs.Option.{option_map};
+ghost use Rattle.std.specs.String.{string_bytes};
+ghost use Rattle.mg_value.specs.View.{view};
+ghost use Rattle.mg_wire.specs.Request.{field_parts};
+ghost use Rattle.mg_face.specs.Json.{json_of};
+ghost use Rattle.mg_face.specs.Edit.{with_given, with_revisions, revision_in_query, revision_in_fields};
+ghost use Rattle.mg_face.specs.Plan.{plan_view, document_of, read_document, edit_of, edit_at, post_document, put_at, put_document, delete_at, delete_document};
+
+use crate::edit::{bulk_with, deletion, with_given, with_revisions};
+use crate::plan::{Plan, Way};
+use crate::read::read_tree;
+use crate::said::{Clash, Said};
+use crate::text::text_in;
+use mg_engine::{Command, Refusal};
+use mg_value::{Json, NoMemory};
+use mg_wire::Field;
+use std::alloc::Global;
+
+fn document_of(id: Option<String>, conflicts: bool) -> Plan
+    ensures { plan_view result ≡ document_of (option_map string_bytes id) conflicts }
+{
+    match id {
+        Some(id) => Plan::Asks(Command::Get { id, conflicts }, Way::Document),
+        None => Plan::Says(Said::Refuses(Refusal::Missing)),
+    }
+}
+
+/// Returns what `/{db}/{id}` asks to read.
+///
+/// Errors: out of memory.
+pub(crate) fn read_document(
+    alloc: Global,
+    segments: &[&[u8]],
+    conflicts: bool,
+) -> Result<Plan, NoMemory>
+    ensures { IfOk result (λ p. plan_view p ≡ read_document (map (λ s. s.now) segments.now) conflicts) }
+{
+    match segments {
+        [_, id] => Ok(document_of(text_in(alloc, *id)?, conflicts)),
+        _ => Ok(Plan::Says(Said::Refuses(Refusal::Missing))),
+    }
+}
+
+/// Returns the edit of a document that has its id and its revision.
+///
+/// Errors: out of memory.
+fn edit_of(alloc: Global, document: Option<Json>, way: Way) -> Result<Plan, NoMemory>
+    ensures { IfOk result (λ p. plan_view p ≡ edit_of (option_map view document) way) }
+{
+    match document {
+        Some(document) => {
+            let bulk = bulk_with(alloc, document)?;
+            Ok(Plan::Asks(Command::Bulk(bulk), way))
+        }
+        None => Ok(Plan::Says(Said::Clashes(Clash::Revisions))),
+    }
+}
+
+/// Returns the edit of a document that has its id, at the revisions that the query and the fields name.
+///
+/// Errors: out of memory.
+fn edit_at(
+    alloc: Global,
+    document: Option<Json>,
+    query: &[u8],
+    fields: &[Field],
+    way: Way,
+) -> Result<Plan, NoMemory>
+    ensures { IfOk result (λ p. plan_view p
+        ≡ edit_at (option_map view document) query.now (map field_parts fields.now) way) }
+{
+    match document {
+        Some(document) => {
+            let document = with_revisions(alloc, query, fields, document)?;
+            edit_of(alloc, document, way)
+        }
+        None => Ok(Plan::Says(Said::Clashes(Clash::Ids))),
+    }
+}
+
+/// Returns what a `POST` to a database asks for.
+///
+/// Errors: out of memory.
+pub(crate) fn post_document(
+    alloc: Global,
+    query: &[u8],
+    fields: &[Field],
+    body: &[u8],
+) -> Result<Plan, NoMemory>
+    ensures { IfOk result (λ p. plan_view p
+        ≡ post_document (json_of body.now) query.now (map field_parts fields.now)) }
+{
+    match read_tree(alloc, body)? {
+        Some(document) => edit_at(alloc, Some(document), query, fields, Way::Written),
+        None => Ok(Plan::Says(Said::Refuses(Refusal::InvalidJson))),
+    }
+}
+
+/// Returns the edit of the document in a body, at an id.
+///
+/// Errors: out of memory.
+fn put_at(
+    alloc: Global,
+    id: Option<String>,
+    query: &[u8],
+    fields: &[Field],
+    body: &[u8],
+) -> Result<Plan, NoMemory>
+    ensures { IfOk result
+        (λ p. plan_view p
+        ≡ put_at (option_map string_bytes id) (json_of body.now) query.now (map field_parts fields.now)) }
+{
+    let Some(id) = id else {
+        return Ok(Plan::Says(Said::Refuses(Refusal::Missing)));
+    };
+    match read_tree(alloc, body)? {
+        Some(document) => {
+            let document = with_given(alloc, "_id", Some(id), document)?;
+            edit_at(alloc, document, query, fields, Way::Written)
+        }
+        None => Ok(Plan::Says(Said::Refuses(Refusal::InvalidJson))),
+    }
+}
+
+/// Returns what a `PUT` of `/{db}/{id}` asks for.
+///
+/// Errors: out of memory.
+pub(crate) fn put_document(
+    alloc: Global,
+    segments: &[&[u8]],
+    query: &[u8],
+    fields: &[Field],
+    body: &[u8],
+) -> Result<Plan, NoMemory>
+    ensures { IfOk result
+        (λ p. plan_view p
+        ≡ put_document (map (λ s. s.now) segments.now) (json_of body.now) query.now
+        (map field_parts fields.now)) }
+{
+    match segments {
+        [_, id] => {
+            let id = text_in(alloc, *id)?;
+            put_at(alloc, id, query, fields, body)
+        }
+        _ => Ok(Plan::Says(Said::Refuses(Refusal::Missing))),
+    }
+}
+
+/// Returns the deletion of the document of an id.
+///
+/// Errors: out of memory.
+fn delete_at(
+    alloc: Global,
+    id: Option<String>,
+    query: &[u8],
+    fields: &[Field],
+) -> Result<Plan, NoMemory>
+    ensures { IfOk result (λ p. plan_view p
+        ≡ delete_at (option_map string_bytes id) query.now (map field_parts fields.now)) }
+{
+    let Some(id) = id else {
+        return Ok(Plan::Says(Said::Refuses(Refusal::Missing)));
+    };
+    let document = deletion(alloc)?;
+    let document = with_given(alloc, "_id", Some(id), document)?;
+    edit_at(alloc, document, query, fields, Way::Deleted)
+}
+
+/// Returns what a `DELETE` of `/{db}/{id}` asks for.
+///
+/// Errors: out of memory.
+pub(crate) fn delete_document(
+    alloc: Global,
+    segments: &[&[u8]],
+    query: &[u8],
+    fields: &[Field],
+) -> Result<Plan, NoMemory>
+    ensures { IfOk result (λ p. plan_view p
+        ≡ delete_document (map (λ s. s.now) segments.now) query.now (map field_parts fields.now)) }
+{
+    match segments {
+        [_, id] => {
+            let id = text_in(alloc, *id)?;
+            delete_at(alloc, id, query, fields)
+        }
+        _ => Ok(Plan::Says(Said::Refuses(Refusal::Missing))),
+    }
+}

@@ -1,0 +1,160 @@
+//! From a request to what is said at once, or what is asked of the database.
+ghost use Rattle.std.specs.Prelude.{◌≡◌, map, IfOk};
+ghost use Rattle.mg_wire.specs.Request.{field_parts, fields_in};
+ghost use Rattle.mg_face.specs.Plan.{plan_view, asked_for, elsewhere, plan_by, plan_at, plan_of};
+
+use crate::action::{Action, Verb, action_of, verb_of};
+use crate::document::{delete_document, post_document, put_document, read_document};
+use crate::endpoint::taken;
+use crate::index::{drop_design_plan, drop_plan};
+use crate::parameter::{asks_conflicts, unanswered_in};
+use crate::route::{Resource, is_here, is_nowhere, resource_of, segments_of};
+use crate::said::Said;
+use crate::text::split_query;
+use mg_engine::{Command, Refusal};
+use mg_value::NoMemory;
+use mg_wire::{Field, Request};
+use std::alloc::Global;
+
+/// How an answer of the database is shown.
+#[derive(Clone, Copy, Debug, PartialEq, Eq)]
+pub enum Way {
+    /// As it is.
+    Plain,
+    /// With the revision of the document that it shows as `ETag`.
+    Document,
+    /// As the answer to one edit that writes a document.
+    Written,
+    /// As the answer to one edit that deletes a document.
+    Deleted,
+}
+
+/// What a request asks for.
+#[derive(Debug, Drop)]
+pub enum Plan {
+    /// This is said at once.
+    Says(Said),
+    /// The command is executed, and its answer is shown in this way.
+    Asks(Command, Way),
+}
+
+/// Returns what an action asks for.
+///
+/// Errors: out of memory.
+fn asked_for(
+    alloc: Global,
+    action: Action,
+    segments: &[&[u8]],
+    query: &[u8],
+    fields: &[Field],
+    body: &[u8],
+) -> Result<Plan, NoMemory>
+    ensures { IfOk result (λ p. plan_view p
+        ≡ asked_for action (map (λ s. s.now) segments.now) query.now (map field_parts fields.now) body.now) }
+{
+    match action {
+        Action::Welcome => Ok(Plan::Says(Said::Welcome)),
+        Action::Up => Ok(Plan::Says(Said::Up)),
+        Action::ListDatabases => Ok(Plan::Says(Said::Databases)),
+        Action::ReadDatabase => Ok(Plan::Says(Said::Database)),
+        Action::CreateDatabase => Ok(Plan::Says(Said::DatabaseExists)),
+        Action::DeleteDatabase => Ok(Plan::Says(Said::OneDatabase)),
+        Action::Commit => Ok(Plan::Says(Said::Committed)),
+        Action::Takes(endpoint) => taken(alloc, endpoint, body),
+        Action::ListIndexes => Ok(Plan::Asks(Command::ListIndexes, Way::Plain)),
+        Action::DropIndex => drop_plan(alloc, segments),
+        Action::DropDesignIndex => drop_design_plan(alloc, segments),
+        Action::ReadDocument => {
+            let conflicts = asks_conflicts(alloc, query)?;
+            read_document(alloc, segments, conflicts)
+        }
+        Action::PostDocument => post_document(alloc, query, fields, body),
+        Action::PutDocument => put_document(alloc, segments, query, fields, body),
+        Action::DeleteDocument => delete_document(alloc, segments, query, fields),
+    }
+}
+
+/// Returns what is said to a request of another database.
+fn elsewhere(resource: Resource, verb: Verb) -> Plan
+    ensures { plan_view result ≡ elsewhere resource verb }
+{
+    match resource {
+        Resource::Database => match verb {
+            Verb::Put => Plan::Says(Said::OneDatabase),
+            _ => Plan::Says(Said::Refuses(Refusal::NoDatabase)),
+        },
+        _ => Plan::Says(Said::Refuses(Refusal::NoDatabase)),
+    }
+}
+
+/// Returns what a request asks of the resource that its path names.
+///
+/// Errors: out of memory.
+fn plan_by(
+    alloc: Global,
+    action: Option<Action>,
+    resource: Resource,
+    segments: &[&[u8]],
+    query: &[u8],
+    fields: &[Field],
+    body: &[u8],
+) -> Result<Plan, NoMemory>
+    ensures { IfOk result (λ p. plan_view p
+        ≡ plan_by action resource (map (λ s. s.now) segments.now) query.now (map field_parts fields.now)
+        body.now) }
+{
+    let Some(action) = action else {
+        return Ok(Plan::Says(Said::NotAllowed(resource)));
+    };
+    match unanswered_in(alloc, action, query)? {
+        Some(parameter) => Ok(Plan::Says(Said::Unanswered(parameter))),
+        None => asked_for(alloc, action, segments, query, fields, body),
+    }
+}
+
+/// Returns what a request asks of what its path names.
+///
+/// Errors: out of memory.
+fn plan_at(
+    alloc: Global,
+    db: &str,
+    segments: &[&[u8]],
+    query: &[u8],
+    request: &Request,
+) -> Result<Plan, NoMemory>
+    ensures { IfOk result
+        (λ p. plan_view p
+        ≡ plan_at db.now (map (λ s. s.now) segments.now) request.now.method query.now
+        (fields_in request.now) request.now.body.items) }
+{
+    let resource = resource_of(segments);
+    if is_nowhere(resource) {
+        return Ok(Plan::Says(Said::Refuses(Refusal::Missing)));
+    }
+    let verb = verb_of(request.method.as_slice());
+    if is_here(alloc, db, resource, segments)? {
+        let action = action_of(verb, resource);
+        plan_by(
+            alloc,
+            action,
+            resource,
+            segments,
+            query,
+            request.fields.as_slice(),
+            request.body.as_slice(),
+        )
+    } else {
+        Ok(elsewhere(resource, verb))
+    }
+}
+
+/// Returns what a request asks of the database and its server.
+///
+/// Errors: out of memory.
+pub(crate) fn plan_of(alloc: Global, db: &str, request: &Request) -> Result<Plan, NoMemory>
+    ensures { IfOk result (λ p. plan_view p ≡ plan_of db.now request.now) }
+{
+    let (path, query) = split_query(request.target.as_slice());
+    let segments = segments_of(alloc, path)?;
+    plan_at(alloc, db, segments.as_slice(), query, request)
+}

@@ -1,0 +1,37 @@
+//! What is said at once.
+use crate::parameter::Parameter;
+use crate::route::Resource;
+use mg_engine::Refusal;
+
+/// Where a document and its request disagree.
+#[derive(Clone, Copy, Debug, PartialEq, Eq)]
+pub enum Clash {
+    Ids,
+    Revisions,
+}
+
+/// What is said to a request without asking the database.
+#[derive(Clone, Copy, Debug, PartialEq, Eq)]
+pub enum Said {
+    /// The name and the version of the server.
+    Welcome,
+    /// The server is up.
+    Up,
+    /// The names of the databases.
+    Databases,
+    /// What the database is.
+    Database,
+    /// The database cannot be made: it is there.
+    DatabaseExists,
+    /// The server makes and deletes no database.
+    OneDatabase,
+    /// Each commit is kept.
+    Committed,
+    /// The resource does not have the method.
+    NotAllowed(Resource),
+    /// The query has a parameter that is not answered.
+    Unanswered(Parameter),
+    /// The document has another id or revision than the request.
+    Clashes(Clash),
+    Refuses(Refusal),
+}
