@@ -1,5 +1,5 @@
 -- New seats have seen nothing.
-use Rattle.std.proofs.Common.{◌≡◌, ℕ, zero, suc, List, [], ◌∷◌, ◌++◌, length, length-append, refl, sym, ap, ◌∙◌, subst, arith}
+use Rattle.std.proofs.Common.{◌≡◌, ℕ, zero, suc, List, [], ◌∷◌, ◌++◌, length, length-append, refl, sym, ap, ◌∙◌, arith}
 use Rattle.mg_live.specs.SeatView.{SeatView, at_first, new_seats}
 
 abbrev last_of : (d : SeatView) → List SeatView → SeatView

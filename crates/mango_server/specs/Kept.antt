@@ -1,5 +1,5 @@
 -- What the program keeps of its commits: one row of its file for each.
-use Rattle.std.specs.Prelude.{◌≡◌, ℕ, Bool, false, List, [], ◌∷◌, Option, Some, None, IsTrue}
+use Rattle.std.specs.Prelude.{◌≡◌, Bool, false, List, [], ◌∷◌, Option, Some, None, IsTrue}
 use Rattle.sqlite.specs.Store.{Ghosts}
 use Rattle.mg_engine.specs.Commands.{Asked}
 use Rattle.mg_live.specs.Keeping.{IsTextOf}

@@ -1,7 +1,7 @@
-use Rattle.std.proofs.Common.{◌≡◌, List, [], ◌∷◌, ◌++◌, ap}
+use Rattle.std.proofs.Common.{ap}
 use Rattle.mg_live.specs.Keeping.{IsRecordOf}
 use Rattle.mg_log.specs.Entry.{entry_of, kind_name}
-use Rattle.mango_server.specs.Kept.{HasRowsOf, IsRowOf, KeepsIn}
+use Rattle.mango_server.specs.Kept.{IsRowOf}
 use Rattle.mango_server.proofs.Rows.{kept_row, same_rows}
 use Rattle.mango_server.proofs.keeper.FileKeeperKeeper.keep.Goals as goal
 

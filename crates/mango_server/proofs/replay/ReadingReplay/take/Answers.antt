@@ -1,7 +1,7 @@
-use Rattle.std.proofs.Common.{◌≡◌, List, [], ◌∷◌, ◌++◌, map, ap, sym}
+use Rattle.std.proofs.Common.{ap, sym}
 use Rattle.mg_engine.specs.View.{command_view}
 use Rattle.mg_log.specs.Entry.{entry_of, kind_name}
-use Rattle.mango_server.specs.Kept.{AreRowsOf, IsRowOf}
+use Rattle.mango_server.specs.Kept.{IsRowOf}
 use Rattle.mango_server.proofs.Rows.{on_ok_then, read_row}
 use Rattle.mango_server.proofs.replay.ReadingReplay.take.Goals as goal
 
