@@ -1,5 +1,5 @@
 //! Fills responses.
-ghost use Rattle.std.specs.Prelude.{◌≡◌, ◌++◌, ◌∷◌, [], codes, OnOk, IfOk};
+ghost use Rattle.std.specs.Prelude.{Ok, Err, MatchResult, ◌≡◌, ◌++◌, ◌∷◌, [], codes, OnOk, IfOk};
 ghost use Rattle.std.specs.Option.{option_map};
 ghost use Rattle.std.specs.String.{string_bytes};
 ghost use Rattle.mg_engine.specs.View.{reply_view};
@@ -71,6 +71,22 @@ fn fill_text(
 {
     let body = Vec::from_slice(alloc, text.as_bytes())?;
     fill(response, status, body);
+    Ok(())
+}
+
+/// Gives a response that has begun its status and a body that was made.
+///
+/// Errors: there was no memory for the body.
+fn fill_made(
+    response: &mut Response,
+    status: Status,
+    body: Result<Vec<u8>, NoMemory>,
+) -> Result<(), NoMemory>
+    requires { IsBegun response.old }
+    ensures { MatchResult body (λ b. (result ≡ Ok tt) × IsAnswered (json status b.items) response.new)
+        (λ e. result ≡ Err e) }
+{
+    fill(response, status, body?);
     Ok(())
 }
 
@@ -200,16 +216,8 @@ pub(crate) fn say(
             "{\"couchdb\":\"Welcome\",\"version\":\"3.3.3\",\"vendor\":{\"name\":\"mango_server\",\"version\":\"1.0.0\"}}\n",
         ),
         Said::Up => fill_text(alloc, response, Status::Ok, "{\"status\":\"ok\"}\n"),
-        Said::Databases => {
-            let body = databases(alloc, db)?;
-            fill(response, Status::Ok, body);
-            Ok(())
-        }
-        Said::Database => {
-            let body = database(alloc, db)?;
-            fill(response, Status::Ok, body);
-            Ok(())
-        }
+        Said::Databases => fill_made(response, Status::Ok, databases(alloc, db)),
+        Said::Database => fill_made(response, Status::Ok, database(alloc, db)),
         Said::DatabaseExists => fill_text(
             alloc,
             response,
@@ -229,11 +237,11 @@ pub(crate) fn say(
             "{\"instance_start_time\":\"0\",\"ok\":true}\n",
         ),
         Said::NotAllowed(resource) => refuse_method(alloc, response, resource),
-        Said::Unanswered(parameter) => {
-            let body = unanswered_body(alloc, parameter)?;
-            fill(response, Status::BadRequest, body);
-            Ok(())
-        }
+        Said::Unanswered(parameter) => fill_made(
+            response,
+            Status::BadRequest,
+            unanswered_body(alloc, parameter),
+        ),
         Said::Clashes(clash) => say_clash(alloc, response, clash),
         Said::Refuses(refusal) => {
             fill_text(alloc, response, status_of(refusal.status()), refusal.body())
