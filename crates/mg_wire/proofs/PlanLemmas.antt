@@ -187,23 +187,26 @@ stated_plan r status size headers first stated final fit plain framed =
     let is_plain_then : is_plain (known_fields (headers ++ extra)) ≡ true = alike.2 ∙ plain in
     λ i. cond (fit i) (Err Refusal.BodySize) (cond (not (is_plain_then i)) (Err Refusal.UnusualFraming) (with_framing extra keep (framed (known_fields (headers ++ extra)) alike i)))
 
--- what is stated to `HEAD` ends with the head
-abbrev pub final_for : MethodKind → ℕ → Framing
-final_for m n = if is_head m then NoBody else Sized n
+-- the response ends with its head
+abbrev pub is_bare : MethodKind → ℕ → Bool
+is_bare m status = is_head m || is_bodiless_status status
+
+abbrev pub final_for : MethodKind → ℕ → ℕ → Framing
+final_for m status n = if is_bare m status then NoBody else Sized n
 
 sized_framing : (m : MethodKind) (status minor n : ℕ) (k : KnownFields) → is_connect m ≡ false → is_bodiless_status status ≡ false
-    → k.content_length ≡ Length.Value n → k.transfer_encoding ≡ Coding.Absent → response_framing m status minor k ≡ Ok (final_for m n)
+    → k.content_length ≡ Length.Value n → k.transfer_encoding ≡ Coding.Absent → response_framing m status minor k ≡ Ok (final_for m status n)
 sized_framing Method.Head status minor n k other bodied sized coded = refl
 sized_framing Method.Connect status minor n k other bodied sized coded = cc
 sized_framing Method.Other status minor n k other bodied sized coded =
-    λ i. cond (bodied i) (Ok NoBody) (by_fields minor UntilClose (Ok UntilClose) (coded i) (sized i))
+    (λ i. cond (bodied i) (Ok NoBody) (by_fields minor UntilClose (Ok UntilClose) (coded i) (sized i))) ∙ sym (λ i. Ok (cond (bodied i) NoBody (Sized n)))
 
 unsized_framing : (status minor : ℕ) (k : KnownFields) → is_bodiless_status status ≡ false
     → k.content_length ≡ Length.Absent → k.transfer_encoding ≡ Coding.Absent → response_framing Method.Other status minor k ≡ Ok UntilClose
 unsized_framing status minor k bodied sized coded =
     λ i. cond (bodied i) (Ok NoBody) (by_fields minor UntilClose (Ok UntilClose) (coded i) (sized i))
 
-head_framing : (m : MethodKind) (status minor n : ℕ) (k : KnownFields) → is_head m ≡ true → response_framing m status minor k ≡ Ok (final_for m n)
+head_framing : (m : MethodKind) (status minor n : ℕ) (k : KnownFields) → is_head m ≡ true → response_framing m status minor k ≡ Ok (final_for m status n)
 head_framing Method.Head status minor n k is = refl
 head_framing Method.Connect status minor n k is = cc
 head_framing Method.Other status minor n k is = cc
@@ -211,7 +214,7 @@ head_framing Method.Other status minor n k is = cc
 pub record Plans (s : Server) (status n : ℕ) (fields : List Header) : Type 0 where
   pub plan : Plan
   pub planned : response_plan s status (size_for n) fields ≡ Ok plan
-  pub framing : plan.framing ≡ final_for (peer_method s) n
+  pub framing : plan.framing ≡ final_for (peer_method s) status n
   pub valid : are_headers plan.extra ≡ true
   pub short : lines_len plan.extra ≤ 62
   pub own : list_all is_own plan.extra ≡ true
@@ -265,13 +268,13 @@ module _ (s : Server) (status n : ℕ) (fields : List Header) (awaits : may_resp
       let k = known_fields (fields ++ first) in
       let z = sized_push fields n small bare in
       let stated : response_framing Method.Other status r.minor k ≡ Ok (Sized n) =
-      sized_framing Method.Other status r.minor n k refl final.bodied z.0 z.1 in
+      sized_framing Method.Other status r.minor n k refl final.bodied z.0 z.1 ∙ (λ i. Ok (cond (final.bodied i) NoBody (Sized n))) in
       let short = join_short 38 24 first (told r fields first (Sized n)) (length_short n small) (told_short r k (stays_open r k (Sized n))) in
       record {
-        plan = record { extra = first ++ told r fields first (Sized n); framing = final_for r.method n; keep_alive = stays_open r k (Sized n) };
+        plan = record { extra = first ++ told r fields first (Sized n); framing = final_for r.method status n; keep_alive = stays_open r k (Sized n) };
         planned = by_stated first (first_is true is)
             ∙ ap (plan_stated r status (size_for n) fields first) stated
-            ∙ stated_plan r status (size_for n) fields first (Sized n) (final_for r.method n)
+            ∙ stated_plan r status (size_for n) fields first (Sized n) (final_for r.method status n)
             (fitting (is_sized r (size_for n)) (fits (Sized n) (size_for n)) (fits_size n)) z.2
             (λ j alike. sized_framing r.method status r.minor n j no_tunnel final.bodied (alike.0 ∙ z.0) (alike.1 ∙ z.1));
         framing = refl;
@@ -286,10 +289,10 @@ module _ (s : Server) (status n : ℕ) (fields : List Header) (awaits : may_resp
       unsized_framing status r.minor k final.bodied z.0 z.1 in
       let short = told_short r k (stays_open r k UntilClose) in
       record {
-        plan = record { extra = told r fields [] UntilClose; framing = final_for r.method n; keep_alive = stays_open r k UntilClose };
+        plan = record { extra = told r fields [] UntilClose; framing = final_for r.method status n; keep_alive = stays_open r k UntilClose };
         planned = by_stated [] (first_is false is)
             ∙ ap (plan_stated r status (size_for n) fields []) stated
-            ∙ stated_plan r status (size_for n) fields [] UntilClose (final_for r.method n)
+            ∙ stated_plan r status (size_for n) fields [] UntilClose (final_for r.method status n)
             (ap (λ (b : Bool). b && not (fits UntilClose (size_for n))) is)
             (λ i. nat_lt (z.2 i) 2 && z.3 i)
             (λ j alike. head_framing r.method status r.minor n j (unsized_head (is_head r.method) (is_empty (size_for n)) is));
@@ -301,3 +304,57 @@ module _ (s : Server) (status n : ℕ) (fields : List Header) (awaits : may_resp
 
   pub plans : Plans s status n fields
   plans = plans_at (is_sized r (size_for n)) refl
+
+unmodified_framing : (m : MethodKind) (minor : ℕ) (k : KnownFields) → response_framing m 304 minor k ≡ Ok NoBody
+unmodified_framing Method.Head minor k = refl
+unmodified_framing Method.Connect minor k = refl
+unmodified_framing Method.Other minor k = refl
+
+unmodified_final : (m : MethodKind) → NoBody ≡ final_for m 304 0
+unmodified_final Method.Head = refl
+unmodified_final Method.Connect = refl
+unmodified_final Method.Other = refl
+
+never_coded : (k : KnownFields) → k.transfer_encoding ≡ Coding.Absent → (t : Bool) → (t && has_transfer_encoding k) ≡ false
+never_coded k is true = ap (λ c. has_transfer_encoding (record k { transfer_encoding = c })) is
+never_coded k is false = refl
+
+never : (b : Bool) → (b && false) ≡ false
+never true = refl
+never false = refl
+
+module _ (s : Server) (fields : List Header) (awaits : may_respond s ≡ true) (no_tunnel : is_connect (peer_method s) ≡ false) (sendable : are_sendable fields ≡ true) where
+  abbrev asked : Request
+  asked = s.request
+
+  no_first : framing_headers asked 304 Empty fields ≡ []
+  no_first = λ i. cond (never (is_sized asked Empty) i) (size_headers asked.minor Empty) []
+
+  unmodified_planned : response_plan s 304 Empty fields ≡ plan_stated asked 304 Empty fields [] (Ok NoBody)
+  unfolding plan_fields
+  unmodified_planned =
+      let first = framing_headers asked 304 Empty fields in
+      let k = known_fields (fields ++ []) in
+      let bare = subst (λ (t : List Header). IsUnframed (known_fields t)) (sym (append-nil fields)) (unframed fields sendable) in
+      (λ i. cond (not (awaits i)) (Err Refusal.State)
+      (cond (no_tunnel i && false) (Err Refusal.InvalidStartLine)
+      (cond (eqb asked.minor 0 && has_transfer_encoding (known_fields (fields ++ no_first i))) (Err (Refusal.Framing UnexpectedTransferEncoding))
+      (plan_stated asked 304 Empty fields (no_first i) (Ok NoBody)))))
+      ∙ (λ i. cond (never_coded k bare.1 (eqb asked.minor 0) i) (Err (Refusal.Framing UnexpectedTransferEncoding)) (plan_stated asked 304 Empty fields [] (Ok NoBody)))
+
+  -- a 304 has no content and states no length
+  pub unmodified : Plans s 304 0 fields
+  unmodified =
+      let k = known_fields (fields ++ []) in
+      let z = subst (λ (t : List Header). IsUnframed (known_fields t)) (sym (append-nil fields)) (unframed fields sendable) in
+      let short = told_short asked k (stays_open asked k NoBody) in
+      record {
+        plan = record { extra = told asked fields [] NoBody; framing = NoBody; keep_alive = stays_open asked k NoBody };
+        planned = unmodified_planned
+            ∙ stated_plan asked 304 Empty fields [] NoBody NoBody (never (is_sized asked Empty)) (λ i. nat_lt (z.2 i) 2 && z.3 i)
+            (λ j alike. unmodified_framing asked.method asked.minor j);
+        framing = unmodified_final asked.method;
+        valid = short.0;
+        short = omega (arith, short.1);
+        own = short.2;
+      }

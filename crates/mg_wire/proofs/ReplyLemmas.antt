@@ -1,7 +1,7 @@
 -- From what the state machine says of each write to what is sent of a response.
 use Rattle.std.proofs.Common.{◌≡◌, ℕ, zero, suc, ◌+◌, ◌-◌, ◌<◌, ◌≤◌, ◌^◌, Bool, true, false, not, ◌&&◌, ◌||◌, nat_lt, nat_le, if◌then◌else◌, List, [], ◌∷◌, ◌++◌, length, append_assoc, append-nil, Option, Some, None, Result, Ok, Err, IsOk, MatchOption, sym, refl, ap, ◌∙◌, subst, subst₂, cond, eqb, length-append, inl, inr, arith}
 use Rattle.std.specs.Prelude.{codes}
-use Rattle.std.proofs.lemmas.Bool.{and_parts, and_from, leb-true}
+use Rattle.std.proofs.lemmas.Bool.{and_parts, and_from, eqb-true, leb-true}
 use Rattle.std.proofs.lemmas.Bool.Decides.{nat_tests}
 use Rattle.std.specs.List.{list_all}
 use Rattle.httparse.specs.Ascii.{crlf_bytes}
@@ -28,8 +28,8 @@ use Rattle.mg_wire.specs.declared.status.Status.{Status}
 use Rattle.mg_wire.specs.declared.status.Status.TheVariants as Is
 use Rattle.mg_wire.specs.Reply.{size_for, Heads}
 use Rattle.mg_wire.specs.Sendable.{are_sendable, lines_len, is_own}
-use Rattle.mg_wire.specs.Status.{code_of, reason_of}
-use Rattle.mg_wire.proofs.PlanLemmas.{IsFinal, final_for, Plans, plans}
+use Rattle.mg_wire.specs.Status.{code_of, has_content, reason_of}
+use Rattle.mg_wire.proofs.PlanLemmas.{IsFinal, is_bare, final_for, Plans, plans, unmodified}
 use Rattle.mg_wire.proofs.SendableLemmas.{not_true, headers_of}
 
 gave : {T : Type 0} (r : Option WriteError) (spare len : ℕ) (x : T) → GivesOrRefuses r spare len (Ok x) → r ≡ None
@@ -144,15 +144,17 @@ module _ (s one two three : Server) (status body_len sent : ℕ) (fields : List 
       }
 
 -- the facts that a head with this status asks for
-abbrev is_fine : ℕ → List ℕ → Bool
-is_fine code reason =
-    (not (nat_lt code 200) && (not (eqb code 204) && (not (eqb code 205) && not (eqb code 304))))
-    && ((not (is_bodiless_status code) && (nat_le 100 code && nat_le code 999)) && (is_field_value reason && nat_le (length reason) 32))
+abbrev is_fine : Status → Bool
+is_fine status =
+    let code = code_of status in
+    (not (nat_lt code 200) && (not (eqb code 204) && not (eqb code 205)))
+    && ((nat_le 100 code && nat_le code 999) && (is_field_value (reason_of status) && nat_le (length (reason_of status)) 32))
 
-fine : (status : Status) → is_fine (code_of status) (reason_of status) ≡ true
+fine : (status : Status) → is_fine status ≡ true
 fine Is.Ok = refl
 fine Is.Created = refl
 fine Is.Accepted = refl
+fine Is.NotModified = refl
 fine Is.BadRequest = refl
 fine Is.Unauthorized = refl
 fine Is.Forbidden = refl
@@ -167,8 +169,32 @@ fine Is.InternalServerError = refl
 fine Is.NotImplemented = refl
 fine Is.ServiceUnavailable = refl
 
+-- exactly 304 has no content
+bodiless : (status : Status) → (is_bodiless_status (code_of status) ≡ not (has_content status)) × (eqb (code_of status) 304 ≡ not (has_content status))
+bodiless Is.Ok = (refl, refl)
+bodiless Is.Created = (refl, refl)
+bodiless Is.Accepted = (refl, refl)
+bodiless Is.NotModified = (refl, refl)
+bodiless Is.BadRequest = (refl, refl)
+bodiless Is.Unauthorized = (refl, refl)
+bodiless Is.Forbidden = (refl, refl)
+bodiless Is.NotFound = (refl, refl)
+bodiless Is.MethodNotAllowed = (refl, refl)
+bodiless Is.NotAcceptable = (refl, refl)
+bodiless Is.Conflict = (refl, refl)
+bodiless Is.PreconditionFailed = (refl, refl)
+bodiless Is.ContentTooLarge = (refl, refl)
+bodiless Is.UnsupportedMediaType = (refl, refl)
+bodiless Is.InternalServerError = (refl, refl)
+bodiless Is.NotImplemented = (refl, refl)
+bodiless Is.ServiceUnavailable = (refl, refl)
+
 record IsFine (status : Status) : Type 0 where
-  final : IsFinal (code_of status)
+  late : nat_lt (code_of status) 200 ≡ false
+  some : eqb (code_of status) 204 ≡ false
+  shown : eqb (code_of status) 205 ≡ false
+  low : nat_le 100 (code_of status) ≡ true
+  high : nat_le (code_of status) 999 ≡ true
   reason : is_field_value (reason_of status) ≡ true
   short : length (reason_of status) ≤ 32
 
@@ -177,15 +203,22 @@ fine_parts status =
     let p = and_parts _ _ (fine status) in
     let a = and_parts _ _ p.0 in
     let b = and_parts _ _ a.1 in
-    let c = and_parts _ _ b.1 in
     let q = and_parts _ _ p.1 in
     let d = and_parts _ _ q.0 in
-    let e = and_parts _ _ d.1 in
     let f = and_parts _ _ q.1 in
+    record { late = not_true _ a.0; some = not_true _ b.0; shown = not_true _ b.1; low = d.0; high = d.1; reason = f.0; short = leb-true _ _ f.1 }
+
+final : (status : Status) → has_content status ≡ true → IsFinal (code_of status)
+final status is =
+    let f = fine_parts status in
     record {
-      final = record { late = not_true _ a.0; some = not_true _ b.0; shown = not_true _ c.0; changed = not_true _ c.1; bodied = not_true _ d.0; low = e.0; high = e.1 };
-      reason = f.0;
-      short = leb-true _ _ f.1;
+      late = f.late;
+      some = f.some;
+      shown = f.shown;
+      changed = (bodiless status).1 ∙ ap not is;
+      bodied = (bodiless status).0 ∙ ap not is;
+      low = f.low;
+      high = f.high;
     }
 
 one_at_most : (minor : ℕ) → minor ≤ 1 → nat_le minor 1 ≡ true
@@ -211,24 +244,46 @@ fit_at false n =
     (λ i. cond (never i) (Some BodyTooLong) None, refl, (λ i. cond (nat_lt 0 (none i)) (Some BodyTooShort) None), refl)
 
 -- the server awaits a response, and these fields and so long a body are given
-pub record MayReply (s : Server) (n sent : ℕ) (fields : List Header) : Type 0 where
+pub record MayReply (s : Server) (status : Status) (n sent : ℕ) (fields : List Header) : Type 0 where
   pub awaits : may_respond s ≡ true
   pub no_tunnel : is_connect (peer_method s) ≡ false
   pub minor : peer_minor s ≤ 1
   pub sendable : are_sendable fields ≡ true
   pub short : lines_len fields ≤ 7717
   pub small : n < 2 ^ 64
+  pub content : has_content status ≡ false → n ≡ 0
   pub is_sent : sent ≡ (if is_head (peer_method s) then 0 else n)
 
+-- what is sent of a content: nothing of none
+sent_at : (h c b : Bool) (n : ℕ) → b ≡ not c → (c ≡ false → n ≡ 0) → (if h then 0 else n) ≡ (if h || b then 0 else n)
+sent_at true c b n is none = refl
+sent_at false true b n is none = λ i. cond (sym is i) 0 n
+sent_at false false b n is none = none refl ∙ (λ i. cond (sym is i) 0 n)
+
 -- no response is refused
-module _ (s : Server) (status : Status) (n sent : ℕ) (fields : List Header) (m : MayReply s n sent fields) where
+module _ (s : Server) (status : Status) (n sent : ℕ) (fields : List Header) (m : MayReply s status n sent fields) where
+  plans_at : (b : Bool) → has_content status ≡ b → Plans s (code_of status) n fields
+  plans_at true is = plans s (code_of status) n fields m.awaits m.no_tunnel (final status is) m.small m.sendable
+  plans_at false is =
+      subst₂ (λ (k j : ℕ). Plans s k j fields) (sym (eqb-true (code_of status) 304 ((bodiless status).1 ∙ ap not is))) (sym (m.content is))
+      (unmodified s fields m.awaits m.no_tunnel m.sendable)
+
   abbrev p : Plans s (code_of status) n fields
-  p = plans s (code_of status) n fields m.awaits m.no_tunnel (fine_parts status).final m.small m.sendable
+  p = plans_at (has_content status) refl
+
+  abbrev bare : Bool
+  bare = is_bare (peer_method s) (code_of status)
+
+  abbrev body : Writing
+  body = Writes.Body (encoder_for (final_for (peer_method s) (code_of status) n))
+
+  is_sent : sent ≡ (if bare then 0 else n)
+  is_sent = m.is_sent ∙ sent_at (is_head (peer_method s)) (has_content status) (is_bodiless_status (code_of status)) n (bodiless status).0 m.content
 
   line : is_status_line (peer_minor s) (code_of status) (reason_of status) ≡ true
   line =
       let f = fine_parts status in
-      and_from _ _ (one_at_most (peer_minor s) m.minor) (and_from _ _ f.final.low (and_from _ _ f.final.high f.reason))
+      and_from _ _ (one_at_most (peer_minor s) m.minor) (and_from _ _ f.low (and_from _ _ f.high f.reason))
 
   -- the connection adds no other fields than its own
   pub own_fields : (code : ℕ) → code ≡ code_of status → (q : Plan) → response_plan s code (size_for n) fields ≡ Ok q → list_all is_own q.extra ≡ true
@@ -248,7 +303,7 @@ module _ (s : Server) (status : Status) (n sent : ℕ) (fields : List Header) (m
       subst (λ (q : Result Plan WriteError). length (response_text (peer_minor s) (code_of status) (reason_of status) (planned_headers q fields)) ≤ 8192) (sym p.planned)
       (text_fits (peer_minor s) (code_of status) (reason_of status) fields p.plan.extra (fine_parts status).short m.short p.short)
 
-  writes_body : (one : Server) → one ≡ after_response s (code_of status) (size_for n) fields → writing one ≡ Writes.Body (encoder_for (final_for (peer_method s) n))
+  writes_body : (one : Server) → one ≡ after_response s (code_of status) (size_for n) fields → writing one ≡ body
   writes_body one is =
       ap writing is ∙ ap (λ (q : Result Plan WriteError). writing (responding s q)) p.planned ∙ ap (λ (f : Framing). Writes.Body (encoder_for f)) p.framing
 
@@ -260,29 +315,29 @@ module _ (s : Server) (status : Status) (n sent : ℕ) (fields : List Header) (m
     head_fits_as =
         subst (λ (k : ℕ). k ≤ 8192) (sym (λ i. length (planned_response s (code_is i) (reason_is i) (size_is i) fields))) head_fits
 
-    pub writes_as : (one : Server) → one ≡ after_response s code size fields → writing one ≡ Writes.Body (encoder_for (final_for (peer_method s) n))
+    pub writes_as : (one : Server) → one ≡ after_response s code size fields → writing one ≡ body
     writes_as one is = writes_body one (is ∙ (λ i. after_response s (code_is i) (size_is i) fields))
 
-  pub not_too_long : (one : Server) → writing one ≡ Writes.Body (encoder_for (final_for (peer_method s) n)) → data_refusal (writing one) sent ≡ None
+  pub not_too_long : (one : Server) → writing one ≡ body → data_refusal (writing one) sent ≡ None
   not_too_long one is =
-      (λ i. data_refusal (is i) (m.is_sent i)) ∙ (fit_at (is_head (peer_method s)) n).0
+      (λ i. data_refusal (is i) (is_sent i)) ∙ (fit_at bare n).0
 
-  pub bare_frame : (one : Server) → writing one ≡ Writes.Body (encoder_for (final_for (peer_method s) n)) → data_prefix (writing one) sent ≡ []
-  bare_frame one is = (λ i. data_prefix (is i) (m.is_sent i)) ∙ (fit_at (is_head (peer_method s)) n).1
+  pub bare_frame : (one : Server) → writing one ≡ body → data_prefix (writing one) sent ≡ []
+  bare_frame one is = (λ i. data_prefix (is i) (is_sent i)) ∙ (fit_at bare n).1
 
-  writes_end : (one two : Server) → writing one ≡ Writes.Body (encoder_for (final_for (peer_method s) n)) → two ≡ with_writing one (after_data (writing one) sent)
-      → writing two ≡ Writes.Body (after_piece (encoder_for (final_for (peer_method s) n)) (if is_head (peer_method s) then 0 else n))
-  writes_end one two is counted = ap writing counted ∙ (λ i. after_data (is i) (m.is_sent i))
+  writes_end : (one two : Server) → writing one ≡ body → two ≡ with_writing one (after_data (writing one) sent)
+      → writing two ≡ Writes.Body (after_piece (encoder_for (final_for (peer_method s) (code_of status) n)) (if bare then 0 else n))
+  writes_end one two is counted = ap writing counted ∙ (λ i. after_data (is i) (is_sent i))
 
-  pub not_too_short : (one two : Server) → writing one ≡ Writes.Body (encoder_for (final_for (peer_method s) n)) → two ≡ with_writing one (after_data (writing one) sent)
+  pub not_too_short : (one two : Server) → writing one ≡ body → two ≡ with_writing one (after_data (writing one) sent)
       → finish_refusal (writing two) [] ≡ None
   not_too_short one two is counted =
-      ap (λ (w : Writing). finish_refusal w []) (writes_end one two is counted) ∙ (fit_at (is_head (peer_method s)) n).2
+      ap (λ (w : Writing). finish_refusal w []) (writes_end one two is counted) ∙ (fit_at bare n).2
 
-  pub end_fits : (one two : Server) → writing one ≡ Writes.Body (encoder_for (final_for (peer_method s) n)) → two ≡ with_writing one (after_data (writing one) sent)
+  pub end_fits : (one two : Server) → writing one ≡ body → two ≡ with_writing one (after_data (writing one) sent)
       → finish_text (writing two) [] ≡ []
   end_fits one two is counted =
-      ap (λ (w : Writing). finish_text w []) (writes_end one two is counted) ∙ (fit_at (is_head (peer_method s)) n).3
+      ap (λ (w : Writing). finish_text w []) (writes_end one two is counted) ∙ (fit_at bare n).3
 
 -- a write that is not refused, and has the room, does not fail
 pub no_failure : (T : Type 0) (r : Option WriteError) (spare len : ℕ) (e : WriteError) → r ≡ None → GivesOrRefuses {T = T} r spare len (Err e) → len ≤ spare → len ≤ 8192 → ⊥

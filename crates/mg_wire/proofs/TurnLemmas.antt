@@ -24,7 +24,7 @@ use Rattle.mg_wire.specs.declared.bounds.Bounds.{Bounds}
 use Rattle.mg_wire.specs.declared.connection.Connection.{Connection}
 use Rattle.mg_wire.specs.declared.connection.Ending.{Ending}
 use Rattle.mg_wire.specs.declared.connection.Ending.TheVariants.{Closed}
-use Rattle.mg_wire.specs.Response.{fields_of}
+use Rattle.mg_wire.specs.Response.{content_of, fields_of}
 use Rattle.mg_wire.specs.Body.{Serves, IsWhole}
 use Rattle.mg_wire.specs.Reply.{size_for, Heads}
 use Rattle.mg_wire.specs.Status.{code_of}
@@ -63,7 +63,7 @@ nothing_follows (Framed.Length n) = tt
 nothing_follows Framed.Chunked = tt
 nothing_follows Framed.UntilClose = refl
 
-module _ (b : Begun) (a : Response) (sent_bytes : ℕ) (old new : List ℕ) (next : Server) (h : Heads b.server (code_of a.status) (fields_of a) (length a.body.items) sent_bytes old new next) (piece : List ℕ) (len : length piece ≡ sent_bytes) where
+module _ (b : Begun) (a : Response) (sent_bytes : ℕ) (old new : List ℕ) (next : Server) (h : Heads b.server (code_of a.status) (fields_of a) (length (content_of a)) sent_bytes old new next) (piece : List ℕ) (len : length piece ≡ sent_bytes) where
   abbrev head_text : List ℕ
   head_text = response_text (peer_minor b.server) (code_of a.status) h.reason (fields_of a ++ h.plan.extra)
 
@@ -71,7 +71,7 @@ module _ (b : Begun) (a : Response) (sent_bytes : ℕ) (old new : List ℕ) (nex
   rest_text = body_text (piece ∷ []) (encoder_for h.plan.framing) []
 
   -- a client reads the head and the body back
-  pub spells : (m : Wire.Request) → Serves m.head b → piece ≡ (if is_head (method_kind m.head.method) then [] else a.body.items) → Spells m.head a (head_text ++ rest_text)
+  pub spells : (m : Wire.Request) → Serves m.head b → piece ≡ (if is_head (method_kind m.head.method) then [] else content_of a) → Spells m.head a (head_text ++ rest_text)
   spells m s is =
       let fields = fields_of a ++ h.plan.extra in
       let minor = peer_minor b.server in
@@ -81,7 +81,7 @@ module _ (b : Begun) (a : Response) (sent_bytes : ℕ) (old new : List ℕ) (nex
         message = message;
         reads = λ limits fits short.
             subst₂ (λ (k : MethodKind) (t : List ℕ). ReadsResponseMessage limits k (head_text ++ t) message []) s.method (append-nil rest_text)
-            (response_round_trip limits (size_for (length a.body.items)) (fields_of a) h.plan (piece ∷ []) [] [] (h.whole piece len).1 short (nothing_follows h.plan.framing)
+            (response_round_trip limits (size_for (length (content_of a))) (fields_of a) h.plan (piece ∷ []) [] [] (h.whole piece len).1 short (nothing_follows h.plan.framing)
             b.server (code_of a.status) h.reason h.planned h.valid fits);
         status = back.code;
         added = h.plan.extra;
@@ -107,8 +107,8 @@ module _ (c n : Connection) (b : Begun) (a : Response) (due : IsDue c b a) (quie
   same_stream cs text rest = subst₂ (λ (k : Bounds) (stream : List ℕ). IsTranscript k stream cs text rest) (sym quiet.bounds) (sym (received_same c n quiet))
 
   -- the response is sent
-  pub replies : (out : List ℕ) (sent_bytes : ℕ) (next : Server) (piece : List ℕ) → Heads b.server (code_of a.status) (fields_of a) (length a.body.items) sent_bytes c.output.items out next
-      → piece ≡ (if is_head (method_kind due.message.head.method) then [] else a.body.items) → length piece ≡ sent_bytes
+  pub replies : (out : List ℕ) (sent_bytes : ℕ) (next : Server) (piece : List ℕ) → Heads b.server (code_of a.status) (fields_of a) (length (content_of a)) sent_bytes c.output.items out next
+      → piece ≡ (if is_head (method_kind due.message.head.method) then [] else content_of a) → length piece ≡ sent_bytes
       → n.calls ≡ c.calls → n.input.items ≡ c.input.items → pending n ≡ out ++ piece
       → ((n.end ≡ None) × (n.begun ≡ None) × (¬ (IsClosed next))) ⊎ ((n.end ≡ Some Closed) × IsClosed next) → Holds n
   replies out sent_bytes next piece heads is len calls input pends how =
@@ -151,12 +151,12 @@ module _ (c n : Connection) (b : Begun) (a : Response) (due : IsDue c b a) (quie
 
 module _ (c m n : Connection) (b : Begun) (a : Response) (due : IsDue c b a) (only : m ≡ record c { output = m.output; tail = m.tail }) (next : Server)
     (settled : ((n ≡ m) × (¬ (IsClosed next))) ⊎ ((n ≡ record m { end = Some Closed; begun = None }) × IsClosed next)) where
-  pub reply_ok : (out : List ℕ) (sent_bytes : ℕ) (piece : List ℕ) → Heads b.server (code_of a.status) (fields_of a) (length a.body.items) sent_bytes c.output.items out next
-      → piece ≡ (if is_head (method_kind b.request.method) then [] else a.body.items) → length piece ≡ sent_bytes → pending m ≡ out ++ piece → Holds n
+  pub reply_ok : (out : List ℕ) (sent_bytes : ℕ) (piece : List ℕ) → Heads b.server (code_of a.status) (fields_of a) (length (content_of a)) sent_bytes c.output.items out next
+      → piece ≡ (if is_head (method_kind b.request.method) then [] else content_of a) → length piece ≡ sent_bytes → pending m ≡ out ++ piece → Holds n
   reply_ok out sent_bytes piece heads is len pends =
       let silent : IsSilent c m = record { bounds = λ i. (only i).bounds; reads = λ i. (only i).reads; writes = λ i. (only i).writes } in
-      let is_piece : piece ≡ (if is_head (method_kind due.message.head.method) then [] else a.body.items) =
-      is ∙ ap (λ (k : List ℕ). if is_head (method_kind k) then [] else a.body.items) due.asked.head.method in
+      let is_piece : piece ≡ (if is_head (method_kind due.message.head.method) then [] else content_of a) =
+      is ∙ ap (λ (k : List ℕ). if is_head (method_kind k) then [] else content_of a) due.asked.head.method in
       elim settled [
         | inl e ↦ subst Holds (sym e.0) (replies c m b a due silent out sent_bytes next piece heads is_piece len (λ i. (only i).calls) (λ i. (only i).input.items) pends
             (inl ((λ i. (only i).end) ∙ due.goes_on, (λ i. (only i).begun) ∙ due.is_last, e.1)))

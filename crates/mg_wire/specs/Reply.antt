@@ -22,11 +22,11 @@ first_of None = 1
 first_of (Some d) = 0
 
 -- The head of a response was appended, so that it and then these bytes are the whole response. `next`: the server after it
-pub record Heads (s : Server) (status : ℕ) (fields : List Header) (body_len sent : ℕ) (old new : List ℕ) (next : Server) : Type 0 where
+pub record Heads (s : Server) (status : ℕ) (fields : List Header) (content_len sent : ℕ) (old new : List ℕ) (next : Server) : Type 0 where
   pub plan : Plan
   pub reason : List ℕ
   pub own : list_all is_own plan.extra ≡ true
-  pub planned : response_plan s status (size_for body_len) fields ≡ Ok plan
+  pub planned : response_plan s status (size_for content_len) fields ≡ Ok plan
   pub valid : head_refusal (is_status_line (peer_minor s) status reason) (fields ++ plan.extra) ≡ None
   pub whole : (piece : List ℕ) → length piece ≡ sent
       → (new ++ piece ≡ old ++ response_text (peer_minor s) status reason (fields ++ plan.extra) ++ body_text (piece ∷ []) (encoder_for plan.framing) [])

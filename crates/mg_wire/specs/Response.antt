@@ -1,5 +1,5 @@
 -- What a service may respond.
-use Rattle.std.specs.Prelude.{◌≡◌, ◌⊎◌, ◌<◌, true, false, List, [], ◌∷◌, ◌++◌, length, Option, Some, None, codes}
+use Rattle.std.specs.Prelude.{◌≡◌, ◌⊎◌, ℕ, ◌<◌, true, false, List, [], ◌∷◌, ◌++◌, length, Option, Some, None, codes, if◌then◌else◌}
 use Rattle.http1.specs.Fields.{Header}
 use Rattle.httpdate.specs.declared.date.HttpDate.{HttpDate as Date}
 use Rattle.httpdate.specs.Date.{date_text}
@@ -10,6 +10,7 @@ use Rattle.mg_wire.specs.declared.fields.Fields.{Fields}
 use Rattle.mg_wire.specs.declared.response.Response.{Response}
 use Rattle.mg_wire.specs.declared.status.Status.TheVariants as Is
 use Rattle.mg_wire.specs.Sendable.{is_addable, lines_len, parts_of}
+use Rattle.mg_wire.specs.Status.{has_content}
 
 -- the names and the values, in order
 abbrev pub listed : Fields → List Header
@@ -27,6 +28,10 @@ date_fields (Some d) = date_field d ∷ []
 -- the names and the values of a response's fields: its date, and then those that were added
 abbrev pub fields_of : Response → List Header
 fields_of r = date_fields r.date ++ listed r.fields
+
+-- the content of a response: its body, if its status has content
+abbrev pub content_of : Response → List ℕ
+content_of r = if has_content r.status then r.body.items else []
 
 -- why the field is not added after these
 abbrev pub IsReasonFor : List Header → Header → FieldError → Type 0

@@ -1,5 +1,5 @@
--- The statuses that a service may give (RFC 9110, section 15). Each is final, and its response may have content: none is 204, 205 or 304.
-use Rattle.std.specs.Prelude.{ℕ, List, codes}
+-- The statuses that a service may give (RFC 9110, section 15). Each is final, and none is 204 or 205.
+use Rattle.std.specs.Prelude.{ℕ, Bool, true, false, List, codes}
 use Rattle.mg_wire.specs.declared.status.Status.{Status}
 use Rattle.mg_wire.specs.declared.status.Status.TheVariants as Is
 
@@ -8,6 +8,7 @@ abbrev pub code_of : Status → ℕ
 code_of Is.Ok = 200
 code_of Is.Created = 201
 code_of Is.Accepted = 202
+code_of Is.NotModified = 304
 code_of Is.BadRequest = 400
 code_of Is.Unauthorized = 401
 code_of Is.Forbidden = 403
@@ -22,11 +23,17 @@ code_of Is.InternalServerError = 500
 code_of Is.NotImplemented = 501
 code_of Is.ServiceUnavailable = 503
 
+-- a response with the status has content: a 304 has none (RFC 9110, section 15.4.5)
+abbrev pub has_content : Status → Bool
+has_content Is.NotModified = false
+has_content status = true
+
 -- its name in the RFC
 abbrev pub reason_of : Status → List ℕ
 reason_of Is.Ok = codes "OK"
 reason_of Is.Created = codes "Created"
 reason_of Is.Accepted = codes "Accepted"
+reason_of Is.NotModified = codes "Not Modified"
 reason_of Is.BadRequest = codes "Bad Request"
 reason_of Is.Unauthorized = codes "Unauthorized"
 reason_of Is.Forbidden = codes "Forbidden"

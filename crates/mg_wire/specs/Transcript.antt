@@ -15,7 +15,7 @@ use Rattle.mg_wire.specs.declared.request.Request.{Request}
 use Rattle.mg_wire.specs.declared.response.Response.{Response}
 use Rattle.mg_wire.specs.declared.refusal.TheConstants.{CONTINUE}
 use Rattle.mg_wire.specs.Request.{IsAsked, fields_in, asks_to_continue}
-use Rattle.mg_wire.specs.Response.{fields_of}
+use Rattle.mg_wire.specs.Response.{content_of, fields_of}
 use Rattle.mg_wire.specs.Sendable.{is_own}
 use Rattle.mg_wire.specs.Status.{code_of}
 use Rattle.mg_wire.specs.Target.{IsProper}
@@ -25,7 +25,7 @@ abbrev pub Call : Type 0
 Call = Request × Response
 
 -- A client that sent a request with the head h, and has room for the response's head, reads the text, whole, as the response r. To its fields
--- the connection adds only its own. To `HEAD` no body is sent (RFC 9110, section 9.3.2).
+-- the connection adds only its own. To `HEAD` no content is sent (RFC 9110, section 9.3.2).
 pub record Spells (h : RequestHead) (r : Response) (text : List ℕ) : Type 0 where
   pub message : Wire.Response
   pub reads : (limits : Limits) → length (print_response message.head) ≤ limits.max_head_len → 2 ≤ limits.max_trailers_len
@@ -34,7 +34,7 @@ pub record Spells (h : RequestHead) (r : Response) (text : List ℕ) : Type 0 wh
   pub added : List Header
   pub own : list_all is_own added ≡ true
   pub fields : map name_and_value message.head.fields ≡ fields_of r ++ added
-  pub body : message.body.bytes ≡ (if is_head (method_kind h.method) then [] else r.body.items)
+  pub body : message.body.bytes ≡ (if is_head (method_kind h.method) then [] else content_of r)
 
 -- what is sent before the response to a request with this head: `100 Continue`, exactly if the request asks for it
 abbrev pub interim_for : Bool → List ℕ

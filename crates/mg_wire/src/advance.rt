@@ -4,15 +4,17 @@ ghost use Rattle.http1.specs.Server.{is_head};
 ghost use Rattle.mg_wire.specs.Body.{HasNoMessage, IsBegun, IsFresh, IsWhole};
 ghost use Rattle.mg_wire.specs.Connection.{pending, IsQuiet, IsSilent, Holds, IsDue, Rests, Starts, work};
 ghost use Rattle.mg_wire.specs.Refusal.{Refuses};
+ghost use Rattle.mg_wire.specs.Status.{has_content};
 ghost use Rattle.mg_wire.specs.Transcript.{Asks};
 
 use crate::body::{Begun, Step};
 use crate::connection::{Connection, Ending};
 use crate::refusal::{CONTINUE, Refusal, refusal_text};
-use crate::reply::{ROOM, write_reply};
+use crate::reply::{ROOM, content_len, write_reply};
 use crate::response::Response;
 use crate::service::Service;
 use crate::start::begin;
+use crate::status::Status;
 use bytes::BytesMut;
 use http1::BodySize;
 use http1::framing::MethodKind;
@@ -23,7 +25,7 @@ use std::thread::Threads;
 /// A body that is no longer than this is sent with its head.
 const FOLDED: usize = 65536;
 
-/// So many bytes of a body are sent: to `HEAD` the head alone.
+/// So many bytes of a content are sent: to `HEAD` the head alone.
 fn sent_len(method: MethodKind, len: usize) -> usize
     ensures { result ≡ (if is_head method then 0 else len) }
 {
@@ -31,10 +33,11 @@ fn sent_len(method: MethodKind, len: usize) -> usize
 }
 
 /// What is sent of a body.
-fn sent_body(alloc: Global, method: MethodKind, body: Vec<u8>) -> Vec<u8>
-    ensures { result.items ≡ (if is_head method then [] else body.items) }
+fn sent_body(alloc: Global, method: MethodKind, status: Status, body: Vec<u8>) -> Vec<u8>
+    ensures { result.items
+        ≡ (if is_head method then [] else (if has_content status then body.items else [])) }
 {
-    if method == MethodKind::Head {
+    if method == MethodKind::Head || !status.has_content() {
         Vec::new(alloc)
     } else {
         body
@@ -197,9 +200,11 @@ impl Connection {
         } = begun;
         let mut server = server;
         let method = MethodKind::of(request.method.as_slice());
-        let sent = sent_len(method, response.body.len());
+        let len = content_len(response.status, response.body.len());
+        let sent = sent_len(method, len);
         write_reply(&mut server, &mut self.output, &response, sent);
-        self.attach(sent_body(self.alloc, method, response.body));
+        let body = sent_body(self.alloc, method, response.status, response.body);
+        self.attach(body);
         self.settle(server.is_closed());
     }
 

@@ -4,9 +4,9 @@ ghost use Rattle.http1.specs.Conn.{is_connect};
 ghost use Rattle.http1.specs.Head.{pairs};
 ghost use Rattle.http1.specs.Server.{is_head, may_respond, peer_method, peer_minor};
 ghost use Rattle.httpdate.specs.Date.{date_text};
-ghost use Rattle.mg_wire.specs.Response.{fields_of};
+ghost use Rattle.mg_wire.specs.Response.{content_of, fields_of};
 ghost use Rattle.mg_wire.specs.Sendable.{are_sendable, lines_len, parts_of};
-ghost use Rattle.mg_wire.specs.Status.{code_of};
+ghost use Rattle.mg_wire.specs.Status.{code_of, has_content};
 ghost use Rattle.mg_wire.specs.Reply.{size_for, first_of, Heads};
 
 use crate::fields::MAX_RESPONSE_FIELDS;
@@ -28,6 +28,13 @@ const NO_HEADER: Header<'static> = Header {
     value: b"",
 };
 
+/// The length of the content of a response with so long a body.
+pub(crate) fn content_len(status: Status, len: usize) -> usize
+    ensures { result ≡ (if has_content status then len else 0) }
+{
+    if status.has_content() { len } else { 0 }
+}
+
 /// A length, as `http1` is given it.
 fn size_for(len: usize) -> BodySize
     ensures { result ≡ size_for len }
@@ -39,13 +46,13 @@ fn size_for(len: usize) -> BodySize
     }
 }
 
-/// Appends the head of a response with these fields and so long a body, of which `sent` bytes are sent.
+/// Appends the head of a response with these fields and so long a content, of which `sent` bytes are sent.
 pub(crate) fn write_head(
     server: &mut Server,
     output: &mut BytesMut,
     status: Status,
     fields: &[Header<'_>],
-    body_len: usize,
+    content_len: usize,
     sent: usize,
 )
     requires awaits { may_respond server.old ≡ true }
@@ -54,10 +61,11 @@ pub(crate) fn write_head(
     requires sendable { are_sendable (pairs fields.now) ≡ true }
     requires short { lines_len (pairs fields.now) ≤ 7717 }
     requires room { ROOM ≤ output.old.spare }
-    requires sent { sent ≡ (if is_head (peer_method server.old) then 0 else body_len) }
-    ensures { Heads server.old (code_of status) (pairs fields.now) body_len sent output.old.items output.new.items server.new }
+    requires content { has_content status ≡ false → content_len ≡ 0 }
+    requires sent { sent ≡ (if is_head (peer_method server.old) then 0 else content_len) }
+    ensures { Heads server.old (code_of status) (pairs fields.now) content_len sent output.old.items output.new.items server.new }
 {
-    let size = size_for(body_len);
+    let size = size_for(content_len);
     match server.write_response(output, status.code(), status.reason(), fields, size) {
         Ok(()) => {}
         Err(_) => unreachable!(),
@@ -115,7 +123,7 @@ fn headers_of<'a>(date: &'a [u8], fields: &'a [Field]) -> ([Header<'a>; MAX_FIEL
     (headers, count)
 }
 
-/// Appends the head of the response, of whose body so many bytes are sent.
+/// Appends the head of the response, of whose content so many bytes are sent.
 pub(crate) fn write_reply(
     server: &mut Server,
     output: &mut BytesMut,
@@ -126,13 +134,13 @@ pub(crate) fn write_reply(
     requires no_tunnel { is_connect (peer_method server.old) ≡ false }
     requires minor { peer_minor server.old ≤ 1 }
     requires room { ROOM ≤ output.old.spare }
-    requires sent { sent ≡ (if is_head (peer_method server.old) then 0 else length response.now.body.items) }
+    requires sent { sent ≡ (if is_head (peer_method server.old) then 0 else length (content_of response.now)) }
     ensures { Heads server.old (code_of response.now.status) (fields_of response.now)
-        (length response.now.body.items) sent output.old.items output.new.items server.new }
+        (length (content_of response.now)) sent output.old.items output.new.items server.new }
 {
     let date = date_bytes(response.date);
     let (headers, count) = headers_of(&date, response.fields.list.as_slice());
-    let len = response.body.len();
+    let len = content_len(response.status, response.body.len());
     let fields = &headers[..count];
     let first = first_of(response.date);
     write_head(server, output, response.status, &fields[first..], len, sent);

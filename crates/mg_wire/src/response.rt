@@ -14,6 +14,7 @@ pub struct Response {
     /// When it was made, which is sent as its first field, `Date`. A service without a clock gives none.
     pub date: Option<HttpDate>,
     pub fields: Fields,
+    /// Its content, which is sent unless its status has none.
     pub body: Vec<u8>,
 }
 

@@ -1,13 +1,14 @@
 //! The statuses that a service may give.
 ghost use Rattle.std.specs.Prelude.{◌≡◌};
-ghost use Rattle.mg_wire.specs.Status.{code_of, reason_of};
+ghost use Rattle.mg_wire.specs.Status.{code_of, has_content, reason_of};
 
-/// A final status whose response may have content (RFC 9110, section 15). A response with any of them can be sent.
+/// A final status (RFC 9110, section 15). A response with any of them can be sent; one with `NotModified` has no content.
 #[derive(Clone, Copy, Debug, PartialEq, Eq)]
 pub enum Status {
     Ok,
     Created,
     Accepted,
+    NotModified,
     BadRequest,
     Unauthorized,
     Forbidden,
@@ -32,6 +33,7 @@ impl Status {
             Status::Ok => 200,
             Status::Created => 201,
             Status::Accepted => 202,
+            Status::NotModified => 304,
             Status::BadRequest => 400,
             Status::Unauthorized => 401,
             Status::Forbidden => 403,
@@ -48,6 +50,16 @@ impl Status {
         }
     }
 
+    /// Whether the response has content.
+    pub fn has_content(self) -> bool
+        ensures { result ≡ has_content self }
+    {
+        match self {
+            Status::NotModified => false,
+            _ => true,
+        }
+    }
+
     /// The reason phrase of the status line.
     pub fn reason(self) -> &'static [u8]
         ensures { result.now ≡ reason_of self }
@@ -56,6 +68,7 @@ impl Status {
             Status::Ok => b"OK",
             Status::Created => b"Created",
             Status::Accepted => b"Accepted",
+            Status::NotModified => b"Not Modified",
             Status::BadRequest => b"Bad Request",
             Status::Unauthorized => b"Unauthorized",
             Status::Forbidden => b"Forbidden",
