@@ -3,3 +3,5 @@ pub mod SeatLemmas
 pub mod SegmentLemmas
 pub mod EntryLemmas
 pub mod LineLemmas
+pub mod CountLemmas
+pub mod ItemLemmas

@@ -2,6 +2,7 @@
 use Rattle.std.proofs.Common.{◌≡◌, ℕ, ◌-◌, ◌≤◌, List, [], ◌∷◌, ◌++◌, length, take, length-append, Option, Some, refl, ap, ◌∙◌, arith}
 use Rattle.std.specs.Prelude.{IsUtf8, codes, option_and_then}
 use Rattle.std.proofs.Math.Seq.{take-append_seam}
+use Rattle.http1.specs.Fields.{Header}
 use Rattle.mg_value.specs.Held.{IsHeld}
 use Rattle.mg_value.specs.Text.{compact}
 use Rattle.mg_value.specs.Value.{Value, depth}
@@ -14,7 +15,7 @@ use Rattle.mg_engine.specs.Refusals.{refusal_line}
 use Rattle.mg_wire.specs.declared.status.Status.TheVariants as Status
 use Rattle.mg_face.specs.declared.edited.Change.{Change}
 use Rattle.mg_face.specs.declared.plan.Way.TheVariants as Way
-use Rattle.mg_face.specs.Answer.{json, tagged}
+use Rattle.mg_face.specs.Answer.{document_answer, json}
 use Rattle.mg_face.specs.Edited.{only_item, edited, answer_with, list_with, made_answer, one_entry}
 use Rattle.mg_face.specs.Json.{json_of, string_at, value_of_line}
 use Rattle.mg_face.specs.Shown.{shown}
@@ -28,10 +29,10 @@ front s b =
 pub read_line : (v : Value) → IsHeld v → depth v ≤ 127 → IsUtf8 (compact v) → value_of_line (line_of v) ≡ Some v
 read_line v held deep utf8 = ap json_of (front (compact v) 10) ∙ reads_json (compact v) v (reads_compact v held deep utf8)
 
-pub tag_shown : (db : List ℕ) (v : Value) → IsHeld v → depth v ≤ 127 → IsUtf8 (compact v)
-    → shown db Way.Document (ok_answer v) ≡ tagged (string_at (codes "_rev") v) (json Status.Ok (line_of v))
-tag_shown db v held deep utf8 =
-    ap (λ (o : Option Value). tagged (option_and_then (string_at (codes "_rev")) o) (json Status.Ok (line_of v))) (read_line v held deep utf8)
+pub tag_shown : (db : List ℕ) (fields : List Header) (v : Value) → IsHeld v → depth v ≤ 127 → IsUtf8 (compact v)
+    → shown db fields Way.Document (ok_answer v) ≡ document_answer fields (string_at (codes "_rev") v) (json Status.Ok (line_of v))
+tag_shown db fields v held deep utf8 =
+    ap (λ (o : Option Value). document_answer fields (option_and_then (string_at (codes "_rev")) o) (json Status.Ok (line_of v))) (read_line v held deep utf8)
 
 pub made_shown : (db id : List ℕ) (change : Change) (r : Revision) → IsUtf8 (compact (list_with (done_entry id r)))
     → edited db change (one_entry (done_entry id r)) ≡ made_answer db change (done_entry id r) (revision_text r)

@@ -1,9 +1,17 @@
--- Paths of five and of six segments.
+-- Paths of three, of five and of six segments.
 use Rattle.std.proofs.Common.{◌≡◌, ℕ, ◌<◌, ◌≤◌, List, [], ◌∷◌, length, map, get_or, Option, refl, ap, ◌∙◌, arith}
 use Rattle.std.specs.Prelude.{codes}
 use Rattle.mg_face.specs.declared.route.Resource.{Resource}
-use Rattle.mg_face.specs.Routes.{resource_of, index_resource, design_resource}
+use Rattle.mg_face.specs.Routes.{resource_of, three_resource, index_resource, design_resource}
 use Rattle.mg_face.specs.Plan.{text_in, index_of, drop_design_plan}
+
+pub three_segments : {A : Type 0} (f : A → List ℕ) (xs : List A) (d : A) (r : Resource) → r ≡ three_resource (f (get_or xs 1 d)) → 3 ≤ length xs → length xs < 4
+    → r ≡ resource_of (map f xs)
+three_segments f [] d r is least most = absurd (omega arith)
+three_segments f (x0 ∷ []) d r is least most = absurd (omega arith)
+three_segments f (x0 ∷ x1 ∷ []) d r is least most = absurd (omega arith)
+three_segments f (x0 ∷ x1 ∷ x2 ∷ []) d r is least most = is
+three_segments f (x0 ∷ x1 ∷ x2 ∷ x3 ∷ xs) d r is least most = absurd (omega arith)
 
 pub five_segments : {A : Type 0} (f : A → List ℕ) (xs : List A) (d e : A) (r : Resource) → r ≡ index_resource (f (get_or xs 1 d)) (f (get_or xs 3 e))
     → 5 ≤ length xs → length xs < 6 → r ≡ resource_of (map f xs)

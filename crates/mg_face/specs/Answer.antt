@@ -1,7 +1,8 @@
 -- What is answered: the response for each thing that is said, and for each answer of the database.
-use Rattle.std.specs.Prelude.{◌≡◌, ℕ, ◌==◌, List, [], ◌∷◌, ◌++◌, length, nat_le, codes, Option, Some, None, option_and_then, if◌then◌else◌}
+use Rattle.std.specs.Prelude.{◌≡◌, ℕ, Bool, false, ◌==◌, List, [], ◌∷◌, ◌++◌, length, map, nat_le, codes, Option, Some, None, option_and_then, if◌then◌else◌}
 use Rattle.http1.specs.Fields.{Header}
 use Rattle.mg_value.specs.Value.{text, list, item, no_items, object, member, no_members}
+use Rattle.mg_value.specs.View.{items_of}
 use Rattle.mg_engine.specs.Bodies.{line_of}
 use Rattle.mg_engine.specs.Commands as engine
 use Rattle.mg_engine.specs.Commands.{refused}
@@ -11,12 +12,19 @@ use Rattle.mg_wire.specs.declared.response.Response.{Response}
 use Rattle.mg_wire.specs.declared.status.Status.{Status}
 use Rattle.mg_wire.specs.declared.status.Status.TheVariants as Is
 use Rattle.mg_wire.specs.Response.{listed}
+use Rattle.mg_face.specs.declared.count.CountFault.{CountFault}
+use Rattle.mg_face.specs.declared.count.CountFault.TheVariants as Count
+use Rattle.mg_face.specs.declared.fault.Fault.{Fault}
+use Rattle.mg_face.specs.declared.fault.Fault.TheVariants as Of
 use Rattle.mg_face.specs.declared.parameter.Parameter.{Parameter}
 use Rattle.mg_face.specs.declared.said.Clash.TheVariants as Clash
 use Rattle.mg_face.specs.declared.said.Said.{Said}
+use Rattle.mg_face.specs.Edit.{field_of}
+use Rattle.mg_face.specs.Ids.{id_list}
 use Rattle.mg_face.specs.Json.{value_of_line, string_at}
 use Rattle.mg_face.specs.Parameters.{name_of}
 use Rattle.mg_face.specs.Routes.{allowed}
+use Rattle.mg_face.specs.Tag.{is_in_tags}
 
 -- an answer: its status, its fields in order, and its body
 pub record Answer : Type 0 where
@@ -41,6 +49,25 @@ databases db = line_of (list (item (text db) no_items))
 -- what the database is: its name
 abbrev pub database : List ℕ → List ℕ
 database db = line_of (object (member (codes "db_name") (text db) (member (codes "instance_start_time") (text (codes "0")) no_members)))
+
+-- so many ids, the first of which has this number
+abbrev pub ids_body : ℕ → ℕ → List ℕ
+ids_body first count = line_of (object (member (codes "uuids") (list (items_of (map text (id_list first count)))) no_members))
+
+-- why a number of ids is refused, in CouchDB's words
+abbrev pub count_body : CountFault → List ℕ
+count_body Count.NotPositive = codes "{\"error\":\"bad_request\",\"reason\":\"count must be a positive integer\"}\n"
+count_body Count.TooLarge = codes "{\"error\":\"bad_request\",\"reason\":\"count parameter too large\"}\n"
+
+-- the member that has the wrong shape, and what it has to be
+abbrev pub wrong_body : Fault → List ℕ
+wrong_body Of.Documents = codes "{\"error\":\"bad_request\",\"reason\":\"docs: an array of objects\"}\n"
+wrong_body Of.NewEdits = codes "{\"error\":\"bad_request\",\"reason\":\"new_edits: true or false\"}\n"
+wrong_body Of.Selector = codes "{\"error\":\"bad_request\",\"reason\":\"selector: an object\"}\n"
+wrong_body Of.Limit = codes "{\"error\":\"bad_request\",\"reason\":\"limit: a whole number from 0 to 2147483647\"}\n"
+wrong_body Of.Skip = codes "{\"error\":\"bad_request\",\"reason\":\"skip: a whole number from 0 to 2147483647\"}\n"
+wrong_body Of.Bookmark = codes "{\"error\":\"bad_request\",\"reason\":\"bookmark: a string\"}\n"
+wrong_body Of.Conflicts = codes "{\"error\":\"bad_request\",\"reason\":\"conflicts: true or false\"}\n"
 
 -- the refusal of a parameter, with its name
 abbrev pub unanswered_body : Parameter → List ℕ
@@ -67,6 +94,9 @@ abbrev pub answer_of_said : List ℕ → Said → Answer
 answer_of_said db Said.Welcome = json Is.Ok (codes "{\"couchdb\":\"Welcome\",\"version\":\"3.3.3\",\"vendor\":{\"name\":\"mango_server\",\"version\":\"1.0.0\"}}\n")
 answer_of_said db Said.Up = json Is.Ok (codes "{\"status\":\"ok\"}\n")
 answer_of_said db Said.Databases = json Is.Ok (databases db)
+answer_of_said db (Said.Ids first count) =
+    record { status = Is.Ok; fields = json_field ∷ (codes "cache-control", codes "no-cache") ∷ []; body = ids_body first count }
+answer_of_said db (Said.BadCount fault) = json Is.BadRequest (count_body fault)
 answer_of_said db Said.Database = json Is.Ok (database db)
 answer_of_said db Said.DatabaseExists =
     json Is.PreconditionFailed (codes "{\"error\":\"file_exists\",\"reason\":\"The database could not be created, the file already exists.\"}\n")
@@ -82,6 +112,13 @@ answer_of_said db (Said.Clashes Clash.Ids) =
     json Is.BadRequest (codes "{\"error\":\"bad_request\",\"reason\":\"_id: the document has another one than the path.\"}\n")
 answer_of_said db (Said.Clashes Clash.Revisions) =
     json Is.BadRequest (codes "{\"error\":\"bad_request\",\"reason\":\"_rev: the document, rev and If-Match have different ones.\"}\n")
+answer_of_said db (Said.Wrong fault) = json Is.BadRequest (wrong_body fault)
+answer_of_said db Said.NotWhole =
+    json Is.BadRequest (codes "{\"error\":\"bad_request\",\"reason\":\"numbers are whole here: a number has a point, an exponent or more than 64 bits.\"}\n")
+answer_of_said db Said.Attached =
+    json Is.BadRequest (codes "{\"error\":\"doc_validation\",\"reason\":\"_attachments: this server keeps no attachments.\"}\n")
+answer_of_said db Said.NoDesign =
+    json Is.Forbidden (codes "{\"error\":\"forbidden\",\"reason\":\"A design document is made by POST to _index.\"}\n")
 answer_of_said db (Said.Refuses refusal) = passed (refused refusal)
 
 -- ---- answers of the database
@@ -106,6 +143,24 @@ tag_of revision = if_short revision (codes "etag", quoted revision)
 abbrev pub tagged : Option (List ℕ) → Answer → Answer
 tagged None a = a
 tagged (Some revision) a = record a { fields = a.fields ++ tag_of revision }
+
+-- a document that the client has: no content (RFC 9110, sections 13.1.2 and 15.4.5)
+abbrev pub unmodified : List ℕ → Answer
+unmodified revision = record { status = Is.NotModified; fields = json_field ∷ tag_of revision; body = [] }
+
+-- the tag is one of these, if there are any
+abbrev pub is_listed : List ℕ → Option (List ℕ) → Bool
+is_listed tag None = false
+is_listed tag (Some tags) = is_in_tags tag tags
+
+-- the client says that it has the document at this revision
+abbrev pub has_revision : List Header → List ℕ → Bool
+has_revision fields revision = is_listed (quoted revision) (field_of (codes "if-none-match") fields)
+
+-- an answer that shows a document at this revision
+abbrev pub document_answer : List Header → Option (List ℕ) → Answer → Answer
+document_answer fields None a = a
+document_answer fields (Some revision) a = if has_revision fields revision then unmodified revision else tagged (Some revision) a
 
 -- ---- responses
 

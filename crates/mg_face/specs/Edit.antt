@@ -9,15 +9,19 @@ use Rattle.mg_value.specs.Value.{Value, flag, text, list, object, item, no_items
 
 -- ---- the revision that a request names
 
--- the value of the first of these parameters that is `rev`
-abbrev pub revision_in_pairs : List (List ℕ × List ℕ) → Option (List ℕ)
-revision_in_pairs [] = None
-revision_in_pairs (pair ∷ pairs) =
-    if bytes_eq (utf8_lossy (decode pair.0)) (codes "rev") then Some (utf8_lossy (decode pair.1)) else revision_in_pairs pairs
+-- the value of the first of these parameters that has this name
+abbrev pub value_in_pairs : List ℕ → List (List ℕ × List ℕ) → Option (List ℕ)
+value_in_pairs name [] = None
+value_in_pairs name (pair ∷ pairs) =
+    if bytes_eq (utf8_lossy (decode pair.0)) name then Some (utf8_lossy (decode pair.1)) else value_in_pairs name pairs
+
+-- the value that a query gives the parameter of this name
+abbrev pub value_in_query : List ℕ → List ℕ → Option (List ℕ)
+value_in_query name query = value_in_pairs name (raw_pairs query)
 
 -- the revision that a query names
 abbrev pub revision_in_query : List ℕ → Option (List ℕ)
-revision_in_query query = revision_in_pairs (raw_pairs query)
+revision_in_query query = value_in_query (codes "rev") query
 
 -- an entity tag without its quotes (RFC 9110, section 8.8.3); another text as it is
 abbrev pub unquoted : List ℕ → List ℕ

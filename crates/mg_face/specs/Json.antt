@@ -1,5 +1,5 @@
 -- The value of a JSON text (RFC 8259), as `mg_value` reads it.
-use Rattle.std.specs.Prelude.{ℕ, ◌-◌, List, length, take, Option, Some, None, option_and_then, if◌then◌else◌}
+use Rattle.std.specs.Prelude.{ℕ, ◌-◌, Bool, false, List, length, take, Option, Some, None, is_some, option_and_then, if◌then◌else◌}
 use Rattle.std.specs.Str.{is_utf8}
 use Rattle.serde_json.specs.Read.{read}
 use Rattle.mg_value.specs.Value.{Value, text, member_of}
@@ -8,6 +8,10 @@ use Rattle.mg_value.specs.Text.{whole_of}
 -- the value that a text gives; `None`: it is no JSON text, or a number of it is not whole
 abbrev pub json_of : List ℕ → Option Value
 json_of bytes = if is_utf8 bytes then option_and_then whole_of (read bytes) else None
+
+-- the bytes are a JSON text, whatever its numbers
+abbrev pub is_json : List ℕ → Bool
+is_json bytes = if is_utf8 bytes then is_some (read bytes) else false
 
 -- the value of a line: of a text and one more byte, its line feed
 abbrev pub value_of_line : List ℕ → Option Value

@@ -2,6 +2,10 @@ pub mod Json
 pub mod Routes
 pub mod Parameters
 pub mod Edit
+pub mod Ids
+pub mod Count
+pub mod Fault
+pub mod Tag
 pub mod Plan
 pub mod Answer
 pub mod Edited

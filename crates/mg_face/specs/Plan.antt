@@ -1,8 +1,9 @@
 -- What a request asks for: what is said at once, or a command of the database.
-use Rattle.std.specs.Prelude.{ℕ, Bool, ◌||◌, List, [], ◌∷◌, ◌++◌, codes, Option, Some, None, if◌then◌else◌}
+use Rattle.std.specs.Prelude.{ℕ, Bool, false, ◌||◌, List, [], ◌∷◌, ◌++◌, codes, Option, Some, None, is_some, option_map, Result, Ok, Err, if◌then◌else◌}
 use Rattle.std.specs.Str.{is_utf8}
+use Rattle.std.specs.String.{string_bytes}
 use Rattle.percent_encoding.specs.Percent.{percent_decode}
-use Rattle.mg_value.specs.Value.{Value}
+use Rattle.mg_value.specs.Value.{Value, member_of}
 use Rattle.mg_engine.specs.Commands.{Asked, bulk, create_index, drop_index, list_indexes, find, explain, get, reshard}
 use Rattle.mg_engine.specs.View.{command_view}
 use Rattle.mg_engine.specs.declared.refusal.Refusal.TheVariants.{Missing, NoDatabase, InvalidJson}
@@ -11,46 +12,78 @@ use Rattle.http1.specs.Fields.{Header}
 use Rattle.mg_wire.specs.declared.request.Request.{Request}
 use Rattle.mg_wire.specs.Request.{fields_in}
 use Rattle.mg_face.specs.declared.action.Verb.{Verb}
+use Rattle.mg_face.specs.declared.count.CountFault.{CountFault}
+use Rattle.mg_face.specs.declared.fault.Fault.{Fault}
 use Rattle.mg_face.specs.declared.action.Endpoint.{Endpoint}
 use Rattle.mg_face.specs.declared.action.Endpoint.TheVariants as Takes
 use Rattle.mg_face.specs.declared.action.Action.{Action}
 use Rattle.mg_face.specs.declared.action.Action.TheVariants as Does
 use Rattle.mg_face.specs.declared.parameter.Parameter.{Parameter}
 use Rattle.mg_face.specs.declared.plan.Plan as code
-use Rattle.mg_face.specs.declared.plan.Plan.TheVariants.{Says, Asks}
+use Rattle.mg_face.specs.declared.plan.Plan.TheVariants.{Says, Asks, Finds}
 use Rattle.mg_face.specs.declared.plan.Way.{Way}
 use Rattle.mg_face.specs.declared.plan.Way.TheVariants as Shown
 use Rattle.mg_face.specs.declared.route.Resource.{Resource}
 use Rattle.mg_face.specs.declared.route.Resource.TheVariants.{Database}
 use Rattle.mg_face.specs.declared.said.Clash.TheVariants as Clash
 use Rattle.mg_face.specs.declared.said.Said.{Said}
-use Rattle.mg_face.specs.Json.{json_of}
-use Rattle.mg_face.specs.Edit.{with_given, with_revisions, revision_in_query, revision_in_fields, bulk_with, deletion}
+use Rattle.mg_face.specs.Count.{count_given}
+use Rattle.mg_face.specs.Fault.{query_fault, bulk_fault}
+use Rattle.mg_face.specs.Ids.{with_id, bulk_with_ids}
+use Rattle.mg_face.specs.Json.{json_of, is_json}
+use Rattle.mg_face.specs.Edit.{with_given, with_revisions, value_in_query, revision_in_query, revision_in_fields, bulk_with, deletion}
 use Rattle.mg_face.specs.Routes.{segments_of, resource_of, is_nowhere, is_of_server, names, verb_of, action_of}
 use Rattle.mg_face.specs.Parameters.{unanswered_in}
 
--- what is said at once, or the command that is executed, and how its answer is shown
+-- What is said at once; or the command that is executed, and how its answer is shown; or such a command that is executed only if a document
+-- with this id is found, else the answer to its `get` is shown.
 pub data Plan : Type 0 where
   says : Said → Plan
   asks : Asked → Way → Plan
+  finds : List ℕ → Asked → Way → Plan
 
 -- what a plan of the code stands for
 abbrev pub plan_view : code.Plan → Plan
 plan_view (Says said) = says said
 plan_view (Asks command way) = asks (command_view command) way
+plan_view (Finds id command way) = finds (string_bytes id) (command_view command) way
+
+-- why no value was read from a body: it is a JSON text, but not one whose numbers are whole, or none at all
+abbrev pub unread : List ℕ → Plan
+unread body = if is_json body then says Said.NotWhole else says (Said.Refuses InvalidJson)
 
 -- the command of an endpoint whose body is this value
 abbrev pub command_of : Endpoint → Value → Asked
-command_of Takes.BulkDocs v = bulk v
 command_of Takes.Find v = find v
 command_of Takes.Explain v = explain v
 command_of Takes.CreateIndex v = create_index v
 command_of Takes.Reshard v = reshard v
 
--- the command of an endpoint for a body; `None`: the body is no JSON text whose numbers are whole
-abbrev pub taken : Endpoint → Option Value → Plan
-taken endpoint (Some v) = asks (command_of endpoint v) Shown.Plain
-taken endpoint None = says (Said.Refuses InvalidJson)
+-- the member of a body whose shape the endpoint refuses
+abbrev pub fault_of : Endpoint → Value → Option Fault
+fault_of Takes.Find v = query_fault v
+fault_of Takes.Explain v = query_fault v
+fault_of endpoint v = None
+
+-- the command, unless a member has the wrong shape
+abbrev pub unless_faulty : Option Fault → Asked → Plan
+unless_faulty None command = asks command Shown.Plain
+unless_faulty (Some fault) command = says (Said.Wrong fault)
+
+-- what an endpoint does with a body, whose value is given; `None`: none was read
+abbrev pub taken : Endpoint → List ℕ → Option Value → Plan
+taken endpoint body (Some v) = unless_faulty (fault_of endpoint v) (command_of endpoint v)
+taken endpoint body None = unread body
+
+-- a bulk of documents: those that have no id get one, counted from the number that was drawn
+abbrev pub bulk_docs : ℕ → List ℕ → Option Value → Plan
+bulk_docs drawn body (Some v) = unless_faulty (bulk_fault v) (bulk (bulk_with_ids drawn v))
+bulk_docs drawn body None = unread body
+
+-- ids that are asked for
+abbrev pub ids_of : ℕ → Result ℕ CountFault → Plan
+ids_of drawn (Ok count) = says (Said.Ids drawn count)
+ids_of drawn (Err fault) = says (Said.BadCount fault)
 
 -- the bytes as a text; `None`: they are not UTF-8
 abbrev pub text_of : List ℕ → Option (List ℕ)
@@ -89,7 +122,8 @@ drop_design_plan segments = says (Said.Refuses Missing)
 
 -- the edit of a document that has its id and its revision; `None`: two revisions disagree
 abbrev pub edit_of : Option Value → Way → Plan
-edit_of (Some document) way = asks (bulk (bulk_with document)) way
+edit_of (Some document) way =
+    if is_some (member_of (codes "_attachments") document) then says Said.Attached else asks (bulk (bulk_with document)) way
 edit_of None way = says (Said.Clashes Clash.Revisions)
 
 -- the edit of a document that has its id, at the revisions that the query and the fields name; `None`: two ids disagree
@@ -98,25 +132,30 @@ edit_at (Some document) query fields way =
     edit_of (with_revisions (revision_in_query query) (revision_in_fields fields) document) way
 edit_at None query fields way = says (Said.Clashes Clash.Ids)
 
--- the edit of the document in a body; `None`: it is no JSON text whose numbers are whole
-abbrev pub post_document : Option Value → List ℕ → List Header → Plan
-post_document (Some document) query fields = edit_at (Some document) query fields Shown.Written
-post_document None query fields = says (Said.Refuses InvalidJson)
+-- the edit of the document in a body, which gets an id if it has none; `None`: no value was read from the body
+abbrev pub post_document : ℕ → List ℕ → Option Value → List ℕ → List Header → Plan
+post_document drawn body (Some document) query fields = edit_at (Some (with_id drawn document)) query fields Shown.Written
+post_document drawn body None query fields = unread body
 
 -- the edit of the document in a body, at this id
-abbrev pub put_at : Option (List ℕ) → Option Value → List ℕ → List Header → Plan
-put_at None body query fields = says (Said.Refuses Missing)
-put_at (Some id) None query fields = says (Said.Refuses InvalidJson)
-put_at (Some id) (Some document) query fields = edit_at (with_given (codes "_id") (Some id) document) query fields Shown.Written
+abbrev pub put_at : Option (List ℕ) → List ℕ → Option Value → List ℕ → List Header → Plan
+put_at None body v query fields = says (Said.Refuses Missing)
+put_at (Some id) body None query fields = unread body
+put_at (Some id) body (Some document) query fields = edit_at (with_given (codes "_id") (Some id) document) query fields Shown.Written
 
 -- the edit of the document in a body, whose id the second segment is
-abbrev pub put_document : List (List ℕ) → Option Value → List ℕ → List Header → Plan
-put_document (db ∷ id ∷ []) body query fields = put_at (text_in id) body query fields
-put_document segments body query fields = says (Said.Refuses Missing)
+abbrev pub put_document : List (List ℕ) → List ℕ → Option Value → List ℕ → List Header → Plan
+put_document (db ∷ id ∷ []) body v query fields = put_at (text_in id) body v query fields
+put_document segments body v query fields = says (Said.Refuses Missing)
 
--- the deletion of the document of this id
+-- the command, only if a document with this id is found
+abbrev pub if_found : List ℕ → Plan → Plan
+if_found id (asks command way) = finds id command way
+if_found id plan = plan
+
+-- the deletion of the document of this id, which has to be there
 abbrev pub delete_at : Option (List ℕ) → List ℕ → List Header → Plan
-delete_at (Some id) query fields = edit_at (with_given (codes "_id") (Some id) deletion) query fields Shown.Deleted
+delete_at (Some id) query fields = if_found id (edit_at (with_given (codes "_id") (Some id) deletion) query fields Shown.Deleted)
 delete_at None query fields = says (Said.Refuses Missing)
 
 -- the deletion of the document whose id the second segment is
@@ -126,23 +165,26 @@ delete_document segments query fields = says (Said.Refuses Missing)
 
 -- ---- all actions
 
--- what an action asks for, with these segments, this query, these fields and this body
-abbrev pub asked_for : Action → List (List ℕ) → List ℕ → List Header → List ℕ → Plan
-asked_for Does.Welcome segments query fields body = says Said.Welcome
-asked_for Does.Up segments query fields body = says Said.Up
-asked_for Does.ListDatabases segments query fields body = says Said.Databases
-asked_for Does.ReadDatabase segments query fields body = says Said.Database
-asked_for Does.CreateDatabase segments query fields body = says Said.DatabaseExists
-asked_for Does.DeleteDatabase segments query fields body = says Said.OneDatabase
-asked_for Does.Commit segments query fields body = says Said.Committed
-asked_for (Does.Takes endpoint) segments query fields body = taken endpoint (json_of body)
-asked_for Does.ListIndexes segments query fields body = asks list_indexes Shown.Plain
-asked_for Does.DropIndex segments query fields body = drop_plan segments
-asked_for Does.DropDesignIndex segments query fields body = drop_design_plan segments
-asked_for Does.ReadDocument segments query fields body = read_document segments (asks_conflicts query)
-asked_for Does.PostDocument segments query fields body = post_document (json_of body) query fields
-asked_for Does.PutDocument segments query fields body = put_document segments (json_of body) query fields
-asked_for Does.DeleteDocument segments query fields body = delete_document segments query fields
+-- what an action asks for, with the number that was drawn, these segments, this query, these fields and this body
+abbrev pub asked_for : ℕ → Action → List (List ℕ) → List ℕ → List Header → List ℕ → Plan
+asked_for drawn Does.Welcome segments query fields body = says Said.Welcome
+asked_for drawn Does.Up segments query fields body = says Said.Up
+asked_for drawn Does.ListDatabases segments query fields body = says Said.Databases
+asked_for drawn Does.MakeIds segments query fields body = ids_of drawn (count_given (value_in_query (codes "count") query))
+asked_for drawn Does.ReadDatabase segments query fields body = says Said.Database
+asked_for drawn Does.CreateDatabase segments query fields body = says Said.DatabaseExists
+asked_for drawn Does.DeleteDatabase segments query fields body = says Said.OneDatabase
+asked_for drawn Does.Commit segments query fields body = says Said.Committed
+asked_for drawn Does.WriteBulk segments query fields body = bulk_docs drawn body (json_of body)
+asked_for drawn (Does.Takes endpoint) segments query fields body = taken endpoint body (json_of body)
+asked_for drawn Does.ListIndexes segments query fields body = asks list_indexes Shown.Plain
+asked_for drawn Does.DropIndex segments query fields body = drop_plan segments
+asked_for drawn Does.DropDesignIndex segments query fields body = drop_design_plan segments
+asked_for drawn Does.ReadDocument segments query fields body = read_document segments (asks_conflicts query)
+asked_for drawn Does.PostDocument segments query fields body = post_document drawn body (json_of body) query fields
+asked_for drawn Does.PutDocument segments query fields body = put_document segments body (json_of body) query fields
+asked_for drawn Does.DeleteDocument segments query fields body = delete_document segments query fields
+asked_for drawn Does.PutDesign segments query fields body = says Said.NoDesign
 
 -- a request of another database: this server makes none
 abbrev pub elsewhere : Resource → Verb → Plan
@@ -155,24 +197,24 @@ unless_unanswered None plan = plan
 unless_unanswered (Some parameter) plan = says (Said.Unanswered parameter)
 
 -- what is asked of the resource that a path names, if the resource has the method
-abbrev pub plan_by : Option Action → Resource → List (List ℕ) → List ℕ → List Header → List ℕ → Plan
-plan_by None resource segments query fields body = says (Said.NotAllowed resource)
-plan_by (Some action) resource segments query fields body =
-    unless_unanswered (unanswered_in action query) (asked_for action segments query fields body)
+abbrev pub plan_by : ℕ → Option Action → Resource → List (List ℕ) → List ℕ → List Header → List ℕ → Plan
+plan_by drawn None resource segments query fields body = says (Said.NotAllowed resource)
+plan_by drawn (Some action) resource segments query fields body =
+    unless_unanswered (unanswered_in action query) (asked_for drawn action segments query fields body)
 
 -- what is asked of what a path names: something of this server and its database `db`, or of another database
-abbrev pub plan_for : List ℕ → Resource → List (List ℕ) → List ℕ → List ℕ → List Header → List ℕ → Plan
-plan_for db resource segments method query fields body =
+abbrev pub plan_for : List ℕ → ℕ → Resource → List (List ℕ) → List ℕ → List ℕ → List Header → List ℕ → Plan
+plan_for db drawn resource segments method query fields body =
     if is_of_server resource || names db segments
-    then plan_by (action_of (verb_of method) resource) resource segments query fields body
+    then plan_by drawn (action_of (verb_of method) resource) resource segments query fields body
     else elsewhere resource (verb_of method)
 
 -- and where the path names nothing
-abbrev pub plan_at : List ℕ → List (List ℕ) → List ℕ → List ℕ → List Header → List ℕ → Plan
-plan_at db segments method query fields body =
+abbrev pub plan_at : List ℕ → ℕ → List (List ℕ) → List ℕ → List ℕ → List Header → List ℕ → Plan
+plan_at db drawn segments method query fields body =
     if is_nowhere (resource_of segments) then says (Said.Refuses Missing)
-    else plan_for db (resource_of segments) segments method query fields body
+    else plan_for db drawn (resource_of segments) segments method query fields body
 
--- what a request asks of the database `db` and its server
-abbrev pub plan_of : List ℕ → Request → Plan
-plan_of db r = plan_at db (segments_of (path_in r.target)) r.method (query_in r.target) (fields_in r) r.body.items
+-- what a request asks of the database `db` and its server, where `drawn` is the number that was drawn for it
+abbrev pub plan_of : List ℕ → ℕ → Request → Plan
+plan_of db drawn r = plan_at db drawn (segments_of (path_in r.target)) r.method (query_in r.target) (fields_in r) r.body.items

@@ -3,7 +3,7 @@ use Rattle.std.specs.Prelude.{ℕ, Bool, true, false, ◌&&◌, ◌||◌, ◌==�
 use Rattle.std.specs.List.{slice_split}
 use Rattle.percent_encoding.specs.Percent.{percent_decode}
 use Rattle.mg_face.specs.declared.route.Resource.{Resource}
-use Rattle.mg_face.specs.declared.route.Resource.TheVariants.{Root, Up, AllDatabases, Database, FullCommit, BulkDocs, Find, Explain, Indexes, Index, DesignIndex, Placement, Document, Nowhere}
+use Rattle.mg_face.specs.declared.route.Resource.TheVariants.{Root, Up, AllDatabases, Ids, Database, FullCommit, BulkDocs, Find, Explain, Indexes, Index, DesignIndex, Placement, Design, Document, Nowhere}
 use Rattle.mg_face.specs.declared.action.Verb.{Verb}
 use Rattle.mg_face.specs.declared.action.Endpoint.TheVariants as Takes
 use Rattle.mg_face.specs.declared.action.Action.{Action}
@@ -21,13 +21,14 @@ abbrev pub is_reserved : List ℕ → Bool
 is_reserved [] = false
 is_reserved (b ∷ rest) = b == 95
 
--- `/`, `/_up`, `/_all_dbs`, `/{db}`
+-- `/`, `/_up`, `/_all_dbs`, `/_uuids`, `/{db}`
 abbrev pub server_resource : List ℕ → Resource
 server_resource segment =
     if length segment == 0 then Root
     else (if bytes_eq segment (codes "_up") then Up
     else (if bytes_eq segment (codes "_all_dbs") then AllDatabases
-    else (if is_reserved segment then Nowhere else Database)))
+    else (if bytes_eq segment (codes "_uuids") then Ids
+    else (if is_reserved segment then Nowhere else Database))))
 
 -- `/{db}/`, which is `/{db}`, `/{db}/_bulk_docs` and the others, `/{db}/{id}`
 abbrev pub database_resource : List ℕ → Resource
@@ -40,6 +41,10 @@ database_resource segment =
     else (if bytes_eq segment (codes "_ensure_full_commit") then FullCommit
     else (if bytes_eq segment (codes "_placement") then Placement
     else (if is_reserved segment then Nowhere else Document)))))))
+
+-- `/{db}/_design/{name}`
+abbrev pub three_resource : List ℕ → Resource
+three_resource design = if bytes_eq design (codes "_design") then Design else Nowhere
 
 -- `/{db}/_index/{ddoc}/json/{name}`
 abbrev pub index_resource : List ℕ → List ℕ → Resource
@@ -55,6 +60,7 @@ design_resource indexes design json =
 abbrev pub resource_of : List (List ℕ) → Resource
 resource_of (segment ∷ []) = server_resource segment
 resource_of (db ∷ segment ∷ []) = database_resource segment
+resource_of (db ∷ design ∷ name ∷ []) = three_resource design
 resource_of (db ∷ indexes ∷ ddoc ∷ json ∷ name ∷ []) = index_resource indexes json
 resource_of (db ∷ indexes ∷ design ∷ ddoc ∷ json ∷ name ∷ []) = design_resource indexes design json
 resource_of segments = Nowhere
@@ -69,6 +75,7 @@ abbrev pub is_of_server : Resource → Bool
 is_of_server Root = true
 is_of_server Up = true
 is_of_server AllDatabases = true
+is_of_server Ids = true
 is_of_server resource = false
 
 -- the first segment names this database
@@ -91,6 +98,7 @@ abbrev pub read_action : Resource → Option Action
 read_action Root = Some Does.Welcome
 read_action Up = Some Does.Up
 read_action AllDatabases = Some Does.ListDatabases
+read_action Ids = Some Does.MakeIds
 read_action Indexes = Some Does.ListIndexes
 read_action Database = Some Does.ReadDatabase
 read_action Document = Some Does.ReadDocument
@@ -100,7 +108,7 @@ read_action resource = None
 abbrev pub post_action : Resource → Option Action
 post_action Database = Some Does.PostDocument
 post_action FullCommit = Some Does.Commit
-post_action BulkDocs = Some (Does.Takes Takes.BulkDocs)
+post_action BulkDocs = Some Does.WriteBulk
 post_action Find = Some (Does.Takes Takes.Find)
 post_action Explain = Some (Does.Takes Takes.Explain)
 post_action Indexes = Some (Does.Takes Takes.CreateIndex)
@@ -111,6 +119,7 @@ post_action resource = None
 abbrev pub put_action : Resource → Option Action
 put_action Database = Some Does.CreateDatabase
 put_action Document = Some Does.PutDocument
+put_action Design = Some Does.PutDesign
 put_action resource = None
 
 -- the table of what `DELETE` asks

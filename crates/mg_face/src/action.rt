@@ -15,11 +15,9 @@ pub enum Verb {
     Other,
 }
 
-/// An endpoint that takes the body of a request.
+/// An endpoint that takes the body of a request as it is.
 #[derive(Clone, Copy, Debug, PartialEq, Eq)]
 pub enum Endpoint {
-    /// Writes a bulk of documents.
-    BulkDocs,
     /// Runs a query.
     Find,
     /// Explains a query.
@@ -39,6 +37,8 @@ pub enum Action {
     Up,
     /// The names of the databases.
     ListDatabases,
+    /// Ids that no document has.
+    MakeIds,
     /// What the database is.
     ReadDatabase,
     /// To make the database.
@@ -47,6 +47,8 @@ pub enum Action {
     DeleteDatabase,
     /// That each commit is kept.
     Commit,
+    /// To write the documents of a bulk.
+    WriteBulk,
     /// What the endpoint does with the body.
     Takes(Endpoint),
     ListIndexes,
@@ -60,6 +62,8 @@ pub enum Action {
     PutDocument,
     /// To delete the document of an id.
     DeleteDocument,
+    /// To write a design document.
+    PutDesign,
 }
 
 /// Returns what a method does.
@@ -86,6 +90,7 @@ fn read_action(resource: Resource) -> Option<Action>
         Resource::Root => Some(Action::Welcome),
         Resource::Up => Some(Action::Up),
         Resource::AllDatabases => Some(Action::ListDatabases),
+        Resource::Ids => Some(Action::MakeIds),
         Resource::Indexes => Some(Action::ListIndexes),
         Resource::Database => Some(Action::ReadDatabase),
         Resource::Document => Some(Action::ReadDocument),
@@ -99,7 +104,7 @@ fn post_action(resource: Resource) -> Option<Action>
     match resource {
         Resource::Database => Some(Action::PostDocument),
         Resource::FullCommit => Some(Action::Commit),
-        Resource::BulkDocs => Some(Action::Takes(Endpoint::BulkDocs)),
+        Resource::BulkDocs => Some(Action::WriteBulk),
         Resource::Find => Some(Action::Takes(Endpoint::Find)),
         Resource::Explain => Some(Action::Takes(Endpoint::Explain)),
         Resource::Indexes => Some(Action::Takes(Endpoint::CreateIndex)),
@@ -114,6 +119,7 @@ fn put_action(resource: Resource) -> Option<Action>
     match resource {
         Resource::Database => Some(Action::CreateDatabase),
         Resource::Document => Some(Action::PutDocument),
+        Resource::Design => Some(Action::PutDesign),
         _ => None,
     }
 }
@@ -151,6 +157,7 @@ pub(crate) fn allowed(resource: Resource) -> &'static [u8]
         Resource::Root => b"GET, HEAD",
         Resource::Up => b"GET, HEAD",
         Resource::AllDatabases => b"GET, HEAD",
+        Resource::Ids => b"GET, HEAD",
         Resource::Database => b"DELETE, GET, HEAD, POST, PUT",
         Resource::FullCommit => b"POST",
         Resource::BulkDocs => b"POST",
@@ -160,6 +167,7 @@ pub(crate) fn allowed(resource: Resource) -> &'static [u8]
         Resource::Index => b"DELETE",
         Resource::DesignIndex => b"DELETE",
         Resource::Placement => b"POST",
+        Resource::Design => b"PUT",
         Resource::Document => b"DELETE, GET, HEAD, PUT",
         Resource::Nowhere => b"",
     }

@@ -1,23 +1,29 @@
 //! Fills responses.
-ghost use Rattle.std.specs.Prelude.{Ok, Err, MatchResult, ◌≡◌, ◌++◌, ◌∷◌, [], codes, OnOk, IfOk};
+ghost use Rattle.std.specs.Prelude.{Ok, Err, MatchResult, ◌≡◌, ◌++◌, ◌∷◌, [], codes, map, OnOk, IfOk};
 ghost use Rattle.std.specs.Option.{option_map};
 ghost use Rattle.std.specs.String.{string_bytes};
 ghost use Rattle.mg_engine.specs.View.{reply_view};
+ghost use Rattle.mg_wire.specs.Request.{field_parts};
 ghost use Rattle.mg_wire.specs.Response.{listed, IsBlank};
-ghost use Rattle.mg_face.specs.Answer.{Answer, json, databases, database, unanswered_body, status_of, answer_of_said, quoted, tag_of, tagged, passed, IsAnswered, IsBegun, IsLack};
+ghost use Rattle.mg_face.specs.Answer.{Answer, json, databases, database, ids_body, count_body, wrong_body, unanswered_body, status_of, answer_of_said, document_answer, has_revision, is_listed, quoted, tag_of, unmodified, passed, IsAnswered, IsBegun, IsLack};
 ghost use Rattle.mg_face.specs.Face.{Shows};
 ghost use Rattle.mg_face.specs.Shown.{shown};
 
 use crate::action::allowed;
+use crate::count::CountFault;
+use crate::edit::field_of;
 use crate::edited::{Change, show_edit};
+use crate::fault::Fault;
+use crate::ids::id_list;
 use crate::parameter::Parameter;
 use crate::plan::Way;
 use crate::read::revision_in;
 use crate::route::Resource;
 use crate::said::{Clash, Said};
+use crate::tag::is_current;
 use mg_engine::{Refusal, Reply};
 use mg_value::{Json, NoMemory, write};
-use mg_wire::{Response, Status};
+use mg_wire::{Field, Response, Status};
 use std::alloc::Global;
 
 /// A longer text is no field of a response: so its fields always have room.
@@ -121,6 +127,53 @@ fn database(alloc: Global, db: &str) -> Result<Vec<u8>, NoMemory>
     Ok(body)
 }
 
+/// Lists so many ids, the first of which has this number.
+///
+/// Errors: out of memory.
+fn ids_body(alloc: Global, first: u128, count: usize) -> Result<Vec<u8>, NoMemory>
+    ensures { IfOk result (λ v. v.items ≡ ids_body first count) }
+{
+    let ids = id_list(alloc, first, count)?;
+    let mut value = Json::empty_object(alloc);
+    value.insert(alloc, "uuids", Json::List(ids))?;
+    let mut body = write(alloc, &value)?;
+    body.push(b'\n')?;
+    Ok(body)
+}
+
+fn count_body(fault: CountFault) -> &'static str
+    ensures { result.now ≡ count_body fault }
+{
+    match fault {
+        CountFault::NotPositive => {
+            "{\"error\":\"bad_request\",\"reason\":\"count must be a positive integer\"}\n"
+        }
+        CountFault::TooLarge => {
+            "{\"error\":\"bad_request\",\"reason\":\"count parameter too large\"}\n"
+        }
+    }
+}
+
+fn wrong_body(fault: Fault) -> &'static str
+    ensures { result.now ≡ wrong_body fault }
+{
+    match fault {
+        Fault::Documents => {
+            "{\"error\":\"bad_request\",\"reason\":\"docs: an array of objects\"}\n"
+        }
+        Fault::NewEdits => "{\"error\":\"bad_request\",\"reason\":\"new_edits: true or false\"}\n",
+        Fault::Selector => "{\"error\":\"bad_request\",\"reason\":\"selector: an object\"}\n",
+        Fault::Limit => {
+            "{\"error\":\"bad_request\",\"reason\":\"limit: a whole number from 0 to 2147483647\"}\n"
+        }
+        Fault::Skip => {
+            "{\"error\":\"bad_request\",\"reason\":\"skip: a whole number from 0 to 2147483647\"}\n"
+        }
+        Fault::Bookmark => "{\"error\":\"bad_request\",\"reason\":\"bookmark: a string\"}\n",
+        Fault::Conflicts => "{\"error\":\"bad_request\",\"reason\":\"conflicts: true or false\"}\n",
+    }
+}
+
 /// Refuses a parameter, with its name.
 ///
 /// Errors: out of memory.
@@ -173,6 +226,22 @@ fn refuse_method(alloc: Global, response: &mut Response, resource: Resource) -> 
     add_field(response, b"allow", allowed(resource))
 }
 
+/// Says ids, which a cache is not to keep.
+///
+/// Errors: out of memory.
+fn say_ids(
+    alloc: Global,
+    response: &mut Response,
+    first: u128,
+    count: usize,
+) -> Result<(), NoMemory>
+    requires { IsBegun response.old }
+    ensures { OnOk result (IsAnswered (answer_of_said [] (Said.Ids first count)) response.new) }
+{
+    fill_made(response, Status::Ok, ids_body(alloc, first, count))?;
+    add_field(response, b"cache-control", b"no-cache")
+}
+
 /// Says where a document and its request disagree.
 ///
 /// Errors: out of memory.
@@ -217,6 +286,8 @@ pub(crate) fn say(
         ),
         Said::Up => fill_text(alloc, response, Status::Ok, "{\"status\":\"ok\"}\n"),
         Said::Databases => fill_made(response, Status::Ok, databases(alloc, db)),
+        Said::Ids(first, count) => say_ids(alloc, response, first, count),
+        Said::BadCount(fault) => fill_text(alloc, response, Status::BadRequest, count_body(fault)),
         Said::Database => fill_made(response, Status::Ok, database(alloc, db)),
         Said::DatabaseExists => fill_text(
             alloc,
@@ -243,6 +314,25 @@ pub(crate) fn say(
             unanswered_body(alloc, parameter),
         ),
         Said::Clashes(clash) => say_clash(alloc, response, clash),
+        Said::Wrong(fault) => fill_text(alloc, response, Status::BadRequest, wrong_body(fault)),
+        Said::NotWhole => fill_text(
+            alloc,
+            response,
+            Status::BadRequest,
+            "{\"error\":\"bad_request\",\"reason\":\"numbers are whole here: a number has a point, an exponent or more than 64 bits.\"}\n",
+        ),
+        Said::Attached => fill_text(
+            alloc,
+            response,
+            Status::BadRequest,
+            "{\"error\":\"doc_validation\",\"reason\":\"_attachments: this server keeps no attachments.\"}\n",
+        ),
+        Said::NoDesign => fill_text(
+            alloc,
+            response,
+            Status::Forbidden,
+            "{\"error\":\"forbidden\",\"reason\":\"A design document is made by POST to _index.\"}\n",
+        ),
         Said::Refuses(refusal) => {
             fill_text(alloc, response, status_of(refusal.status()), refusal.body())
         }
@@ -293,43 +383,92 @@ pub(crate) fn add_tag(
     add_field(response, b"etag", tag.as_slice())
 }
 
-/// Shows an answer that may show a document: it then has the document's revision as `ETag`.
+/// Whether the client says that it has the document at the revision.
+///
+/// Errors: out of memory.
+fn has_revision(alloc: Global, fields: &[Field], revision: &str) -> Result<bool, NoMemory>
+    ensures { IfOk result (λ b. b ≡ has_revision (map field_parts fields.now) revision.now) }
+{
+    match field_of(fields, b"if-none-match") {
+        Some(tags) => {
+            let current = quoted(alloc, revision)?;
+            Ok(is_current(tags, current.as_slice()))
+        }
+        None => Ok(false),
+    }
+}
+
+/// Shows a document at its revision, or that the client has it.
+///
+/// Errors: out of memory.
+fn show_revision(
+    alloc: Global,
+    fields: &[Field],
+    response: &mut Response,
+    status: Status,
+    body: Vec<u8>,
+    revision: Option<String>,
+) -> Result<(), NoMemory>
+    requires { IsBegun response.old }
+    ensures { OnOk result
+        (IsAnswered (document_answer (map field_parts fields.now) (option_map string_bytes revision)
+        (json status body.items)) response.new) }
+{
+    let Some(revision) = revision else {
+        fill(response, status, body);
+        return Ok(());
+    };
+    if has_revision(alloc, fields, revision.as_str())? {
+        fill(response, Status::NotModified, Vec::new(alloc));
+        add_tag(alloc, response, revision.as_str())
+    } else {
+        fill(response, status, body);
+        add_tag(alloc, response, revision.as_str())
+    }
+}
+
+/// Shows an answer that may show a document.
 ///
 /// Errors: out of memory.
 fn show_document(
     alloc: Global,
+    fields: &[Field],
     response: &mut Response,
     status: u16,
     body: Vec<u8>,
 ) -> Result<(), NoMemory>
     requires { IsBegun response.old }
     ensures { OnOk result
-        (IsAnswered (shown [] Way.Document (record { status = status; body = body.items })) response.new) }
+        (IsAnswered (shown [] (map field_parts fields.now) Way.Document
+        (record { status = status; body = body.items })) response.new) }
 {
     if status == 200 {
         let revision = revision_in(alloc, body.as_slice())?;
-        fill(response, status_of(status), body);
-        match revision {
-            Some(revision) => add_tag(alloc, response, revision.as_str()),
-            None => Ok(()),
-        }
+        show_revision(alloc, fields, response, status_of(status), body, revision)
     } else {
         fill(response, status_of(status), body);
         Ok(())
     }
 }
 
-/// Shows an answer of the database in a response that has begun.
-pub(crate) fn show(alloc: Global, db: &str, response: &mut Response, way: Way, reply: Reply)
+/// Shows an answer of the database, to a request with these fields, in a response that has begun.
+pub(crate) fn show(
+    alloc: Global,
+    db: &str,
+    fields: &[Field],
+    response: &mut Response,
+    way: Way,
+    reply: Reply,
+)
     requires { IsBegun response.old }
-    ensures { Shows db.now way (reply_view reply) response.new }
+    ensures { Shows db.now (map field_parts fields.now) way (reply_view reply) response.new }
 {
     match reply {
         Reply::NoMemory => lack(alloc, response),
         Reply::Full { status, body } => match way {
             Way::Plain => fill(response, status_of(status), body),
             Way::Document => {
-                if show_document(alloc, response, status, body).is_err() {
+                if show_document(alloc, fields, response, status, body).is_err() {
                     lack(alloc, response);
                 }
             }

@@ -6,9 +6,11 @@ ghost use Rattle.mg_value.specs.View.{view};
 ghost use Rattle.mg_wire.specs.Request.{field_parts};
 ghost use Rattle.mg_face.specs.Json.{json_of};
 ghost use Rattle.mg_face.specs.Edit.{with_given, with_revisions, revision_in_query, revision_in_fields};
-ghost use Rattle.mg_face.specs.Plan.{plan_view, document_of, read_document, edit_of, edit_at, post_document, put_at, put_document, delete_at, delete_document};
+ghost use Rattle.mg_face.specs.Plan.{plan_view, document_of, read_document, edit_of, edit_at, post_document, put_at, put_document, if_found, delete_at, delete_document};
 
 use crate::edit::{bulk_with, deletion, with_given, with_revisions};
+use crate::endpoint::unread;
+use crate::ids::with_id;
 use crate::plan::{Plan, Way};
 use crate::read::read_tree;
 use crate::said::{Clash, Said};
@@ -51,6 +53,9 @@ fn edit_of(alloc: Global, document: Option<Json>, way: Way) -> Result<Plan, NoMe
 {
     match document {
         Some(document) => {
+            if document.member("_attachments").is_some() {
+                return Ok(Plan::Says(Said::Attached));
+            }
             let bulk = bulk_with(alloc, document)?;
             Ok(Plan::Asks(Command::Bulk(bulk), way))
         }
@@ -85,16 +90,20 @@ fn edit_at(
 /// Errors: out of memory.
 pub(crate) fn post_document(
     alloc: Global,
+    drawn: u128,
     query: &[u8],
     fields: &[Field],
     body: &[u8],
 ) -> Result<Plan, NoMemory>
     ensures { IfOk result (λ p. plan_view p
-        ≡ post_document (json_of body.now) query.now (map field_parts fields.now)) }
+        ≡ post_document drawn body.now (json_of body.now) query.now (map field_parts fields.now)) }
 {
     match read_tree(alloc, body)? {
-        Some(document) => edit_at(alloc, Some(document), query, fields, Way::Written),
-        None => Ok(Plan::Says(Said::Refuses(Refusal::InvalidJson))),
+        Some(document) => {
+            let document = with_id(alloc, drawn, document)?;
+            edit_at(alloc, Some(document), query, fields, Way::Written)
+        }
+        None => unread(alloc, body),
     }
 }
 
@@ -110,7 +119,8 @@ fn put_at(
 ) -> Result<Plan, NoMemory>
     ensures { IfOk result
         (λ p. plan_view p
-        ≡ put_at (option_map string_bytes id) (json_of body.now) query.now (map field_parts fields.now)) }
+        ≡ put_at (option_map string_bytes id) body.now (json_of body.now) query.now
+        (map field_parts fields.now)) }
 {
     let Some(id) = id else {
         return Ok(Plan::Says(Said::Refuses(Refusal::Missing)));
@@ -120,7 +130,7 @@ fn put_at(
             let document = with_given(alloc, "_id", Some(id), document)?;
             edit_at(alloc, document, query, fields, Way::Written)
         }
-        None => Ok(Plan::Says(Said::Refuses(Refusal::InvalidJson))),
+        None => unread(alloc, body),
     }
 }
 
@@ -136,7 +146,7 @@ pub(crate) fn put_document(
 ) -> Result<Plan, NoMemory>
     ensures { IfOk result
         (λ p. plan_view p
-        ≡ put_document (map (λ s. s.now) segments.now) (json_of body.now) query.now
+        ≡ put_document (map (λ s. s.now) segments.now) body.now (json_of body.now) query.now
         (map field_parts fields.now)) }
 {
     match segments {
@@ -148,7 +158,17 @@ pub(crate) fn put_document(
     }
 }
 
-/// Returns the deletion of the document of an id.
+/// Returns the command of a plan, only if a document with this id is found.
+fn if_found(id: String, plan: Plan) -> Plan
+    ensures { plan_view result ≡ if_found (string_bytes id) (plan_view plan) }
+{
+    match plan {
+        Plan::Asks(command, way) => Plan::Finds(id, command, way),
+        plan => plan,
+    }
+}
+
+/// Returns the deletion of the document of an id, which has to be there.
 ///
 /// Errors: out of memory.
 fn delete_at(
@@ -163,9 +183,11 @@ fn delete_at(
     let Some(id) = id else {
         return Ok(Plan::Says(Said::Refuses(Refusal::Missing)));
     };
+    let named = String::from_str(alloc, id.as_str())?;
     let document = deletion(alloc)?;
-    let document = with_given(alloc, "_id", Some(id), document)?;
-    edit_at(alloc, document, query, fields, Way::Deleted)
+    let document = with_given(alloc, "_id", Some(named), document)?;
+    let plan = edit_at(alloc, document, query, fields, Way::Deleted)?;
+    Ok(if_found(id, plan))
 }
 
 /// Returns what a `DELETE` of `/{db}/{id}` asks for.

@@ -6,7 +6,7 @@ ghost use Rattle.std.specs.Str.Lossy.{utf8_lossy};
 ghost use Rattle.form_urlencoded.specs.Form.{decode};
 ghost use Rattle.mg_value.specs.View.{view};
 ghost use Rattle.mg_wire.specs.Request.{field_parts};
-ghost use Rattle.mg_face.specs.Edit.{revision_in_query, unquoted, field_of, revision_in_fields, agrees, with_given, with_revisions, bulk_with, deletion};
+ghost use Rattle.mg_face.specs.Edit.{value_in_query, revision_in_query, unquoted, field_of, revision_in_fields, agrees, with_given, with_revisions, bulk_with, deletion};
 
 use form_urlencoded::{decode, raw_pairs};
 use http1::text::eq_ignore_case;
@@ -15,14 +15,14 @@ use mg_value::{Json, NoMemory};
 use mg_wire::Field;
 use std::alloc::{AllocError, Global};
 
-/// Whether a name decodes to `rev`.
+/// Whether a name of a query encodes this one.
 ///
 /// Errors: out of memory.
-fn is_revision(alloc: Global, name: &[u8]) -> Result<bool, AllocError>
-    ensures { IfOk result (λ b. b ≡ bytes_eq (utf8_lossy (decode name.now)) (codes "rev")) }
+fn encodes(alloc: Global, encoded: &[u8], name: &str) -> Result<bool, AllocError>
+    ensures { IfOk result (λ b. b ≡ bytes_eq (utf8_lossy (decode encoded.now)) name.now) }
 {
-    let name = decode(alloc, name)?;
-    Ok(name.as_str() == "rev")
+    let decoded = decode(alloc, encoded)?;
+    Ok(decoded.as_str() == name)
 }
 
 /// Returns the text that a value of a query encodes.
@@ -35,14 +35,18 @@ fn value_text(alloc: Global, value: &[u8]) -> Result<String, AllocError>
     String::from_str(alloc, value.as_str())
 }
 
-/// Returns the revision that a query names.
+/// Returns the value that a query gives the parameter of this name.
 ///
 /// Errors: out of memory.
-fn revision_in_query(alloc: Global, query: &[u8]) -> Result<Option<String>, AllocError>
-    ensures { IfOk result (λ o. option_map string_bytes o ≡ revision_in_query query.now) }
+pub(crate) fn value_in_query(
+    alloc: Global,
+    query: &[u8],
+    name: &str,
+) -> Result<Option<String>, AllocError>
+    ensures { IfOk result (λ o. option_map string_bytes o ≡ value_in_query name.now query.now) }
 {
-    for (name, value) in raw_pairs(query) {
-        if is_revision(alloc, name)? {
+    for (encoded, value) in raw_pairs(query) {
+        if encodes(alloc, encoded, name)? {
             return Ok(Some(value_text(alloc, value)?));
         }
     }
@@ -59,12 +63,12 @@ fn unquoted(tag: &[u8]) -> &[u8]
     }
 }
 
-/// Returns the value of the first `If-Match`.
-fn if_match(fields: &[Field]) -> Option<&[u8]>
-    ensures { option_map (λ v. v.now) result ≡ field_of (codes "if-match") (map field_parts fields.now) }
+/// Returns the value of the first field with this name, in any case.
+pub(crate) fn field_of<'f>(fields: &'f [Field], name: &[u8]) -> Option<&'f [u8]>
+    ensures { option_map (λ v. v.now) result ≡ field_of name.now (map field_parts fields.now) }
 {
     for field in fields {
-        if eq_ignore_case(field.name.as_slice(), b"if-match") {
+        if eq_ignore_case(field.name.as_slice(), name) {
             return Some(field.value.as_slice());
         }
     }
@@ -77,7 +81,7 @@ fn if_match(fields: &[Field]) -> Option<&[u8]>
 fn revision_in_fields(alloc: Global, fields: &[Field]) -> Result<Option<String>, AllocError>
     ensures { IfOk result (λ o. option_map string_bytes o ≡ revision_in_fields (map field_parts fields.now)) }
 {
-    match if_match(fields) {
+    match field_of(fields, b"if-match") {
         Some(tag) => Ok(Some(String::from_utf8_lossy(alloc, unquoted(tag))?)),
         None => Ok(None),
     }
@@ -131,7 +135,7 @@ pub(crate) fn with_revisions(
         ≡ with_revisions (revision_in_query query.now) (revision_in_fields (map field_parts fields.now))
         (view document)) }
 {
-    let revision = revision_in_query(alloc, query)?;
+    let revision = value_in_query(alloc, query, "rev")?;
     let tag = revision_in_fields(alloc, fields)?;
     match with_given(alloc, "_rev", revision, document)? {
         Some(document) => with_given(alloc, "_rev", tag, document),

@@ -1,17 +1,24 @@
 //! The service.
 ghost use denote.Param.Send.{IsSync};
-ghost use Rattle.std.specs.Prelude.{◌≡◌};
+ghost use Rattle.std.specs.Prelude.{◌≡◌, map};
 ghost use Rattle.std.specs.String.{string_bytes};
+ghost use Rattle.mg_wire.specs.Request.{field_parts, fields_in};
+ghost use Rattle.mg_wire.specs.Response.{IsBlank};
 ghost use Rattle.mg_face.specs.Answer.{IsBegun};
-ghost use Rattle.mg_face.specs.Face.{Carries, Serves};
-ghost use Rattle.mg_face.specs.Plan.{plan_view};
+ghost use Rattle.mg_engine.specs.View.{command_view, reply_view};
+ghost use Rattle.mg_face.specs.Face.{Carries, GoesOn, IsFound, IsShown, Serves};
+ghost use Rattle.mg_face.specs.Plan.{plan_of, plan_view};
 
-use crate::answer::{begin, lack, say, show};
-use crate::plan::{Plan, plan_of};
+use crate::answer::{begin, fill, lack, say, show, status_of};
+use crate::ids::draw;
+use crate::plan::{Plan, Way, plan_of};
+use mg_engine::{Command, Reply};
 use mg_http::Service as Store;
 use mg_live::Database;
 use mg_server::{Handover, Learner};
-use mg_wire::{Request, Response, Service};
+use mg_wire::{Field, Request, Response, Service};
+use rand_chacha::ChaCha20Rng;
+use rand_core::SeedableRng;
 use std::alloc::Global;
 use std::marker::{Model, PhantomData};
 use std::sync::Wait;
@@ -23,6 +30,8 @@ pub struct Face<D: Database, S: Drop> {
     alloc: Global,
     db: String,
     store: S,
+    /// Draws a number for each request, from which its ids are counted.
+    source: ChaCha20Rng,
     of: PhantomData<D>,
 }
 
@@ -40,8 +49,9 @@ impl<D: Database, S: Drop> Model for Face<D, S> {
 }
 
 impl<D: Database, S: Store + Drop> Face<D, S> {
-    /// Makes the face of a store; `db` is the name of the database. Takes no memory.
-    pub fn new(alloc: Global, db: String, store: S) -> Face<D, S>
+    /// Makes the face of a store; `db` is the name of the database. The seed is a secret of the system's random source, and no other face
+    /// gets it: so no two faces give an id twice. Takes no memory.
+    pub fn new(alloc: Global, db: String, seed: [u8; 32], store: S) -> Face<D, S>
         requires { string_bytes db ≡ D.db }
         ensures { result ≡ store }
     {
@@ -49,15 +59,93 @@ impl<D: Database, S: Store + Drop> Face<D, S> {
             alloc,
             db,
             store,
+            source: ChaCha20Rng::from_seed(seed),
             of: PhantomData,
         }
     }
 
-    /// Carries out a plan, in a response that has begun.
-    fn carry_out<H: Wait + Threads + Sync>(&mut self, rt: &H, plan: Plan, response: &mut Response)
+    /// Executes a command, and shows its answer in a response that has begun.
+    fn execute<H: Wait + Threads + Sync>(
+        &mut self,
+        rt: &H,
+        fields: &[Field],
+        command: Command,
+        way: Way,
+        response: &mut Response,
+    )
         requires sync { IsSync H.row }
         requires begun { IsBegun response.old }
-        ensures { Carries S.answers D.db (plan_view plan) self.old response.new self.new }
+        ensures { IsShown S.answers D.db (map field_parts fields.now) (command_view command) way self.old response.new self.new }
+    {
+        let reply = self.store.ask(rt, self.alloc, command);
+        show(self.alloc, self.db.as_str(), fields, response, way, reply);
+    }
+
+    /// Executes the command after the reply to a `Get` that found its document; else shows this reply.
+    fn go_on<H: Wait + Threads + Sync>(
+        &mut self,
+        rt: &H,
+        fields: &[Field],
+        reply: Reply,
+        command: Command,
+        way: Way,
+        response: &mut Response,
+    )
+        requires sync { IsSync H.row }
+        requires begun { IsBegun response.old }
+        ensures { GoesOn S.answers D.db (map field_parts fields.now) (reply_view reply) (command_view command) way
+            self.old response.new self.new }
+    {
+        match reply {
+            Reply::NoMemory => {
+                drop(command);
+                lack(self.alloc, response);
+            }
+            Reply::Full { status, body } => {
+                if status == 200 {
+                    self.execute(rt, fields, command, way, response);
+                } else {
+                    drop(command);
+                    fill(response, status_of(status), body);
+                }
+            }
+        }
+    }
+
+    /// Executes a command if a document with this id is found; else shows why it is not.
+    fn find<H: Wait + Threads + Sync>(
+        &mut self,
+        rt: &H,
+        fields: &[Field],
+        id: String,
+        command: Command,
+        way: Way,
+        response: &mut Response,
+    )
+        requires sync { IsSync H.row }
+        requires begun { IsBegun response.old }
+        ensures { IsFound S.answers D.db (map field_parts fields.now) (string_bytes id) (command_view command) way
+            self.old response.new self.new }
+    {
+        let get = Command::Get {
+            id,
+            conflicts: false,
+        };
+        let reply = self.store.ask(rt, self.alloc, get);
+        self.go_on(rt, fields, reply, command, way, response);
+    }
+
+    /// Carries out the plan of a request with these fields, in a response that has begun.
+    fn carry_out<H: Wait + Threads + Sync>(
+        &mut self,
+        rt: &H,
+        fields: &[Field],
+        plan: Plan,
+        response: &mut Response,
+    )
+        requires sync { IsSync H.row }
+        requires begun { IsBegun response.old }
+        ensures { Carries S.answers D.db (map field_parts fields.now) (plan_view plan) self.old response.new self.new }
     {
         match plan {
             Plan::Says(said) => {
@@ -65,10 +153,31 @@ impl<D: Database, S: Store + Drop> Face<D, S> {
                     lack(self.alloc, response);
                 }
             }
-            Plan::Asks(command, way) => {
-                let reply = self.store.ask(rt, self.alloc, command);
-                show(self.alloc, self.db.as_str(), response, way, reply);
-            }
+            Plan::Asks(command, way) => self.execute(rt, fields, command, way, response),
+            Plan::Finds(id, command, way) => self.find(rt, fields, id, command, way, response),
+        }
+    }
+
+    /// Answers a request, for which this number was drawn.
+    fn answer<H: Wait + Threads + Sync>(
+        &mut self,
+        rt: &H,
+        drawn: u128,
+        request: &Request,
+        response: &mut Response,
+    )
+        requires sync { IsSync H.row }
+        requires blank { IsBlank response.old }
+        ensures { Carries S.answers D.db (fields_in request.now) (plan_of D.db drawn request.now)
+            self.old response.new self.new }
+    {
+        if begin(response).is_err() {
+            lack(self.alloc, response);
+            return;
+        }
+        match plan_of(self.alloc, self.db.as_str(), drawn, request) {
+            Ok(plan) => self.carry_out(rt, request.fields.as_slice(), plan, response),
+            Err(_) => lack(self.alloc, response),
         }
     }
 }
@@ -83,14 +192,8 @@ impl<D: Database, S: Store + Drop> Service for Face<D, S> {
         request: &Request,
         response: &mut Response,
     ) {
-        if begin(response).is_err() {
-            lack(self.alloc, response);
-            return;
-        }
-        match plan_of(self.alloc, self.db.as_str(), request) {
-            Ok(plan) => self.carry_out(rt, plan, response),
-            Err(_) => lack(self.alloc, response),
-        }
+        let drawn = draw(&mut self.source);
+        self.answer(rt, drawn, request, response);
     }
 }
 

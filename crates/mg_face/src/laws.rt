@@ -1,5 +1,6 @@
 //! Laws of the face, each the contract of a function that does nothing.
 ghost use Rattle.std.specs.Prelude.{◌≡◌, ◌⊎◌, ◌≤◌, ℕ, List, codes, IsUtf8};
+ghost use Rattle.http1.specs.Fields.{Header};
 ghost use Rattle.mg_value.specs.Held.{IsHeld};
 ghost use Rattle.mg_value.specs.Text.{compact};
 ghost use Rattle.mg_value.specs.Value.{Value, depth};
@@ -14,7 +15,7 @@ ghost use Rattle.mg_wire.specs.declared.response.Response.{Response};
 ghost use Rattle.mg_wire.specs.declared.status.Status.TheVariants as Status;
 ghost use Rattle.mg_face.specs.declared.edited.Change.{Change};
 ghost use Rattle.mg_face.specs.declared.plan.Way.TheVariants as Way;
-ghost use Rattle.mg_face.specs.Answer.{IsLack, json, tagged};
+ghost use Rattle.mg_face.specs.Answer.{IsLack, document_answer, json};
 ghost use Rattle.mg_face.specs.Edited.{edited, list_with, made_answer, one_entry};
 ghost use Rattle.mg_face.specs.Face.{Serves};
 ghost use Rattle.mg_face.specs.Json.{string_at};
@@ -29,11 +30,12 @@ pub fn a_seat_answers_as_defined()
         → IsAnsweredAfter db old request response new ⊎ IsLack response }
 {}
 
-/// A document that is shown has its own revision as `ETag`, if the code can hold it and it nests at most 127 deep.
+/// A document that is shown has its own revision as `ETag`, and is 304 for a client that has this revision, if the code can hold it and it nests
+/// at most 127 deep.
 pub fn a_tag_is_the_revision_shown()
-    ensures { (db : List ℕ) (v : Value) → IsHeld v → depth v ≤ 127 → IsUtf8 (compact v)
-        → shown db Way.Document (ok_answer v)
-        ≡ tagged (string_at (codes "_rev") v) (json Status.Ok (line_of v)) }
+    ensures { (db : List ℕ) (fields : List Header) (v : Value) → IsHeld v → depth v ≤ 127 → IsUtf8 (compact v)
+        → shown db fields Way.Document (ok_answer v)
+        ≡ document_answer fields (string_at (codes "_rev") v) (json Status.Ok (line_of v)) }
 {}
 
 /// One edit is shown as what became of it: at its revision if it was made; if it was refused, as 409 for the reason of its refusal.

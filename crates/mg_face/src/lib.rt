@@ -4,18 +4,23 @@
 //! specs/Edited.antt what is answered. A parameter of a query that changes a meaning in CouchDB and is not of the table is refused by its name.
 //!
 //! Promises. `Face` is a service of `mg_wire` over a store that answers commands. `answer_of` (specs/Face.antt) defines the answer to each
-//! request in each world, and `commands_of` the command that it executes: at most one. What a `Face` responds is that answer, or a 503 for
-//! want of memory; a 503 after the store was asked is possible only where the answer has fields of its own (`MayLack`). Law:
-//! `a_seat_answers_as_defined`.
+//! request in each world, and `commands_of` the commands that it executes, of which at most one writes. What a `Face` responds is that answer,
+//! or a 503 for want of memory; a 503 after the store was asked is possible only where the answer has fields of its own (`MayLack`). A number is
+//! drawn for each request, from a source that the program seeds; ids are counted from it (`id_text`), and both definitions take it. Where a
+//! document is looked for before it is deleted, the definition has one world; on a seat the deletion is executed after the commits of the look,
+//! or more (`IsLookedFor`). Laws: `a_seat_answers_as_defined`, `a_tag_is_the_revision_shown`, `an_edit_is_shown`.
 #![tactic(auto)]
 
 mod action;
 mod answer;
+mod count;
 mod document;
 mod edit;
 mod edited;
 mod endpoint;
 mod face;
+mod fault;
+mod ids;
 mod index;
 pub mod laws;
 mod parameter;
@@ -23,11 +28,14 @@ mod plan;
 mod read;
 mod route;
 mod said;
+mod tag;
 mod text;
 
 pub use crate::action::{Action, Endpoint, Verb};
+pub use crate::count::{CountFault, MAX_COUNT};
 pub use crate::edited::{Change, SEGMENT};
 pub use crate::face::Face;
+pub use crate::fault::Fault;
 pub use crate::parameter::Parameter;
 pub use crate::plan::{Plan, Way};
 pub use crate::route::Resource;

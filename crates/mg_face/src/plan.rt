@@ -1,11 +1,17 @@
 //! From a request to what is said at once, or what is asked of the database.
-ghost use Rattle.std.specs.Prelude.{◌≡◌, map, IfOk};
+ghost use Rattle.std.specs.Prelude.{◌≡◌, codes, map, IfOk};
 ghost use Rattle.mg_wire.specs.Request.{field_parts, fields_in};
-ghost use Rattle.mg_face.specs.Plan.{plan_view, asked_for, elsewhere, plan_by, plan_at, plan_of};
+ghost use Rattle.std.specs.Option.{option_map};
+ghost use Rattle.std.specs.String.{string_bytes};
+ghost use Rattle.mg_face.specs.Count.{count_given};
+ghost use Rattle.mg_face.specs.Edit.{value_in_query};
+ghost use Rattle.mg_face.specs.Plan.{plan_view, ids_of, asked_for, elsewhere, plan_by, plan_at, plan_of};
 
 use crate::action::{Action, Verb, action_of, verb_of};
+use crate::count::{CountFault, count_in};
 use crate::document::{delete_document, post_document, put_document, read_document};
-use crate::endpoint::taken;
+use crate::edit::value_in_query;
+use crate::endpoint::{bulk_docs, taken};
 use crate::index::{drop_design_plan, drop_plan};
 use crate::parameter::{asks_conflicts, unanswered_in};
 use crate::route::{Resource, is_here, is_nowhere, resource_of, segments_of};
@@ -36,6 +42,32 @@ pub enum Plan {
     Says(Said),
     /// The command is executed, and its answer is shown in this way.
     Asks(Command, Way),
+    /// The same, if a document with this id is found; else the answer of its `Get` is shown.
+    Finds(String, Command, Way),
+}
+
+/// Returns the ids that a query asks for, counted from the number that was drawn.
+///
+/// Errors: out of memory.
+fn ids_of(alloc: Global, drawn: u128, query: &[u8]) -> Result<Plan, NoMemory>
+    ensures { IfOk result (λ p. plan_view p
+        ≡ ids_of drawn (count_given (value_in_query (codes "count") query.now))) }
+{
+    let count = value_in_query(alloc, query, "count")?;
+    match count_of(count) {
+        Ok(count) => Ok(Plan::Says(Said::Ids(drawn, count))),
+        Err(fault) => Ok(Plan::Says(Said::BadCount(fault))),
+    }
+}
+
+/// Returns how many ids a text asks for.
+fn count_of(text: Option<String>) -> Result<usize, CountFault>
+    ensures { result ≡ count_given (option_map string_bytes text) }
+{
+    match text {
+        Some(text) => count_in(Some(text.as_str())),
+        None => count_in(None),
+    }
 }
 
 /// Returns what an action asks for.
@@ -43,6 +75,7 @@ pub enum Plan {
 /// Errors: out of memory.
 fn asked_for(
     alloc: Global,
+    drawn: u128,
     action: Action,
     segments: &[&[u8]],
     query: &[u8],
@@ -50,16 +83,18 @@ fn asked_for(
     body: &[u8],
 ) -> Result<Plan, NoMemory>
     ensures { IfOk result (λ p. plan_view p
-        ≡ asked_for action (map (λ s. s.now) segments.now) query.now (map field_parts fields.now) body.now) }
+        ≡ asked_for drawn action (map (λ s. s.now) segments.now) query.now (map field_parts fields.now) body.now) }
 {
     match action {
         Action::Welcome => Ok(Plan::Says(Said::Welcome)),
         Action::Up => Ok(Plan::Says(Said::Up)),
         Action::ListDatabases => Ok(Plan::Says(Said::Databases)),
+        Action::MakeIds => ids_of(alloc, drawn, query),
         Action::ReadDatabase => Ok(Plan::Says(Said::Database)),
         Action::CreateDatabase => Ok(Plan::Says(Said::DatabaseExists)),
         Action::DeleteDatabase => Ok(Plan::Says(Said::OneDatabase)),
         Action::Commit => Ok(Plan::Says(Said::Committed)),
+        Action::WriteBulk => bulk_docs(alloc, drawn, body),
         Action::Takes(endpoint) => taken(alloc, endpoint, body),
         Action::ListIndexes => Ok(Plan::Asks(Command::ListIndexes, Way::Plain)),
         Action::DropIndex => drop_plan(alloc, segments),
@@ -68,9 +103,10 @@ fn asked_for(
             let conflicts = asks_conflicts(alloc, query)?;
             read_document(alloc, segments, conflicts)
         }
-        Action::PostDocument => post_document(alloc, query, fields, body),
+        Action::PostDocument => post_document(alloc, drawn, query, fields, body),
         Action::PutDocument => put_document(alloc, segments, query, fields, body),
         Action::DeleteDocument => delete_document(alloc, segments, query, fields),
+        Action::PutDesign => Ok(Plan::Says(Said::NoDesign)),
     }
 }
 
@@ -92,6 +128,7 @@ fn elsewhere(resource: Resource, verb: Verb) -> Plan
 /// Errors: out of memory.
 fn plan_by(
     alloc: Global,
+    drawn: u128,
     action: Option<Action>,
     resource: Resource,
     segments: &[&[u8]],
@@ -100,7 +137,7 @@ fn plan_by(
     body: &[u8],
 ) -> Result<Plan, NoMemory>
     ensures { IfOk result (λ p. plan_view p
-        ≡ plan_by action resource (map (λ s. s.now) segments.now) query.now (map field_parts fields.now)
+        ≡ plan_by drawn action resource (map (λ s. s.now) segments.now) query.now (map field_parts fields.now)
         body.now) }
 {
     let Some(action) = action else {
@@ -108,7 +145,7 @@ fn plan_by(
     };
     match unanswered_in(alloc, action, query)? {
         Some(parameter) => Ok(Plan::Says(Said::Unanswered(parameter))),
-        None => asked_for(alloc, action, segments, query, fields, body),
+        None => asked_for(alloc, drawn, action, segments, query, fields, body),
     }
 }
 
@@ -118,13 +155,14 @@ fn plan_by(
 fn plan_at(
     alloc: Global,
     db: &str,
+    drawn: u128,
     segments: &[&[u8]],
     query: &[u8],
     request: &Request,
 ) -> Result<Plan, NoMemory>
     ensures { IfOk result
         (λ p. plan_view p
-        ≡ plan_at db.now (map (λ s. s.now) segments.now) request.now.method query.now
+        ≡ plan_at db.now drawn (map (λ s. s.now) segments.now) request.now.method query.now
         (fields_in request.now) request.now.body.items) }
 {
     let resource = resource_of(segments);
@@ -136,6 +174,7 @@ fn plan_at(
         let action = action_of(verb, resource);
         plan_by(
             alloc,
+            drawn,
             action,
             resource,
             segments,
@@ -148,13 +187,18 @@ fn plan_at(
     }
 }
 
-/// Returns what a request asks of the database and its server.
+/// Returns what a request asks of the database and its server, where `drawn` is the number that was drawn for it.
 ///
 /// Errors: out of memory.
-pub(crate) fn plan_of(alloc: Global, db: &str, request: &Request) -> Result<Plan, NoMemory>
-    ensures { IfOk result (λ p. plan_view p ≡ plan_of db.now request.now) }
+pub(crate) fn plan_of(
+    alloc: Global,
+    db: &str,
+    drawn: u128,
+    request: &Request,
+) -> Result<Plan, NoMemory>
+    ensures { IfOk result (λ p. plan_view p ≡ plan_of db.now drawn request.now) }
 {
     let (path, query) = split_query(request.target.as_slice());
     let segments = segments_of(alloc, path)?;
-    plan_at(alloc, db, segments.as_slice(), query, request)
+    plan_at(alloc, db, drawn, segments.as_slice(), query, request)
 }

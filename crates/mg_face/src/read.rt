@@ -3,7 +3,7 @@ ghost use Rattle.std.specs.Prelude.{◌≡◌, ◌-◌, take, length, IfOk};
 ghost use Rattle.std.specs.Option.{option_map};
 ghost use Rattle.std.specs.String.{string_bytes};
 ghost use Rattle.mg_value.specs.View.{view};
-ghost use Rattle.mg_face.specs.Json.{json_of, string_of, string_at};
+ghost use Rattle.mg_face.specs.Json.{json_of, is_json, string_of, string_at};
 ghost use Rattle.mg_face.specs.Answer.{revision_in};
 
 use mg_packed::{Kind, Packed, Part};
@@ -38,6 +38,22 @@ pub(crate) fn read_tree(alloc: Global, bytes: &[u8]) -> Result<Option<Json>, NoM
         Ok(value) => Ok(Some(value)),
         Err(ReadError::NotJson) => Ok(None),
         Err(ReadError::NotWhole) => Ok(None),
+        Err(ReadError::NoMemory) => Err(NoMemory),
+    }
+}
+
+/// Whether bytes that no value was read from are a JSON text, with a number that is not whole.
+///
+/// Errors: out of memory.
+#[tactic(auto, using(crate::proofs::JsonLemmas::is_text, crate::proofs::JsonLemmas::is_no_text))]
+pub(crate) fn is_json(alloc: Global, bytes: &[u8]) -> Result<bool, NoMemory>
+    ensures { IfOk result (λ b. b ≡ is_json bytes.now) }
+{
+    let mut buffer = ReadBuffer::new(alloc);
+    match read_in(alloc, bytes, &mut buffer) {
+        Ok(_) => Ok(true),
+        Err(ReadError::NotJson) => Ok(false),
+        Err(ReadError::NotWhole) => Ok(true),
         Err(ReadError::NoMemory) => Err(NoMemory),
     }
 }

@@ -2,7 +2,7 @@
 ghost use Rattle.std.specs.Prelude.{◌≡◌, ◌==◌, ◌||◌, bytes_eq, map, IfOk};
 ghost use Rattle.std.specs.List.{slice_split};
 ghost use Rattle.percent_encoding.specs.Percent.{percent_decode};
-ghost use Rattle.mg_face.specs.Routes.{segments_of, is_reserved, server_resource, database_resource, index_resource, design_resource, resource_of, is_nowhere, is_of_server, names};
+ghost use Rattle.mg_face.specs.Routes.{segments_of, is_reserved, server_resource, database_resource, three_resource, index_resource, design_resource, resource_of, is_nowhere, is_of_server, names};
 
 use percent_encoding::percent_decode;
 use std::alloc::{AllocError, Global};
@@ -17,6 +17,8 @@ pub enum Resource {
     Up,
     /// `/_all_dbs`
     AllDatabases,
+    /// `/_uuids`
+    Ids,
     /// `/{db}`
     Database,
     /// `/{db}/_ensure_full_commit`
@@ -35,6 +37,8 @@ pub enum Resource {
     DesignIndex,
     /// `/{db}/_placement`
     Placement,
+    /// `/{db}/_design/{name}`
+    Design,
     /// `/{db}/{id}`
     Document,
     /// Nothing that this server has.
@@ -78,6 +82,8 @@ fn server_resource(segment: &[u8]) -> Resource
         Resource::Up
     } else if segment == b"_all_dbs".as_slice() {
         Resource::AllDatabases
+    } else if segment == b"_uuids".as_slice() {
+        Resource::Ids
     } else if is_reserved(segment) {
         Resource::Nowhere
     } else {
@@ -106,6 +112,16 @@ fn database_resource(segment: &[u8]) -> Resource
         Resource::Nowhere
     } else {
         Resource::Document
+    }
+}
+
+fn three_resource(design: &[u8]) -> Resource
+    ensures { result ≡ three_resource design.now }
+{
+    if design == b"_design".as_slice() {
+        Resource::Design
+    } else {
+        Resource::Nowhere
     }
 }
 
@@ -139,6 +155,7 @@ pub(crate) fn resource_of(segments: &[&[u8]]) -> Resource
     match segments {
         [segment] => server_resource(*segment),
         [_, segment] => database_resource(*segment),
+        [_, design, _] => three_resource(*design),
         [_, indexes, _, json, _] => index_resource(*indexes, *json),
         [_, indexes, design, _, json, _] => design_resource(*indexes, *design, *json),
         _ => Resource::Nowhere,
@@ -159,7 +176,7 @@ fn is_of_server(resource: Resource) -> bool
     ensures { result ≡ is_of_server resource }
 {
     match resource {
-        Resource::Root | Resource::Up | Resource::AllDatabases => true,
+        Resource::Root | Resource::Up | Resource::AllDatabases | Resource::Ids => true,
         _ => false,
     }
 }

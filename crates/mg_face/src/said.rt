@@ -1,4 +1,6 @@
 //! What is said at once.
+use crate::count::CountFault;
+use crate::fault::Fault;
 use crate::parameter::Parameter;
 use crate::route::Resource;
 use mg_engine::Refusal;
@@ -19,6 +21,10 @@ pub enum Said {
     Up,
     /// The names of the databases.
     Databases,
+    /// So many ids, the first of which has this number.
+    Ids(u128, usize),
+    /// The number of ids is refused.
+    BadCount(CountFault),
     /// What the database is.
     Database,
     /// The database cannot be made: it is there.
@@ -33,5 +39,13 @@ pub enum Said {
     Unanswered(Parameter),
     /// The document has another id or revision than the request.
     Clashes(Clash),
+    /// A member of the body has the wrong shape.
+    Wrong(Fault),
+    /// The body is a JSON text with a number that is not whole.
+    NotWhole,
+    /// The document has attachments.
+    Attached,
+    /// A design document is not written: an index is made by `_index`.
+    NoDesign,
     Refuses(Refusal),
 }

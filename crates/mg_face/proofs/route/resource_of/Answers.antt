@@ -1,5 +1,9 @@
-use Rattle.mg_face.proofs.SegmentLemmas.{five_segments, six_segments}
+use Rattle.mg_face.proofs.SegmentLemmas.{three_segments, five_segments, six_segments}
 use Rattle.mg_face.proofs.route.resource_of.Goals as goal
+
+pub returns-in-len3 : goal.returns-in-len3
+returns-in-len3 c =
+    three_segments (λ s. s.now) c.args.segments.now _ c.three_resource.result c.three_resource.ensures c.in-len3.len_at_least c.in-len3.len_below
 
 pub returns-in-len5 : goal.returns-in-len5
 returns-in-len5 c =
