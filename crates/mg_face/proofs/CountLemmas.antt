@@ -1,7 +1,6 @@
 -- A number above the most is too large.
-use Rattle.std.proofs.Common.{◌≡◌, ℕ, ◌<◌, Bool, true, false, cond, eqb, nat_le, Result, Ok, Err, arith}
+use Rattle.std.proofs.Common.{◌≡◌, ℕ, ◌<◌, false, cond, eqb, nat_le, Ok, Err, arith}
 use Rattle.std.proofs.lemmas.Bool.Decides.{nat_tests}
-use Rattle.mg_face.specs.declared.count.CountFault.{CountFault}
 use Rattle.mg_face.specs.declared.count.CountFault.TheVariants.{NotPositive, TooLarge}
 use Rattle.mg_face.specs.Count.{count_of}
 

@@ -1,11 +1,10 @@
 -- A face over a seat: each plan is carried out at a world.
-use Rattle.std.proofs.Common.{◌≡◌, ◌⊎◌, inl, inr, ℕ, ◌==◌, List, Bool, true, false, Option, Some, None, refl, sym, ap, subst}
+use Rattle.std.proofs.Common.{◌≡◌, ◌⊎◌, inl, inr, ℕ, List, Bool, true, false, Option, Some, None, refl, sym, subst}
 use Rattle.http1.specs.Fields.{Header}
 use Rattle.std.specs.Prelude.{MatchBool}
 use Rattle.mg_engine.specs.Commands as engine
 use Rattle.mg_engine.specs.Commands.{Asked, get, is_write, reply_of}
 use Rattle.mg_live.specs.SeatView.{SeatView, SeatReads, SeatWrites, Answered}
-use Rattle.mg_machine.specs.Machine.{world_of}
 use Rattle.mg_wire.specs.declared.response.Response.{Response}
 use Rattle.mg_face.specs.declared.plan.Way.{Way}
 use Rattle.mg_face.specs.Plan.{Plan, says, asks, finds}

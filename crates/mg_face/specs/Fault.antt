@@ -1,5 +1,5 @@
 -- Members of a body that have the wrong shape. A member that is absent has it only where it is required.
-use Rattle.std.specs.Prelude.{ℕ, pos, Bool, true, false, not, nat_le, codes, Option, Some, None, if◌then◌else◌}
+use Rattle.std.specs.Prelude.{pos, Bool, true, false, not, nat_le, codes, Option, Some, None, if◌then◌else◌}
 use Rattle.mg_value.specs.Value.{Value, null, flag, whole, text, list, object, member_of}
 use Rattle.mg_face.specs.declared.fault.Fault.{Fault}
 use Rattle.mg_face.specs.declared.fault.Fault.TheVariants as Of

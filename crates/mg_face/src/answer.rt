@@ -2,28 +2,19 @@
 ghost use Rattle.std.specs.Prelude.{Ok, Err, MatchResult, ◌≡◌, ◌++◌, ◌∷◌, [], codes, map, OnOk, IfOk};
 ghost use Rattle.std.specs.Option.{option_map};
 ghost use Rattle.std.specs.String.{string_bytes};
-ghost use Rattle.mg_engine.specs.View.{reply_view};
-ghost use Rattle.mg_wire.specs.Request.{field_parts};
 ghost use Rattle.mg_wire.specs.Response.{listed, IsBlank};
-ghost use Rattle.mg_face.specs.Answer.{Answer, json, databases, database, ids_body, count_body, wrong_body, unanswered_body, status_of, answer_of_said, document_answer, has_revision, is_listed, quoted, tag_of, unmodified, passed, IsAnswered, IsBegun, IsLack};
-ghost use Rattle.mg_face.specs.Face.{Shows};
-ghost use Rattle.mg_face.specs.Shown.{shown};
+ghost use Rattle.mg_face.specs.Answer.{Answer, json, databases, database, ids_body, count_body, wrong_body, unanswered_body, status_of, answer_of_said, quoted, tag_of, passed, IsAnswered, IsBegun, IsLack};
 
 use crate::action::allowed;
 use crate::count::CountFault;
-use crate::edit::field_of;
-use crate::edited::{Change, show_edit};
 use crate::fault::Fault;
 use crate::ids::id_list;
 use crate::parameter::Parameter;
-use crate::plan::Way;
-use crate::read::revision_in;
 use crate::route::Resource;
 use crate::said::{Clash, Said};
-use crate::tag::is_current;
-use mg_engine::{Refusal, Reply};
+use mg_engine::Refusal;
 use mg_value::{Json, NoMemory, write};
-use mg_wire::{Field, Response, Status};
+use mg_wire::{Response, Status};
 use std::alloc::Global;
 
 /// A longer text is no field of a response: so its fields always have room.
@@ -353,7 +344,7 @@ pub(crate) fn lack(alloc: Global, response: &mut Response)
 /// Writes a text in double quotes.
 ///
 /// Errors: out of memory.
-fn quoted(alloc: Global, text: &str) -> Result<Vec<u8>, NoMemory>
+pub(crate) fn quoted(alloc: Global, text: &str) -> Result<Vec<u8>, NoMemory>
     ensures { IfOk result (λ v. v.items ≡ quoted text.now) }
 {
     let mut tag = Vec::new(alloc);
@@ -381,107 +372,4 @@ pub(crate) fn add_tag(
     }
     let tag = quoted(alloc, revision)?;
     add_field(response, b"etag", tag.as_slice())
-}
-
-/// Whether the client says that it has the document at the revision.
-///
-/// Errors: out of memory.
-fn has_revision(alloc: Global, fields: &[Field], revision: &str) -> Result<bool, NoMemory>
-    ensures { IfOk result (λ b. b ≡ has_revision (map field_parts fields.now) revision.now) }
-{
-    match field_of(fields, b"if-none-match") {
-        Some(tags) => {
-            let current = quoted(alloc, revision)?;
-            Ok(is_current(tags, current.as_slice()))
-        }
-        None => Ok(false),
-    }
-}
-
-/// Shows a document at its revision, or that the client has it.
-///
-/// Errors: out of memory.
-fn show_revision(
-    alloc: Global,
-    fields: &[Field],
-    response: &mut Response,
-    status: Status,
-    body: Vec<u8>,
-    revision: Option<String>,
-) -> Result<(), NoMemory>
-    requires { IsBegun response.old }
-    ensures { OnOk result
-        (IsAnswered (document_answer (map field_parts fields.now) (option_map string_bytes revision)
-        (json status body.items)) response.new) }
-{
-    let Some(revision) = revision else {
-        fill(response, status, body);
-        return Ok(());
-    };
-    if has_revision(alloc, fields, revision.as_str())? {
-        fill(response, Status::NotModified, Vec::new(alloc));
-        add_tag(alloc, response, revision.as_str())
-    } else {
-        fill(response, status, body);
-        add_tag(alloc, response, revision.as_str())
-    }
-}
-
-/// Shows an answer that may show a document.
-///
-/// Errors: out of memory.
-fn show_document(
-    alloc: Global,
-    fields: &[Field],
-    response: &mut Response,
-    status: u16,
-    body: Vec<u8>,
-) -> Result<(), NoMemory>
-    requires { IsBegun response.old }
-    ensures { OnOk result
-        (IsAnswered (shown [] (map field_parts fields.now) Way.Document
-        (record { status = status; body = body.items })) response.new) }
-{
-    if status == 200 {
-        let revision = revision_in(alloc, body.as_slice())?;
-        show_revision(alloc, fields, response, status_of(status), body, revision)
-    } else {
-        fill(response, status_of(status), body);
-        Ok(())
-    }
-}
-
-/// Shows an answer of the database, to a request with these fields, in a response that has begun.
-pub(crate) fn show(
-    alloc: Global,
-    db: &str,
-    fields: &[Field],
-    response: &mut Response,
-    way: Way,
-    reply: Reply,
-)
-    requires { IsBegun response.old }
-    ensures { Shows db.now (map field_parts fields.now) way (reply_view reply) response.new }
-{
-    match reply {
-        Reply::NoMemory => lack(alloc, response),
-        Reply::Full { status, body } => match way {
-            Way::Plain => fill(response, status_of(status), body),
-            Way::Document => {
-                if show_document(alloc, fields, response, status, body).is_err() {
-                    lack(alloc, response);
-                }
-            }
-            Way::Written => {
-                if show_edit(alloc, db, response, Change::Written, status, body).is_err() {
-                    lack(alloc, response);
-                }
-            }
-            Way::Deleted => {
-                if show_edit(alloc, db, response, Change::Deleted, status, body).is_err() {
-                    lack(alloc, response);
-                }
-            }
-        },
-    }
 }

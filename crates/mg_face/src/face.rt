@@ -9,9 +9,10 @@ ghost use Rattle.mg_engine.specs.View.{command_view, reply_view};
 ghost use Rattle.mg_face.specs.Face.{Carries, GoesOn, IsFound, IsShown, Serves};
 ghost use Rattle.mg_face.specs.Plan.{plan_of, plan_view};
 
-use crate::answer::{begin, fill, lack, say, show, status_of};
+use crate::answer::{begin, fill, lack, say, status_of};
 use crate::ids::draw;
 use crate::plan::{Plan, Way, plan_of};
+use crate::show::show;
 use mg_engine::{Command, Reply};
 use mg_http::Service as Store;
 use mg_live::Database;

@@ -28,6 +28,7 @@ mod plan;
 mod read;
 mod route;
 mod said;
+mod show;
 mod tag;
 mod text;
 

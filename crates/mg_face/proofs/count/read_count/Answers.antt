@@ -1,4 +1,4 @@
-use Rattle.std.proofs.Common.{◌≡◌, ◌+◌, get_or, sym, arith, ◌<◌, true, false, nat_le}
+use Rattle.std.proofs.Common.{◌≡◌, ◌+◌, get_or, sym, arith, ◌<◌, true}
 use Rattle.std.specs.Str.Parse.{digits_value}
 use Rattle.std.specs.Char.{digit_value, is_ascii_digit}
 use Rattle.std.proofs.lemmas.Bool.Decides.{nat_tests}

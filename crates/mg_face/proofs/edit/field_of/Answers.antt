@@ -1,5 +1,4 @@
 use Rattle.std.proofs.Common.{◌≡◌, ℕ, List, true, false, ap, ◌∙◌, sym, add-one, Some}
-use Rattle.std.specs.Prelude.{codes}
 use Rattle.std.specs.Option.{option_map}
 use Rattle.http1.specs.Fields.{Header}
 use Rattle.http1.specs.Text.{eq_ignore_case}

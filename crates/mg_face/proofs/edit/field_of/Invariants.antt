@@ -1,5 +1,5 @@
 use Rattle.std.proofs.Common.{◌≡◌, map, take, None}
-use Rattle.std.specs.Prelude.{codes, find}
+use Rattle.std.specs.Prelude.{find}
 use Rattle.http1.specs.Text.{eq_ignore_case}
 use Rattle.mg_wire.specs.Request.{field_parts}
 use Rattle.mg_face.proofs.edit.field_of.Given as goal

@@ -1,7 +1,6 @@
 use Rattle.std.proofs.Common.{◌≡◌, List, map, sym, ap, ◌∙◌}
 use Rattle.mg_value.specs.Value.{Value, list}
 use Rattle.mg_value.specs.View.{view, items_of}
-use Rattle.mg_value.specs.declared.value.Json.{Json}
 use Rattle.mg_value.proofs.Items.{item_list-items_of}
 use Rattle.mg_value.proofs.Views.{view-List}
 use Rattle.mg_face.specs.Ids.{with_ids, documents_with_ids}

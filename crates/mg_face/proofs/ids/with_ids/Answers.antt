@@ -1,10 +1,10 @@
-use Rattle.std.proofs.Common.{◌≡◌, ℕ, List, [], ◌∷◌, ◌++◌, map, sym, ap, ap₂, ◌∙◌, append_assoc, append-nil}
+use Rattle.std.proofs.Common.{◌≡◌, List, [], ◌∷◌, ◌++◌, map, sym, ap, ap₂, ◌∙◌, append_assoc, append-nil}
 use Rattle.std.proofs.lemmas.List.{map-append}
 use Rattle.std.specs.Vec.Iter.{into_iter_items}
 use Rattle.mg_value.specs.Value.{Value}
 use Rattle.mg_value.specs.View.{view}
 use Rattle.mg_value.specs.declared.value.Json.{Json}
-use Rattle.mg_face.specs.Ids.{number_after, with_id, with_ids}
+use Rattle.mg_face.specs.Ids.{number_after, with_ids}
 use Rattle.mg_face.proofs.ItemLemmas.{nothing}
 use Rattle.mg_face.proofs.ids.with_ids.Goals as goal
 

@@ -1,5 +1,4 @@
-use Rattle.std.proofs.Common.{ℕ, List, ◌==◌, rules, tests}
-use Rattle.std.specs.List.{slice_split}
+use Rattle.std.proofs.Common.{ℕ, List, rules, tests}
 use Rattle.std.proofs.lemmas.Iterator.Search.{any_from_yields_List}
 use Rattle.std.proofs.lemmas.Iterator.Splits.{YieldsList-from_slice_split}
 use Rattle.mg_face.specs.Tag.{is_same_tag, is_blank}

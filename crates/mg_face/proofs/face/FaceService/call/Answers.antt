@@ -1,4 +1,4 @@
-use Rattle.std.proofs.Common.{◌≡◌, sym}
+use Rattle.std.proofs.Common.{◌≡◌}
 use Rattle.mg_face.proofs.face.FaceService.call.Goals as goal
 
 pub returns : goal.returns
