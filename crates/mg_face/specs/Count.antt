@@ -5,7 +5,6 @@ use Rattle.std.specs.List.{list_all}
 use Rattle.std.specs.Str.Parse.{digits_value}
 use Rattle.mg_face.specs.declared.count.CountFault.{CountFault}
 use Rattle.mg_face.specs.declared.count.CountFault.TheVariants.{NotPositive, TooLarge}
-use Rattle.mg_face.specs.declared.count.TheConstants.{MAX_COUNT}
 
 -- a text is a whole number: decimal digits
 abbrev pub is_number : List ℕ → Bool
@@ -13,7 +12,7 @@ is_number s = nat_lt 0 (length s) && list_all is_ascii_digit s
 
 -- a number of ids: from 1 to 1,000
 abbrev pub count_of : ℕ → Result ℕ CountFault
-count_of n = if n == 0 then Err NotPositive else (if nat_le n MAX_COUNT then Ok n else Err TooLarge)
+count_of n = if n == 0 then Err NotPositive else (if nat_le n 1000 then Ok n else Err TooLarge)
 
 -- the number of ids that a parameter asks for; without one, 1
 abbrev pub count_given : Option (List ℕ) → Result ℕ CountFault
