@@ -77,7 +77,7 @@ def functions_of(file, text):
                 clause_from = token.end()
             if owners and owners[-1][0] == depth:
                 owners.pop()
-        elif word == ";" and head is not None and not opened and "(" not in text[clause_from:token.start()].split(")")[-1]:
+        elif word == ";" and head is not None and not opened and not is_in_brackets(text[clause_from:token.start()]):
             head = None
     return found
 
@@ -85,6 +85,11 @@ def functions_of(file, text):
 def is_clause(text):
     """Whether a brace behind this text, which begins at the function's name or behind its last clause, opens a clause."""
     return bool(OPENS_CLAUSE.search(re.sub(r"//[^\n]*", "", text)))
+
+
+def is_in_brackets(text):
+    """Whether a place behind this text is within square brackets, as in the type of an array."""
+    return text.count("[") > text.count("]")
 
 
 def pairs_of(edit):
