@@ -12,6 +12,8 @@ OPENS_CLAUSE = re.compile(r"\b(?:requires|ensures)\*?\s*\w*\s*$|\bghost\s+[\w ]+
 PLACE = re.compile(r"(?:note: )?(?:\./)?(\S+?):(\d+):\d+: ")
 # a proof that names what an edit took away says nothing of the contract
 NAMES = re.compile(r"(?:note: )?(?:\./)?proofs/.*(?:has no field|is not in scope|has no `|was not admitted)")
+GOAL = re.compile(r"`([\w-]+)`")
+OPEN = re.compile(r"^not proved|did not prove `")
 JUDGED = re.compile(r"^fn \w+::(\S+): (.*)$", re.MULTILINE)
 
 
@@ -20,7 +22,9 @@ class Function:
 
     def __init__(self, file, name, owner, text, head, begin, end):
         self.file, self.name, self.owner, self.begin, self.end = file, name, owner, begin, end
-        self.lines = range(text.count("\n", 0, head) + 1, text.count("\n", 0, end) + 2)
+        # the names of the functions of the file, by which the goals of a cycle of calls begin
+        self.beside = []
+        self.lines = range(text.count("\n", 0, head) + 2, text.count("\n", 0, end) + 2)
         self.module = [] if file in ("src/lib.rt", "src/main.rt") else file.removeprefix("src/").removesuffix(".rt").split("/")
 
     def fits(self, words):
@@ -30,12 +34,17 @@ class Function:
         owned = [self.owner] if self.owner else []
         return here == self.module and last == self.name and len(between) == len(owned) and all(map(str.startswith, between, owned))
 
-    def owns(self, file, line):
-        """Whether a complaint at this place is about the function."""
+    def owns(self, complaint):
+        """Whether a complaint is about the function: it lies there or in the folder of its proof, or names its goal in that of a cycle of calls."""
+        file, line = PLACE.match(complaint).groups()
         if file == self.file:
-            return line in self.lines
-        words = file.split("/")
-        return words[0] == "proofs" and len(words) > 2 and self.fits(words[1:-1])
+            return int(line) in self.lines
+        top, *words = file.split("/")[:-1]
+        if top != "proofs" or not words or words[:len(self.module)] != self.module or not words[-1].startswith("+"):
+            return top == "proofs" and bool(words) and self.fits(words)
+        goal = GOAL.search(complaint)
+        of = goal and next((it for it in self.beside if goal[1].startswith(f"{it}-")), words[-1][1:])
+        return of == self.name
 
 
 def owner_of(head):
@@ -53,11 +62,13 @@ def functions_of(file, text):
     head = clause_from = None
     impl_from = None
     opened = None
+    # the end of what stands before a function's comment and attributes
+    behind = 0
     for token in TOKEN.finditer(text):
         word = token[0]
         if token[2]:
             if head is None:
-                head, clause_from = (token.start(), token[2]), token.end()
+                head, clause_from = (behind, token[2]), token.end()
         elif word == "impl" and head is None:
             impl_from = token.end()
         elif word == "{":
@@ -79,6 +90,11 @@ def functions_of(file, text):
                 owners.pop()
         elif word == ";" and head is not None and not opened and not is_in_brackets(text[clause_from:token.start()]):
             head = None
+        if word in ("{", "}", ";"):
+            behind = token.end()
+    names = sorted({it.name for it in found}, key=len, reverse=True)
+    for it in found:
+        it.beside = names
     return found
 
 
@@ -149,10 +165,10 @@ def judged(body, said):
     verdicts = [word for it in body.functions for path, word in paths if it.fits(path)]
     if not verdicts:
         return "unjudged", "no verdict"
-    told = [line for line in said.splitlines() if (place := PLACE.match(line)) and any(it.owns(place[1], int(place[2])) for it in body.functions)
-            and (": error" in line or line.startswith("note: "))]
+    told = [line for line in said.splitlines() if PLACE.match(line) and (": error" in line or line.startswith("note: "))
+            and any(it.owns(line) for it in body.functions)]
     telling = [line for line in told if not NAMES.match(line)]
-    if telling and "not proved" in verdicts:
+    if telling and any(OPEN.search(word) and "it calls" not in word for word in verdicts):
         return "refused", telling[0][:160]
     if all(word == "proved" for word in verdicts):
         return "proved", "the function is proved"
