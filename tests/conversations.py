@@ -28,7 +28,7 @@ def main():
             for line, fault in faults_of_run(args.program, conversation, shards, workers, reshards):
                 faults.append(f"\n  line {line}, {setting}: {fault}")
         tally.count(f"{conversation.file.name}: {conversation.name}", faults)
-    print(f"each conversation on {len(settings)} settings (numbers of shards and of workers, reshards between the messages or none):")
+    print(f"every-sharding, each conversation on {len(settings)} settings (numbers of shards and of workers, reshards between the messages or none):")
     return tally.end()
 
 
