@@ -17,6 +17,26 @@ use mg_value::{Json, NoMemory, write};
 use mg_wire::{Response, Status};
 use std::alloc::Global;
 
+const WELCOME: &str =
+    "{\"couchdb\":\"Welcome\",\"version\":\"3.3.3\",\"vendor\":{\"name\":\"mango_server\",\"version\":\"1.0.0\"}}\n";
+
+const DATABASE_EXISTS: &str =
+    "{\"error\":\"file_exists\",\"reason\":\"The database could not be created, the file already exists.\"}\n";
+
+const ONE_DATABASE: &str =
+    "{\"error\":\"forbidden\",\"reason\":\"This server keeps one database.\"}\n";
+
+const COMMITTED: &str = "{\"instance_start_time\":\"0\",\"ok\":true}\n";
+
+const NOT_WHOLE: &str =
+    "{\"error\":\"bad_request\",\"reason\":\"numbers are whole here: a number has a point, an exponent or more than 64 bits.\"}\n";
+
+const ATTACHED: &str =
+    "{\"error\":\"doc_validation\",\"reason\":\"_attachments: this server keeps no attachments.\"}\n";
+
+const NO_DESIGN: &str =
+    "{\"error\":\"forbidden\",\"reason\":\"A design document is made by POST to _index.\"}\n";
+
 /// A longer text is no field of a response: so its fields always have room.
 pub(crate) const MAX_VALUE: usize = 2048;
 
@@ -269,12 +289,7 @@ pub(crate) fn say(
     ensures { OnOk result (IsAnswered (answer_of_said db.now said) response.new) }
 {
     match said {
-        Said::Welcome => fill_text(
-            alloc,
-            response,
-            Status::Ok,
-            "{\"couchdb\":\"Welcome\",\"version\":\"3.3.3\",\"vendor\":{\"name\":\"mango_server\",\"version\":\"1.0.0\"}}\n",
-        ),
+        Said::Welcome => fill_text(alloc, response, Status::Ok, WELCOME),
         Said::Up => fill_text(alloc, response, Status::Ok, "{\"status\":\"ok\"}\n"),
         Said::Databases => fill_made(response, Status::Ok, databases(alloc, db)),
         Said::Ids(first, count) => say_ids(alloc, response, first, count),
@@ -284,20 +299,10 @@ pub(crate) fn say(
             alloc,
             response,
             Status::PreconditionFailed,
-            "{\"error\":\"file_exists\",\"reason\":\"The database could not be created, the file already exists.\"}\n",
+            DATABASE_EXISTS,
         ),
-        Said::OneDatabase => fill_text(
-            alloc,
-            response,
-            Status::Forbidden,
-            "{\"error\":\"forbidden\",\"reason\":\"This server keeps one database.\"}\n",
-        ),
-        Said::Committed => fill_text(
-            alloc,
-            response,
-            Status::Created,
-            "{\"instance_start_time\":\"0\",\"ok\":true}\n",
-        ),
+        Said::OneDatabase => fill_text(alloc, response, Status::Forbidden, ONE_DATABASE),
+        Said::Committed => fill_text(alloc, response, Status::Created, COMMITTED),
         Said::NotAllowed(resource) => refuse_method(alloc, response, resource),
         Said::Unanswered(parameter) => fill_made(
             response,
@@ -306,24 +311,9 @@ pub(crate) fn say(
         ),
         Said::Clashes(clash) => say_clash(alloc, response, clash),
         Said::Wrong(fault) => fill_text(alloc, response, Status::BadRequest, wrong_body(fault)),
-        Said::NotWhole => fill_text(
-            alloc,
-            response,
-            Status::BadRequest,
-            "{\"error\":\"bad_request\",\"reason\":\"numbers are whole here: a number has a point, an exponent or more than 64 bits.\"}\n",
-        ),
-        Said::Attached => fill_text(
-            alloc,
-            response,
-            Status::BadRequest,
-            "{\"error\":\"doc_validation\",\"reason\":\"_attachments: this server keeps no attachments.\"}\n",
-        ),
-        Said::NoDesign => fill_text(
-            alloc,
-            response,
-            Status::Forbidden,
-            "{\"error\":\"forbidden\",\"reason\":\"A design document is made by POST to _index.\"}\n",
-        ),
+        Said::NotWhole => fill_text(alloc, response, Status::BadRequest, NOT_WHOLE),
+        Said::Attached => fill_text(alloc, response, Status::BadRequest, ATTACHED),
+        Said::NoDesign => fill_text(alloc, response, Status::Forbidden, NO_DESIGN),
         Said::Refuses(refusal) => {
             fill_text(alloc, response, status_of(refusal.status()), refusal.body())
         }

@@ -51,7 +51,7 @@ impl<D: Database, S: Drop> Model for Face<D, S> {
 
 impl<D: Database, S: Store + Drop> Face<D, S> {
     /// Makes the face of a store; `db` is the name of the database. The seed is a secret of the system's random source, and no other face
-    /// gets it: so no two faces give an id twice. Takes no memory.
+    /// gets it, so that ids of two faces are the same only by chance. Takes no memory.
     pub fn new(alloc: Global, db: String, seed: [u8; 32], store: S) -> Face<D, S>
         requires { string_bytes db ≡ D.db }
         ensures { result ≡ store }
