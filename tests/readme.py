@@ -5,8 +5,8 @@ usage: readme.py --program PATH [--part conversations|readme|tutorial|command]
 
 `readme` is the section "Run it" of README.md up to its text block, `tutorial` is docs/TUTORIAL.md; `conversations`, the default, is both.
 The commands of the `sh` blocks run in one shell, from the top of the repository; their output must be the `text` blocks, joined. The
-program takes the place of `rt try` and of crates/mangod/out/mangod, free ports that of 5984 and 5985, and a new folder that of /tmp. Needs
-`curl`.
+program takes the place of crates/mangod/out/mangod, crates/mango_server/out/mango_server that of its `rt try`, free ports that of 5984 and
+5985, and a new folder that of /tmp. Needs `curl`.
 `command` is the `sh` block of README.md with `printf`, unchanged, which builds and runs the program without proving it: its output must end
 in the bytes of crates/mangod/stdout. Needs `rt`. The last line is 'N passed, M failed'.
 """
@@ -25,9 +25,8 @@ from common.tally import Tally
 SECONDS = 60
 PATIENCE = 1800
 TOP = Path(__file__).resolve().parent.parent
-LIST = '{"indexes":[{"ddoc":null,"def":{"fields":[{"_id":"asc"}]},"name":"_all_docs","type":"special"}],"total_rows":1}\n'
 # the first command of README.md, up to the program's arguments
-TRY = re.compile(r"\(cd crates/mangod && rt try --seconds [0-9]+ -- (.*)\) &")
+TRY = re.compile(r"\(cd (crates/mango_server) && rt try --seconds [0-9]+ -- (.*)\) &")
 KILL = "trap 'kill $(jobs -p)' EXIT\n"
 
 
@@ -43,7 +42,7 @@ def run(commands, program):
         ports = {"5984": str(free_port()), "5985": str(free_port())}
         commands = re.sub("598[45]", lambda port: ports[port.group()], commands)
         commands = commands.replace("crates/mangod/out/mangod", str(program))
-        commands = KILL + TRY.sub(lambda start: f"{program} {start.group(1)} &", commands)
+        commands = KILL + TRY.sub(r"\1/out/mango_server \2 2> /dev/null &", commands)
         shell = subprocess.Popen(["bash", "-c", commands], cwd=TOP, stdin=subprocess.DEVNULL, stdout=subprocess.PIPE,
                                  stderr=subprocess.PIPE, text=True, start_new_session=True)
         try:
@@ -55,12 +54,12 @@ def run(commands, program):
 
 
 def check_readme(program, tally):
-    """The first two commands start a server and print its list of indexes, which README.md does not show; then comes the conversation."""
-    section = (TOP / "README.md").read_text(encoding="utf-8").partition("## Run it\n")[2].partition("\nWith the address `-`")[0]
+    """The first two commands start a server and print what it is; then comes the conversation."""
+    section = (TOP / "README.md").read_text(encoding="utf-8").partition("## Run it\n")[2].partition("\n`mangod` takes")[0]
     commands, expected = blocks(section, "sh"), blocks(section, "text")
     tally.expect("blocks of README.md", (len(commands), len(expected)), (2, 1))
     tally.expect("a command that starts a server", len(TRY.findall(section)), 1)
-    tally.expect("the first conversation", run("".join(commands), program), LIST + "".join(expected))
+    tally.expect("the first conversation", run("".join(commands), program), "".join(expected))
 
 
 def check_tutorial(program, tally):

@@ -23,7 +23,7 @@ import time
 from pathlib import Path
 
 from common.arguments import arguments
-from common.messages import message, post
+from common.messages import post
 from common.server import free_port
 from common.tally import Tally
 from common.wire import Client, Wire
@@ -66,13 +66,18 @@ class Server:
         self.kill()
 
 
+def insert(writer, number):
+    """Returns the request that inserts a document. It has a `Host`, which this program requires."""
+    request = post("_bulk_docs", json.dumps({"docs": [{"_id": f"w{writer}-{number:06}", "n": number}]}).encode())
+    return request.replace(b"\r\n", b"\r\nHost: localhost\r\n", 1)
+
+
 def write_until_killed(port, writer, first, answered):
     """Writes documents with ascending numbers until the connection ends. Notes the number of each that was answered."""
     with contextlib.suppress(OSError):
         with Wire(port) as wire:
             for number in range(first, first + 100_000):
-                body = json.dumps({"docs": [{"_id": f"w{writer}-{number:06}", "n": number}]}).encode()
-                if not wire.ask(post("_bulk_docs", body)).startswith(b"HTTP/1.1 201 "):
+                if not wire.ask(insert(writer, number)).startswith(b"HTTP/1.1 201 "):
                     return
                 answered[writer] = number + 1
 

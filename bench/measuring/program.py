@@ -23,7 +23,7 @@ def free_port():
 
 def message(method, target, body=None):
     data = b"" if body is None else (body if isinstance(body, str) else compact(body)).encode()
-    return f"{method} /db/{target} HTTP/1.1\r\nContent-Length: {len(data)}\r\n\r\n".encode() + data
+    return f"{method} /db/{target} HTTP/1.1\r\nHost: localhost\r\nContent-Length: {len(data)}\r\n\r\n".encode() + data
 
 
 def prepared(corpus, request):
@@ -58,7 +58,7 @@ class Connection:
         data = receive(self.socket, "the program")
         while (end := data.find(b"\r\n\r\n")) < 0:
             data += receive(self.socket, "the program")
-        at = data.index(b"Content-Length: ") + 16
+        at = data[:end].lower().index(b"content-length: ") + 16
         whole = end + 4 + int(data[at : data.index(b"\r\n", at)])
         pieces, have = [data], len(data)
         while have < whole:

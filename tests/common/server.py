@@ -59,3 +59,20 @@ def listening(launch, sessions, environment=None, **more):
     finally:
         program.kill()
         program.communicate()
+
+
+@contextlib.contextmanager
+def keeping(program, file, *more):
+    """Starts the program that keeps its data on a file, yields its port, and ends the program afterwards."""
+    port = free_port()
+    command = [program, str(file), "--listen", f"127.0.0.1:{port}", "--shards", "3", "--workers", "2", *more]
+    server = subprocess.Popen(command, stdin=subprocess.DEVNULL, stdout=subprocess.DEVNULL, stderr=subprocess.PIPE, text=True)
+    try:
+        if not any(": listening at " in line for line in server.stderr):
+            sys.exit("the program does not listen")
+        yield port
+        if server.poll() is not None:
+            sys.exit(f"the program ended with status {server.returncode}")
+    finally:
+        server.kill()
+        server.communicate()

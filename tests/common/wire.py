@@ -7,7 +7,7 @@ import re
 import socket
 import struct
 
-LENGTH = re.compile(rb"\r\nContent-Length: ([0-9]+)\r\n\r\n")
+LENGTH = re.compile(rb"\r\nContent-Length: ([0-9]+)\r\n\r\n", re.IGNORECASE)
 SECONDS = 60
 
 

@@ -1,4 +1,4 @@
--- The service of a seat whose commits are kept may be sent to another thread.
+-- The service of a seat whose commits are kept may be sent to another thread, and so may a face before it.
 use denote.Param.Send.{IsSend, sendable}
 use denote.Param.SendFields.{declared_send}
 use denote.RattleType.{RattleType}
@@ -10,6 +10,8 @@ use Rattle.std.proofs.fs.File.TheSendSync as file
 use Rattle.sqlite_disk.specs.contracts.start.Unknown as Unknown
 use Rattle.sqlite_std_file.specs.contracts.host.Host as Host
 use Rattle.sqlite_store.proofs.store.FileStore.TheSendSync as file_store
+use Rattle.mg_face.proofs.Crossing.{face_send}
+use Rattle.mg_face.specs.contracts.face.Face as Face
 use Rattle.mg_http.proofs.Crossing.{service_send}
 use Rattle.mg_live.proofs.Crossing.{waiting_send}
 use Rattle.mg_live.specs.contracts.publication.SnapshotAbsorbUnit.TheImpl as absorb_of
@@ -33,3 +35,7 @@ keeper_send H s = declared_send (FileKeeper.the_type H) (
 module _ (D C : RattleType) (d : database.Ghosts D.Denot) (l : ledger.Ghosts D.Denot) (k : keeper.Ghosts C.Denot) where
   pub stored_send : IsSend C → IsSend (StoredService.the_row D C Md5Placement.the_row k (absorb_of.ghosts Md5Placement.the_row) d l md5.ghosts)
   stored_send c = declared_send (StoredService.the_type D C Md5Placement.the_row k (absorb_of.ghosts Md5Placement.the_row) d l md5.ghosts) (service_send D C d l k c, (search (sendable, crosses) depth 10, tt))
+
+  -- the services of the program
+  pub stored_face_send : IsSend C → IsSend (Face.the_row D (StoredService.the_row D C Md5Placement.the_row k (absorb_of.ghosts Md5Placement.the_row) d l md5.ghosts) d l)
+  stored_face_send c = face_send D _ d l (stored_send c)

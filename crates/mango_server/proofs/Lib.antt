@@ -1,3 +1,5 @@
 mod Crossing
+mod Faces
+mod Readiness
 mod Rows
 mod Seats

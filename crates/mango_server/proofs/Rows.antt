@@ -1,10 +1,7 @@
 -- Rows and the writes that they are the texts of.
-use Rattle.std.proofs.Common.{List, [], ◌∷◌, ◌++◌, map, IsTrue, OnOk, Result, Ok, Err, subst, sym}
-use Rattle.std.proofs.lemmas.List.{map-append}
+use Rattle.std.proofs.Common.{List, [], ◌∷◌, ◌++◌, IsTrue}
 use Rattle.sqlite.specs.Store.{Ghosts}
 use Rattle.mg_engine.specs.Commands.{Asked}
-use Rattle.mg_engine.specs.View.{command_view}
-use Rattle.mg_engine.specs.declared.command.Command.{Command}
 use Rattle.mg_log.specs.Entry.{Entry}
 use Rattle.mg_log.specs.Log.{connection_of, IsHonest, Keeps}
 use Rattle.mg_log.specs.declared.log.Log.{Log}
@@ -34,11 +31,3 @@ module _ {S : Type 0} {g : Ghosts S} where
     are = has.are;
     kept = λ now is_open. stays now has.rows (has.kept (honest now) (was_open now is_open)) is_open;
   }
-
-pub on_ok_then : {X E A B : Type 0} (r : Result X E) → (A → B) → OnOk r A → OnOk r B
-on_ok_then (Ok x) f a = f a
-on_ok_then (Err e) f a = tt
-
--- the row of one more command that was read
-pub read_row : (es : List Entry) (cs : List Command) (e : Entry) (c : Command) → AreRowsOf es (map command_view cs) → IsRowOf e (command_view c) → AreRowsOf (es ++ e ∷ []) (map command_view (cs ++ c ∷ []))
-read_row es cs e c are is = subst (AreRowsOf (es ++ e ∷ [])) (sym (map-append command_view cs (c ∷ []))) (one_more_row es (map command_view cs) e (command_view c) are is)

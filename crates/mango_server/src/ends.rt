@@ -18,6 +18,11 @@ impl Exit {
         line: "mango_server: out of memory",
     };
 
+    pub(crate) const NO_RANDOM: Exit = Exit {
+        status: 1,
+        line: "mango_server: the system gives no random bytes",
+    };
+
     pub(crate) const CANNOT_LISTEN: Exit = Exit {
         status: 1,
         line: "mango_server: cannot listen",

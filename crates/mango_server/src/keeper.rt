@@ -71,7 +71,7 @@ fn kind_of(kind: RecordKind) -> Kind
 }
 
 /// Returns the kind of the record of a row.
-fn record_kind(kind: Kind) -> RecordKind
+pub(crate) fn record_kind(kind: Kind) -> RecordKind
     ensures { row_kind result ≡ kind }
 {
     match kind {
@@ -90,18 +90,6 @@ fn row_of(text: Record) -> Commit
     let Record { kind, body } = text;
     Commit {
         kind: kind_of(kind),
-        body,
-    }
-}
-
-/// Returns the record of a row.
-pub(crate) fn record_of(commit: Commit) -> Record
-    ensures kind { row_kind result.kind ≡ commit.kind }
-    ensures body { result.body ≡ commit.body }
-{
-    let Commit { kind, body } = commit;
-    Record {
-        kind: record_kind(kind),
         body,
     }
 }

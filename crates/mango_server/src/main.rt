@@ -5,6 +5,8 @@ mod arguments;
 mod config;
 mod ends;
 mod keeper;
+mod laws;
+mod ready;
 mod replay;
 mod service;
 mod serving;

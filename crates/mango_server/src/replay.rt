@@ -1,49 +1,84 @@
 //! Executes the commits of a file again.
-ghost use Rattle.std.specs.Prelude.{◌≡◌, ◌≤◌, ◌+◌, ◌==◌, ◌||◌, ◌∷◌, ◌++◌, [], true, map, IfOk, OnOk};
+ghost use Rattle.std.specs.Prelude.{◌≡◌, ◌<◌, ◌≤◌, ◌+◌, ◌==◌, ◌||◌, ◌∷◌, ◌++◌, [], true, IfOk, length};
 ghost use Rattle.mg_engine.specs.View.{command_view};
+ghost use Rattle.mg_log.specs.Entry.{entries_of, entry_of};
 ghost use Rattle.mg_machine.specs.Machine.{commands_of};
-ghost use Rattle.mango_server.specs.Kept.{HasRowsOf};
+ghost use Rattle.mango_server.specs.Kept.{AreRowsOf, HasRowsOf, IsRowOf};
+ghost use Rattle.mango_server.specs.Ready.{writes_of};
 
-use crate::keeper::{FileKeeper, FileLog, record_of};
-use mg_engine::Command;
+use crate::keeper::{FileKeeper, FileLog};
+use crate::ready::Ready;
 use mg_live::{Database, Seat};
 use mg_log::{Commit, OpenError, Replay, Stopped, open_file};
+use rayon::prelude::*;
 use sqlite::Unknown;
 use std::alloc::Global;
 use std::sync::Wait;
 use std::thread::Threads;
 
-/// The commands of rows, in their order.
+/// How many bytes the bodies of rows have that are read and prepared side by side, before they are executed one after another.
+const GROUP_BYTES: usize = 8_388_608;
+
+/// The rows of a file, in their order.
 #[derive(Drop)]
 struct Reading {
-    alloc: Global,
-    commands: Vec<Command>,
+    rows: Vec<Commit>,
 }
 
 impl Replay for Reading {
-    ghost use Rattle.std.specs.Prelude.{map};
-    ghost use Rattle.mg_engine.specs.View.{command_view};
-    ghost use Rattle.mango_server.specs.Kept.{AreRowsOf};
+    ghost use Rattle.std.specs.Prelude.{◌≡◌};
+    ghost use Rattle.mg_log.specs.Entry.{entries_of};
 
-    // The rows are those of the commands.
-    ghost follows = { λ reading rows. AreRowsOf rows (map command_view reading.commands.items) };
+    // These are the rows.
+    ghost follows = { λ reading rows. entries_of reading.rows.items ≡ rows };
 
     fn take(&mut self, commit: Commit) -> Result<(), Stopped> {
-        let Ok(command) = record_of(commit).command(self.alloc) else {
-            return Err(Stopped);
-        };
-        append(&mut self.commands, command)
+        match self.rows.push(commit) {
+            Ok(()) => Ok(()),
+            Err(_) => Err(Stopped),
+        }
     }
 }
 
-/// Appends a command. Errors: `Stopped` if an allocation fails; then nothing has changed.
-fn append(commands: &mut Vec<Command>, command: Command) -> Result<(), Stopped>
-    ensures { OnOk result (commands.new.items ≡ commands.old.items ++ command ∷ []) }
+/// Reads and prepares the writes of rows, side by side.
+///
+/// Errors: `Stopped` if a row is not one of a write, or an allocation fails.
+fn all_ready<H: Threads + Sync>(
+    rt: &H,
+    alloc: Global,
+    rows: &[Commit],
+) -> Result<Vec<Ready>, Stopped>
+    ensures { IfOk result (λ v. AreRowsOf (entries_of rows.now) (writes_of v.items)) }
 {
-    match commands.push(command) {
-        Ok(()) => Ok(()),
+    let made = rows
+        .par_iter()
+        .with_min_len(1)
+        .map(
+            |row: &Commit| -> Result<Ready, Stopped>
+                ensures { IfOk result (λ r. IsRowOf (entry_of row.now) (command_view r.command.value)) }
+            { Ready::of(alloc, row) },
+        )
+        .collect::<Result<Vec<Ready>, Stopped>>(rt, alloc);
+    match made {
+        Ok(all) => all,
         Err(_) => Err(Stopped),
     }
+}
+
+/// Returns how many of the rows are prepared together: at least one, if there is one.
+fn group_len(rows: &[Commit]) -> usize
+    requires { 0 < length rows.now }
+    ensures some { 1 ≤ result }
+    ensures most { result ≤ length rows.now }
+{
+    let mut bytes: usize = 0;
+    for (place, row) in rows.iter().enumerate() {
+        bytes = bytes.saturating_add(row.body.len());
+        if bytes >= GROUP_BYTES {
+            return place + 1;
+        }
+    }
+    rows.len()
 }
 
 /// Whether a status is that of an accepted write.
@@ -64,46 +99,67 @@ fn is_next(before: u64, now: u64) -> bool
 fn is_executed<D: Database, H: Wait + Threads + Sync + Drop>(
     rt: &H,
     seat: &mut Seat<D, FileKeeper<H>>,
-    command: Command,
+    write: Ready,
     workers: usize,
 ) -> bool
     requires { (1 ≤ workers) × (workers ≤ 32) }
-    ensures { result ≡ true → commands_of seat.new.seen ≡ commands_of seat.old.seen ++ command_view command ∷ [] }
+    ensures { result ≡ true → commands_of seat.new.seen ≡ commands_of seat.old.seen ++ command_view write.command.value ∷ [] }
 {
-    if !command.is_write() {
-        return false;
-    }
     let before = seat.count();
-    let reply = seat.answer(rt, command, workers);
+    let Ready { command, prepared } = write;
+    let reply = seat.execute(rt, command, prepared, workers);
     if !is_success(reply.status()) {
         return false;
     }
     is_next(before, seat.count())
 }
 
-/// Executes writes at a seat that has seen nothing, in their order, and returns the seat.
+/// Executes writes at a seat, in their order, and returns the seat.
 ///
 /// Errors: `Stopped` if one is not accepted.
 fn executed<D: Database, H: Wait + Threads + Sync + Drop>(
     rt: &H,
     mut seat: Seat<D, FileKeeper<H>>,
-    commands: Vec<Command>,
+    writes: Vec<Ready>,
     workers: usize,
-) -> Result<Seat<D, FileKeeper<H>>, OpenError>
-    requires fresh { seat.seen ≡ [] }
-    requires workers { (1 ≤ workers) × (workers ≤ 32) }
-    ensures { IfOk result (λ s. commands_of s.seen ≡ map command_view commands.items) }
+) -> Result<Seat<D, FileKeeper<H>>, Stopped>
+    requires { (1 ≤ workers) × (workers ≤ 32) }
+    ensures { IfOk result (λ s. commands_of s.seen ≡ commands_of seat.seen ++ writes_of writes.items) }
 {
-    for command in commands {
-        if !is_executed(rt, &mut seat, command, workers) {
-            return Err(OpenError::Stopped);
+    for write in writes {
+        if !is_executed(rt, &mut seat, write, workers) {
+            return Err(Stopped);
         }
     }
     Ok(seat)
 }
 
+/// Executes the writes of rows at a seat that has seen nothing, in their order, and returns the seat. Groups of rows are read and prepared
+/// side by side.
+///
+/// Errors: `Stopped` if a row is not one of a write, or one is not accepted, or an allocation fails.
+fn executed_rows<D: Database, H: Wait + Threads + Sync + Drop>(
+    rt: &H,
+    alloc: Global,
+    mut seat: Seat<D, FileKeeper<H>>,
+    rows: &[Commit],
+    workers: usize,
+) -> Result<Seat<D, FileKeeper<H>>, Stopped>
+    requires fresh { seat.seen ≡ [] }
+    requires workers { (1 ≤ workers) × (workers ≤ 32) }
+    ensures { IfOk result (λ s. AreRowsOf (entries_of rows.now) (commands_of s.seen)) }
+{
+    let mut rest = rows;
+    while !rest.is_empty() {
+        let (group, more) = rest.split_at(group_len(rest));
+        seat = executed(rt, seat, all_ready(rt, alloc, group)?, workers)?;
+        rest = more;
+    }
+    Ok(seat)
+}
+
 /// Opens the file of a database, and executes its commits at a seat that has seen nothing. Returns its log and the seat. Until all are
-/// executed, the commits that are not take memory too.
+/// executed, the rows take memory too.
 ///
 /// Errors: those of `open_file`; `Stopped` if a commit is not accepted.
 pub(crate) fn replayed<D: Database, H: Wait + Threads + Sync + Copy + Drop + AllocGlobal>(
@@ -120,10 +176,11 @@ pub(crate) fn replayed<D: Database, H: Wait + Threads + Sync + Copy + Drop + All
 {
     let alloc = rt.alloc();
     let mut reading = Reading {
-        alloc,
-        commands: Vec::new(alloc),
+        rows: Vec::new(alloc),
     };
     let log = open_file(&host, path, Unknown, database, &mut reading)?;
-    let seat = executed(&rt, seat, reading.commands, workers)?;
-    Ok((log, seat))
+    match executed_rows(&rt, alloc, seat, reading.rows.as_slice(), workers) {
+        Ok(seat) => Ok((log, seat)),
+        Err(Stopped) => Err(OpenError::Stopped),
+    }
 }

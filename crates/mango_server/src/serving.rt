@@ -7,34 +7,87 @@ use crate::ends::Exit;
 use crate::keeper::FileKeeper;
 use crate::replay::replayed;
 use crate::service::StoredService;
-use mg_http::{Connection, SeatService};
-use mg_live::{CommitLog, Database, Keeper, Live, Seat, Seen};
-use mg_server::Edge;
+use http1::Limits;
+use mg_face::Face;
+use mg_http::SeatService;
+use mg_live::{CommitLog, Database, Keeper, Live, Seat};
+use mg_server::{Edge, Learner};
 use mg_shard::{Md5Placement, Shard};
 use mg_value::NoMemory;
+use mg_wire::{Bounds, Connection, Service};
 use std::alloc::Global;
 use std::io::{Eprint, ErrorKind};
 use std::net::{Net, TcpListener, TcpStream};
+use std::random::RandomSource;
 use std::sync::atomic::{AtomicBool, Ordering};
 use std::sync::ledger::Blank;
 use std::sync::{Arc, Wait};
 use std::thread::Threads;
 use std::time::Clock;
 
-/// Makes a service for each seat. Errors: `NoMemory` if an allocation fails; then all seats are dropped.
-fn services<D: Database, H: Wait + Drop>(
+/// What a connection takes from its client: a head of 16 kB and a body of 8 MB, as `mangod` takes them, and so much for the extensions of
+/// chunks and for trailers as for a head.
+const BOUNDS: Bounds = Bounds {
+    limits: Limits {
+        max_head_len: 16_384,
+        max_extensions_len: 16_384,
+        max_trailers_len: 16_384,
+    },
+    max_body: 8_388_608,
+    max_pending: 65_536,
+};
+
+/// What answers the requests of a client: the face over a seat whose commits are kept.
+type StoredFace<D, C> = Face<D, StoredService<D, C>>;
+
+/// Draws the seed from which a face draws ids. Errors: how the program ends.
+fn drawn_seed<H: RandomSource>(rt: &H) -> Result<[u8; 32], Exit> {
+    let mut seed = [0; 32];
+    match rt.fill_bytes(&mut seed) {
+        Ok(()) => Ok(seed),
+        Err(_) => Err(Exit::NO_RANDOM),
+    }
+}
+
+/// Makes the service of a seat. Errors: `NoMemory` if an allocation fails; then the seat is dropped.
+fn service_of<D: Database, C: Keeper>(
     alloc: Global,
-    seats: Vec<Seat<D, FileKeeper<H>>>,
+    db: &str,
+    seed: [u8; 32],
+    seat: Seat<D, C>,
     workers: usize,
     lost: &Arc<AtomicBool>,
-) -> Result<Vec<StoredService<D, FileKeeper<H>>>, NoMemory>
-    requires { (1 ≤ workers) × (workers ≤ 32) }
+) -> Result<StoredFace<D, C>, NoMemory>
+    requires name { db.now ≡ D.db }
+    requires workers { (1 ≤ workers) × (workers ≤ 32) }
 {
-    let mut services = Vec::with_capacity(alloc, seats.len())?;
+    let store = StoredService {
+        service: SeatService { seat, workers },
+        lost: Arc::try_clone(lost)?,
+    };
+    Ok(Face::new(alloc, String::from_str(alloc, db)?, seed, store))
+}
+
+/// Makes a service for each seat. Errors: how the program ends; then all seats are dropped.
+fn services<D: Database, C: Keeper, H: AllocGlobal + RandomSource>(
+    rt: &H,
+    db: &str,
+    seats: Vec<Seat<D, C>>,
+    workers: usize,
+    lost: &Arc<AtomicBool>,
+) -> Result<Vec<StoredFace<D, C>>, Exit>
+    requires name { db.now ≡ D.db }
+    requires workers { (1 ≤ workers) × (workers ≤ 32) }
+{
+    let mut services = Vec::new(rt.alloc());
     for seat in seats {
-        let service = SeatService { seat, workers };
-        let lost = Arc::try_clone(lost)?;
-        services.push(StoredService { service, lost })?;
+        let seed = drawn_seed(rt)?;
+        let Ok(service) = service_of(rt.alloc(), db, seed, seat, workers, lost) else {
+            return Err(Exit::NO_MEMORY);
+        };
+        if services.push(service).is_err() {
+            return Err(Exit::NO_MEMORY);
+        }
     }
     Ok(services)
 }
@@ -114,6 +167,7 @@ pub(crate) fn serve_file<
         + AllocGlobal
         + Clock
         + Eprint
+        + RandomSource
         + Net<Listener = TcpListener, Stream = TcpStream>,
 >(host: HostRuntime, rt: H, settings: Settings<'_>, blank: Blank, commit_log: CommitLog) -> Exit
     requires name { settings.db.now ≡ D.db }
@@ -143,7 +197,7 @@ pub(crate) fn serve_file<
         return Exit::NO_MEMORY;
     };
     match with_file(host, rt, settings, seats, &lost) {
-        Ok(services) => listen(rt, settings, services, &lost),
+        Ok(services) => listen::<D, FileKeeper<H>, H>(rt, settings, services, &lost),
         Err(exit) => exit,
     }
 }
@@ -151,13 +205,17 @@ pub(crate) fn serve_file<
 /// Opens the file at the last of the seats, which have seen nothing, and makes a service for each seat.
 ///
 /// Errors: how the program ends.
-fn with_file<D: Database, H: Wait + Threads + Sync + Copy + Drop + AllocGlobal + Eprint>(
+fn with_file<
+    D: Database,
+    H: Wait + Threads + Sync + Copy + Drop + AllocGlobal + Eprint + RandomSource,
+>(
     host: HostRuntime,
     rt: H,
     settings: Settings<'_>,
     mut seats: Vec<Seat<D, FileKeeper<H>>>,
     lost: &Arc<AtomicBool>,
-) -> Result<Vec<StoredService<D, FileKeeper<H>>>, Exit>
+) -> Result<Vec<StoredFace<D, FileKeeper<H>>>, Exit>
+    requires name { settings.db.now ≡ D.db }
     requires fresh { (n : ℕ) × (seats.items ≡ new_seats n) }
 {
     let (Some(seat), Ok(keeping)) = (seats.pop(), Arc::try_clone(lost)) else {
@@ -167,15 +225,11 @@ fn with_file<D: Database, H: Wait + Threads + Sync + Copy + Drop + AllocGlobal +
     if seats.push(seat).is_err() {
         return Err(Exit::NO_MEMORY);
     }
-    match services(rt.alloc(), seats, settings.workers, lost) {
-        Ok(services) => Ok(services),
-        Err(NoMemory) => Err(Exit::NO_MEMORY),
-    }
+    services(&rt, settings.db, seats, settings.workers, lost)
 }
 
-/// Listens, and serves the clients that connect.
-fn listen<
-    D: Database + Send + Sync,
+/// Listens, and serves the clients that connect with these services.
+fn serve_with<
     H: Wait
         + Threads
         + Send
@@ -186,17 +240,16 @@ fn listen<
         + Clock
         + Eprint
         + Net<Listener = TcpListener, Stream = TcpStream>,
->(
-    rt: H,
-    settings: Settings<'_>,
-    services: Vec<StoredService<D, FileKeeper<H>>>,
-    lost: &Arc<AtomicBool>,
-) -> Exit {
+    S: Service + Learner + Send + Drop,
+>(rt: H, settings: Settings<'_>, services: Vec<S>, lost: &Arc<AtomicBool>) -> Exit
+where
+    S::Seen: Send,
+{
     let Ok(listener) = TcpListener::bind(&rt, settings.listen) else {
         return Exit::CANNOT_LISTEN;
     };
-    let first = Connection::new(rt.alloc(), settings.db);
-    let edge = match Edge::<Connection<'_>, Seen<D>>::open(&rt, rt.alloc(), listener, first) {
+    let first = Connection::new(rt.alloc(), BOUNDS);
+    let edge = match Edge::<Connection, S::Seen>::open(&rt, rt.alloc(), listener, first) {
         Ok(edge) => edge,
         Err(error) => match error.kind() {
             ErrorKind::OutOfMemory => return Exit::NO_MEMORY,
@@ -204,12 +257,27 @@ fn listen<
         },
     };
     let _ = eprintln!(rt; "mango_server: listening at {}", settings.listen);
-    let served = mg_server::serve::<H, StoredService<D, FileKeeper<H>>, Connection<'_>>(
-        &rt, &edge, services,
-    );
-    match served {
+    match mg_server::serve::<H, S, Connection>(&rt, &edge, services) {
         Ok(_) if lost.load(Ordering::SeqCst) => Exit::STORAGE,
         Ok(_) => Exit::STOPPED,
         Err(_) => Exit::NO_MEMORY,
     }
+}
+
+/// Serves the database with a service for each seat, whatever keeps the commits.
+fn listen<
+    D: Database + Send + Sync,
+    C: Keeper + Send,
+    H: Wait
+        + Threads
+        + Send
+        + Sync
+        + Copy
+        + Drop
+        + AllocGlobal
+        + Clock
+        + Eprint
+        + Net<Listener = TcpListener, Stream = TcpStream>,
+>(rt: H, settings: Settings<'_>, services: Vec<StoredFace<D, C>>, lost: &Arc<AtomicBool>) -> Exit {
+    serve_with::<H, StoredFace<D, C>>(rt, settings, services, lost)
 }

@@ -1,3 +1,4 @@
+pub mod Crossing
 pub mod JsonLemmas
 pub mod SeatLemmas
 pub mod SegmentLemmas

@@ -94,6 +94,26 @@ fn recorded(kind: RecordKind, text: Vec<u8>) -> Result<Record, NoMemory>
     Ok(Record { kind, body })
 }
 
+impl RecordKind {
+    /// Returns the write of this kind that a text is of.
+    ///
+    /// Errors: the text is not JSON, or not that of such a write; out of memory. Cost: the size of the text.
+    pub fn command(self, alloc: Global, text: &str) -> Result<Command, ReadError>
+        ensures { IfOk result (λ c. IsTextOf self text.now (command_view c)) }
+    {
+        let bytes = text.as_bytes();
+        match self {
+            RecordKind::Bulk => {
+                let mut buffer = ReadBuffer::new(alloc);
+                Ok(Command::Bulk(Packed::read_in(alloc, bytes, &mut buffer)?))
+            }
+            RecordKind::CreateIndex => Ok(Command::CreateIndex(read(alloc, bytes)?)),
+            RecordKind::DropIndex => read_dropped(alloc, text),
+            RecordKind::Reshard => Ok(Command::Reshard(read(alloc, bytes)?)),
+        }
+    }
+}
+
 impl Record {
     /// Returns the record of a write; `None`: the command is a read.
     ///
@@ -120,24 +140,6 @@ impl Record {
                 Ok(Some(recorded(RecordKind::Reshard, text)?))
             }
             _ => Ok(None),
-        }
-    }
-
-    /// Returns the command of a record.
-    ///
-    /// Errors: the body is not JSON, or not that of such a command; out of memory. Cost: the size of the body.
-    pub fn command(&self, alloc: Global) -> Result<Command, ReadError>
-        ensures { IfOk result (λ c. IsRecordOf self.now (command_view c)) }
-    {
-        let body = self.body.as_bytes();
-        match self.kind {
-            RecordKind::Bulk => {
-                let mut buffer = ReadBuffer::new(alloc);
-                Ok(Command::Bulk(Packed::read_in(alloc, body, &mut buffer)?))
-            }
-            RecordKind::CreateIndex => Ok(Command::CreateIndex(read(alloc, body)?)),
-            RecordKind::DropIndex => read_dropped(alloc, self.body.as_str()),
-            RecordKind::Reshard => Ok(Command::Reshard(read(alloc, body)?)),
         }
     }
 }

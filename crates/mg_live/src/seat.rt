@@ -1,7 +1,8 @@
 //! Seats, at which sessions read and write.
-ghost use Rattle.std.specs.Prelude.{◌≡◌, ◌≤◌, true, false, length, IfErr, IfOk, OnErr, OnOk};
+ghost use Rattle.std.specs.Prelude.{◌≡◌, ◌≤◌, true, false, length, IfErr, IfOk, IfSome, OnErr, OnOk};
 ghost use Rattle.mg_engine.specs.Commands.{is_write};
 ghost use Rattle.mg_engine.specs.View.{command_view, reply_view};
+ghost use Rattle.mg_live.specs.Keeping.{IsRecordOf};
 ghost use Rattle.mg_live.specs.Snapshots.{StandsAfter, HasSnapshot};
 ghost use Rattle.mg_machine.specs.Machine.{commands_of};
 ghost use Rattle.mg_live.specs.View.{commits_view};
@@ -12,6 +13,7 @@ use crate::database::{Database, Keeper};
 use crate::desk::Desk;
 use crate::lock;
 use crate::publication::{SnapshotReader, copy_published};
+use crate::record::Record;
 use crate::snapshot::Snapshot;
 use crate::tally::Tally;
 use left_right::Absorb;
@@ -21,6 +23,7 @@ use mg_shard::{Md5Placement, Placement};
 use mg_value::NoMemory;
 use std::alloc::Global;
 use std::marker::{Model, PhantomData};
+use std::snapshot::Snapshot as GhostCopy;
 use std::sync::{Arc, Mutex, Wait};
 use std::thread::Threads;
 
@@ -177,21 +180,61 @@ where
         requires write { is_write (command_view command) ≡ true }
         ensures { SeatWrites D.db self.old (command_view command) (reply_view result) self.new }
     {
+        let write = Write::of(self.number, &command, workers);
+        let Ok(text) = C::record(self.alloc, &command) else {
+            return Reply::NoMemory;
+        };
+        match Prepared::of(self.alloc, command) {
+            Ok(prepared) => self.commit(rt, write, prepared, text),
+            Err(_) => Reply::NoMemory,
+        }
+    }
+
+    /// Executes a write that was prepared elsewhere, as `answer` does; `command` is what contracts see of it. No record is made, so with a
+    /// keeper that needs one the reply is `NoMemory`.
+    pub fn execute<R: Wait + Threads + Sync>(
+        &mut self,
+        rt: &R,
+        command: GhostCopy<Command>,
+        prepared: Prepared,
+        workers: usize,
+    ) -> Reply
+        requires write { is_write (command_view command.value) ≡ true }
+        requires prepared { prepared ≡ command_view command.value }
+        requires some { 1 ≤ workers }
+        requires most { workers ≤ 32 }
+        ensures { SeatWrites D.db self.old (command_view command.value) (reply_view result) self.new }
+    {
+        let write = Write {
+            seat: self.number,
+            command,
+            workers: Workers::most(workers),
+        };
+        self.commit(rt, write, prepared, None)
+    }
+
+    // Executes a prepared write of this seat, after all commits, and returns its reply; `NoMemory` as `answer` says. A record is that of the
+    // write.
+    fn commit<R: Wait + Threads + Sync>(
+        &mut self,
+        rt: &R,
+        write: Write,
+        prepared: Prepared,
+        text: Option<Record>,
+    ) -> Reply
+        requires seat { write.seat ≡ self.old.number }
+        requires write { is_write (command_view write.command.value) ≡ true }
+        requires prepared { prepared ≡ command_view write.command.value }
+        requires text { IfSome text (λ r. IsRecordOf r (command_view write.command.value)) }
+        ensures { SeatWrites D.db self.old (command_view write.command.value) (reply_view result) self.new }
+    {
         let Seat {
-            number,
             alloc,
             prefix,
             tally,
             desk,
             ..
         } = self;
-        let write = Write::of(*number, &command, workers);
-        let Ok(text) = C::record(*alloc, &command) else {
-            return Reply::NoMemory;
-        };
-        let Ok(prepared) = Prepared::of(*alloc, command) else {
-            return Reply::NoMemory;
-        };
         let (reply, before) = {
             let mut desk = lock::take(rt, desk);
             desk.write(rt, *alloc, write, prepared, text, tally, prefix)

@@ -84,6 +84,19 @@ fn answers_each_request_in_order(rt: HostRuntime) -> Result<(), Fail> {
     )
 }
 
+// RFC 9110, section 15.4.5, and RFC 9112, section 6.3.
+#[test]
+fn a_304_ends_with_its_head(rt: HostRuntime) -> Result<(), Fail> {
+    check(
+        &rt,
+        rt.alloc(),
+        &[(
+            "GET /304 HTTP/1.1\r\nHost: h\r\n\r\nHEAD /304 HTTP/1.1\r\nHost: h\r\n\r\nGET /1 HTTP/1.1\r\nHost: h\r\n\r\n",
+            "HTTP/1.1 304 Not Modified\r\ncontent-type: text/plain\r\n\r\nHTTP/1.1 304 Not Modified\r\ncontent-type: text/plain\r\n\r\nHTTP/1.1 200 OK\r\ncontent-type: text/plain\r\ncontent-length: 7\r\n\r\nGET /1 ",
+        )],
+    )
+}
+
 // The example of RFC 9110, section 5.6.7, which is 784,111,777 seconds after 1970.
 #[test]
 fn sends_the_date_of_a_response(rt: HostRuntime) -> Result<(), Fail> {

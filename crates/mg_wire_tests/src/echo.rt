@@ -7,7 +7,7 @@ use std::alloc::AllocError;
 use std::sync::Wait;
 use std::thread::Threads;
 
-/// Responds with the method, the target and the body of a request, and with this date.
+/// Responds with the method, the target and the body of a request, and with this date; to a request for `/304`, that it has not changed.
 #[derive(Drop)]
 pub(crate) struct Echo {
     pub(crate) date: Option<HttpDate>,
@@ -39,6 +39,9 @@ impl Service for Echo {
         response: &mut Response,
     ) {
         response.date = self.date;
+        if request.target.as_slice() == b"/304".as_slice() {
+            response.status = Status::NotModified;
+        }
         let is_added = response.fields.add(b"content-type", b"text/plain").is_ok();
         if !is_added || write_body(request, response).is_err() {
             response.status = Status::ServiceUnavailable;

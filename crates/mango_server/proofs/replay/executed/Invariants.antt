@@ -1,8 +1,8 @@
-use Rattle.std.proofs.Common.{◌≡◌, map}
-use Rattle.mg_engine.specs.View.{command_view}
+use Rattle.std.proofs.Common.{◌≡◌, ◌++◌}
 use Rattle.mg_machine.specs.Machine.{commands_of}
+use Rattle.mango_server.specs.Ready.{writes_of}
 use Rattle.mango_server.proofs.replay.executed.Given as goal
 
--- the seat has seen the commands so far
-abbrev pub invariant-loop-command : goal.invariant-loop-command
-invariant-loop-command g l = commands_of l.seat.seen ≡ map command_view l.yielded
+-- the seat has seen what it had seen, and then the writes so far
+abbrev pub invariant-loop-write : goal.invariant-loop-write
+invariant-loop-write g l = commands_of l.seat.seen ≡ commands_of l.fn.seat.seen ++ writes_of l.yielded

@@ -1,0 +1,157 @@
+#!/usr/bin/env python3
+"""Sends bytes to the program that keeps its data: requests that are cut, that disagree with themselves or are too long, that pause, and
+replies that nobody reads.
+
+usage: edge.py --program PATH
+
+PATH is mango_server, with two sessions. Each request and each reply is written out here, after RFC 9112 and RFC 9110; fields of a reply
+that its reader may ignore are left out. The last line is 'N passed, M failed'.
+"""
+import contextlib
+import re
+import sys
+import tempfile
+import threading
+import time
+from pathlib import Path
+
+from common.arguments import arguments
+from common.server import keeping
+from common.tally import Tally
+from common.wire import Client, Wire
+
+UP = b"GET /_up HTTP/1.1\r\nHost: h\r\n\r\n"
+FIND = b'POST /db/_find HTTP/1.1\r\nHost: h\r\nContent-Length: 15\r\n\r\n{"selector":{}}'
+PAGE = '{"bookmark":"nil","docs":[]}'
+OK = '{"status":"ok"}'
+SECONDS = 60
+CONTINUE = b"HTTP/1.1 100 Continue\r\n\r\n"
+HEAD = re.compile(rb"HTTP/1\.[01] ([0-9]{3}) [A-Za-z ]+\r\n((?:[a-z-]+: [^\r\n]*\r\n)*)\r\n")
+
+
+def refusal(status, error, reason):
+    return (status, f'{{"error":"{error}","reason":"{reason}"}}', True)
+
+
+INVALID = refusal(400, "bad_request", "the request is invalid")
+CUT = refusal(400, "bad_request", "the request was cut")
+TARGET = refusal(400, "bad_request", "the target is invalid")
+TOO_LARGE = refusal(413, "too_large", "the request entity is too large")
+LONG_LINE = refusal(414, "uri_too_long", "the request line is too long")
+LONG_HEAD = refusal(431, "fields_too_large", "the request head is too large")
+CODING = refusal(501, "not_implemented", "unknown transfer coding")
+TUNNEL = refusal(501, "not_implemented", "CONNECT is not answered")
+
+# what is sent, after which the client ends its side, and what comes back: statuses, bodies, and whether the connection says that it closes
+CONVERSATIONS = {
+    "two requests at once": (UP + FIND, [(200, OK, False), (200, PAGE, False)]),
+    "a body in chunks": (b"POST /db/_find HTTP/1.1\r\nHost: h\r\nTransfer-Encoding: chunked\r\n\r\n9\r\n{\"selecto\r\n6\r\nr\":{}}\r\n0\r\n\r\n", [(200, PAGE, False)]),
+    "a request to close": (UP.replace(b"\r\n\r\n", b"\r\nConnection: close\r\n\r\n") + UP, [(200, OK, True)]),
+    "a request of HTTP/1.0": (b"GET /_up HTTP/1.0\r\n\r\n" + UP, [(200, OK, True)]),
+    "HEAD": (b"HEAD /_up HTTP/1.1\r\nHost: h\r\n\r\n" + UP, [(200, "", False), (200, OK, False)]),
+    "a cut head": (UP + b"GET /_up HT", [(200, OK, False), CUT]),
+    "a cut body": (FIND[:-1], [CUT]),
+    "a cut chunk": (b"POST /db/_find HTTP/1.1\r\nHost: h\r\nTransfer-Encoding: chunked\r\n\r\n9\r\n{\"sel", [CUT]),
+    "no host": (b"GET /_up HTTP/1.1\r\n\r\n" + UP, [INVALID]),
+    "two hosts": (b"GET /_up HTTP/1.1\r\nHost: h\r\nHost: h\r\n\r\n" + UP, [INVALID]),
+    "no request": (b"hello\r\n\r\n" + UP, [INVALID]),
+    "a blank before the colon": (b"GET /_up HTTP/1.1\r\nHost : h\r\n\r\n", [INVALID]),
+    "two lengths": (b"POST /db/_find HTTP/1.1\r\nHost: h\r\nContent-Length: 15\r\nContent-Length: 16\r\n\r\n" + UP, [INVALID]),
+    "a length and chunks": (b"POST /db/_find HTTP/1.1\r\nHost: h\r\nContent-Length: 4\r\nTransfer-Encoding: chunked\r\n\r\n0\r\n\r\n" + UP, [INVALID]),
+    "a length with a sign": (b"POST /db/_find HTTP/1.1\r\nHost: h\r\nContent-Length: +15\r\n\r\n" + UP, [INVALID]),
+    "a chunk of no length": (b"POST /db/_find HTTP/1.1\r\nHost: h\r\nTransfer-Encoding: chunked\r\n\r\nx\r\n" + UP, [INVALID]),
+    "an unknown coding": (b"POST /db/_find HTTP/1.1\r\nHost: h\r\nTransfer-Encoding: gzip, chunked\r\n\r\n0\r\n\r\n" + UP, [CODING]),
+    "a tunnel": (b"CONNECT h:80 HTTP/1.1\r\nHost: h\r\n\r\n" + UP, [TUNNEL]),
+    "a target of no form": (b"GET db HTTP/1.1\r\nHost: h\r\n\r\n" + UP, [TARGET]),
+    "a long line": (b"GET /" + b"a" * 20_000 + b" HTTP/1.1\r\nHost: h\r\n\r\n", [LONG_LINE]),
+    "a long head": (b"GET /_up HTTP/1.1\r\nHost: h\r\n" + b"X: " + b"a" * 20_000 + b"\r\n\r\n", [LONG_HEAD]),
+    "a long body": (b"POST /db/_find HTTP/1.1\r\nHost: h\r\nContent-Length: 8388609\r\n\r\n", [TOO_LARGE]),
+}
+
+
+def replies_in(data, silent):
+    """Returns the replies in these bytes: their statuses, bodies, and whether they say that the connection closes; then what is left. `silent`:
+    the first has no body."""
+    found = []
+    while head := HEAD.match(data):
+        fields = dict(line.split(": ", 1) for line in head[2].decode().splitlines())
+        length = 0 if silent and not found else int(fields["content-length"])
+        body = data[head.end() : head.end() + length]
+        found.append((int(head[1]), body.decode().removesuffix("\n"), fields.get("connection") == "close"))
+        data = data[head.end() + length :]
+    return found, data
+
+
+def each_conversation(port, tally):
+    for name, (sent, expected) in CONVERSATIONS.items():
+        with Wire(port) as wire:
+            wire.send(sent)
+            wire.finish()
+            tally.expect(name, replies_in(wire.rest(), sent.startswith(b"HEAD")), (expected, b""))
+
+
+def an_interim_reply(port, tally):
+    """`100 Continue` comes where it is asked for, before the body is sent, and nowhere else."""
+    head, body = FIND.split(b"\r\n\r\n")
+    with Wire(port) as wire:
+        wire.send(head + b"\r\nExpect: 100-continue\r\n\r\n")
+        tally.expect("the interim reply", wire.read(len(CONTINUE)), CONTINUE)
+        wire.send(body)
+        wire.finish()
+        tally.expect("the reply after it", replies_in(wire.rest(), False), ([(200, PAGE, False)], b""))
+
+
+def byte_by_byte(port, tally):
+    with Wire(port) as wire:
+        for byte in FIND:
+            wire.send(bytes([byte]))
+            time.sleep(0.002)
+        wire.finish()
+        tally.expect("a request byte by byte", replies_in(wire.rest(), False), ([(200, PAGE, False)], b""))
+
+
+def in_time(port, name, tally):
+    """A client that asks ten times is answered within the time limit of a message, whatever the others do."""
+    began = time.monotonic()
+    with contextlib.closing(Client(port)) as client:
+        statuses = [client.ask("GET", "/_up")[0] for _ in range(10)]
+    tally.expect(name, (statuses, time.monotonic() - began < SECONDS), ([200] * 10, True))
+
+
+def half_requests(port, tally):
+    """More half requests than sessions keep nobody waiting."""
+    with contextlib.ExitStack() as stack:
+        for _ in range(8):
+            stack.enter_context(Wire(port)).send(FIND[:-3])
+        in_time(port, "beside half requests", tally)
+
+
+def unread_replies(port, tally):
+    """Clients that send on and never read keep nobody waiting."""
+    def ask_on(wire):
+        with contextlib.suppress(OSError):
+            wire.socket.sendall(UP * 40_000)
+
+    with contextlib.ExitStack() as stack:
+        wires = [stack.enter_context(Wire(port)) for _ in range(4)]
+        threads = [threading.Thread(target=ask_on, args=(wire,), daemon=True) for wire in wires]
+        for thread in threads:
+            thread.start()
+        time.sleep(0.5)
+        in_time(port, "beside unread replies", tally)
+        for wire in wires:
+            wire.reset()
+        for thread in threads:
+            thread.join()
+
+
+def main():
+    args, tally = arguments(__doc__), Tally()
+    with tempfile.TemporaryDirectory() as folder, keeping(args.program, Path(folder) / "db", "--sessions", "2") as port:
+        for check in (each_conversation, an_interim_reply, byte_by_byte, half_requests, unread_replies):
+            check(port, tally)
+    return tally.end()
+
+
+if __name__ == "__main__":
+    sys.exit(main())
