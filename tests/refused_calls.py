@@ -25,8 +25,8 @@ RUN, COMMAND, CALL = "the run was refused memory", "a command was refused memory
 # the crate of each test, its name, and its messages about a refused call
 TESTS = [
     ("mg_tests", "run_tests::a_refused_run_has_run_nothing", {RUN, COMMAND}),
-    ("mg_thread_tests", "commit_tests::two_seats", {CALL}),
-    ("mg_thread_tests", "commit_tests::two_seats_reshard", {CALL}),
+    ("mg_tests", "commit_tests::two_seats", {CALL}),
+    ("mg_tests", "commit_tests::two_seats_reshard", {CALL}),
 ]
 PASSED, OWN = "ok", "memory"
 
