@@ -22,7 +22,8 @@ FILLER = b"".join(b"X-Filler-%d: %s\r\n" % (number, b"a" * 80) for number in ran
 def heads(text):
     """Returns the pieces in which a message is sent, by the name of the row."""
     long = text.replace(b"\r\n", b"\r\n" + FILLER, 1)
-    half = len(long) // 2
+    # within the value of a field in the middle
+    half = long.index(b"X-Filler-20: ") + 50
     return {"GET": [text], "GET with a long head": [long], "GET with a long head in two pieces": [long[:half], long[half:]]}
 
 
