@@ -49,9 +49,8 @@ def start(launch, sessions, environment=None, host="127.0.0.1", descriptors=None
 
 
 @contextlib.contextmanager
-def listening(launch, sessions, environment=None, **more):
-    """Starts a program that listens, yields its port, and ends the program afterwards."""
-    program, port = start(launch, sessions, environment, **more)
+def running(program, port):
+    """Yields the port of a program that listens, and ends the program afterwards."""
     try:
         yield port
         if program.poll() is not None:
@@ -61,18 +60,18 @@ def listening(launch, sessions, environment=None, **more):
         program.communicate()
 
 
+def listening(launch, sessions, environment=None, **more):
+    """Starts a program that listens, yields its port, and ends the program afterwards."""
+    return running(*start(launch, sessions, environment, **more))
+
+
 @contextlib.contextmanager
 def keeping(program, file, *more):
     """Starts the program that keeps its data on a file, yields its port, and ends the program afterwards."""
     port = free_port()
     command = [program, str(file), "--listen", f"127.0.0.1:{port}", "--shards", "3", "--workers", "2", *more]
     server = subprocess.Popen(command, stdin=subprocess.DEVNULL, stdout=subprocess.DEVNULL, stderr=subprocess.PIPE, text=True)
-    try:
+    with running(server, port):
         if not any(": listening at " in line for line in server.stderr):
             sys.exit("the program does not listen")
         yield port
-        if server.poll() is not None:
-            sys.exit(f"the program ended with status {server.returncode}")
-    finally:
-        server.kill()
-        server.communicate()
