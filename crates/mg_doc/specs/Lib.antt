@@ -10,3 +10,4 @@ pub mod Base
 pub mod Conflicts
 pub mod Ahead
 pub mod WellFormed
+pub mod Leaf

@@ -31,7 +31,7 @@ pub fn served(alloc: Global, id: &str, tree: &RevTree) -> Result<Option<Json>, N
 
 // Makes a leaf's form: its body with the document's id as `_id` and the leaf's revision as `_rev`. Errors: `NoMemory` if an allocation
 // fails.
-fn served_form(alloc: Global, id: &str, leaf: &Leaf) -> Result<Json, NoMemory>
+pub(crate) fn served_form(alloc: Global, id: &str, leaf: &Leaf) -> Result<Json, NoMemory>
     ensures { IfOk result (λ form. view form ≡ served_form id.now leaf.now) }
 {
     let mut form = leaf.body.copy(alloc)?;

@@ -9,6 +9,7 @@
 //! refusal whatever memory there is, if the edit names the revision that it extends or makes its
 //! document's first (`refused`). `rev_id` is the digest that names new revisions, `served` the served
 //! document, and `serve_form` the same in a block that the tree shares; `with_conflicts` adds the losers.
+//! `leaf_document` is the document as a leaf has it, and `with_revisions` adds the path of a revision.
 #![tactic(auto)]
 
 mod change;
@@ -18,6 +19,7 @@ mod document;
 mod edit;
 mod error;
 mod fault;
+mod leaf;
 mod members;
 mod revisions;
 
@@ -27,3 +29,4 @@ pub use digest::rev_id;
 pub use document::{serve_form, served};
 pub use edit::{Edit, Look, ReadyEdit};
 pub use error::{DocError, EditError, EditRefusal};
+pub use leaf::{leaf_document, with_revisions};

@@ -13,3 +13,5 @@ mod Entries
 mod Spelled
 mod Carried
 mod Spelling
+pub mod Counting
+pub mod Ranging

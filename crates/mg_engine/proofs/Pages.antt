@@ -6,15 +6,20 @@ use Rattle.mg_query.specs.Paged.{text_of}
 use Rattle.mg_query.specs.Served.{FailsAs}
 use Rattle.mg_query.specs.declared.error.PageError.{PageError}
 use Rattle.mg_query.specs.declared.error.PageError.TheVariants as page_fault
+use Rattle.mg_engine.specs.Bodies.{line_of}
 use Rattle.mg_engine.specs.Commands.{shown_or_refused}
 use Rattle.mg_engine.specs.Faults.{fault_of, refusal_of_page}
 use Rattle.mg_engine.specs.Answering.{MakesAnswer}
 
 -- the refusal of a query that is not answered
-not_answered : {A : Type 0} (value : A → Value) (e : PageError) (r : Result A Unanswered) → FailsAs e r → MakesAnswer (Err (fault_of (refusal_of_page e))) (shown_or_refused value r)
+pub not_answered : {A : Type 0} (value : A → Value) (e : PageError) (r : Result A Unanswered) → FailsAs e r → MakesAnswer (Err (fault_of (refusal_of_page e))) (shown_or_refused value r)
 not_answered value page_fault.NoUsableIndex r h = ap (shown_or_refused value) h
 not_answered value page_fault.BadBookmark r h = ap (shown_or_refused value) h
 not_answered value page_fault.NoMemory r h = tt
+
+-- the line of a value of a page
+pub value_shown : {A : Type 0} (value : A → Value) (r : Result A Unanswered) (a : A) (b : List ℕ) → r ≡ Ok a → b ≡ line_of (value a) → shown_or_refused value r ≡ record { status = 200; body = b }
+value_shown value r a b is line = ap (shown_or_refused value) is ∙ ap (λ (x : List ℕ). record { status = 200; body = x }) (sym line)
 
 -- if there is no text of the page for this reason, there is no page for this reason
 no_text : (e : PageError) (r : Result Page Unanswered) → FailsAs e (text_of r) → FailsAs e r

@@ -17,3 +17,8 @@ pub mod Settled
 pub mod Objects
 pub mod Outcomes
 pub mod Laws
+pub mod Listing
+pub mod Design
+pub mod Questions
+pub mod QuestionView
+pub mod Counted

@@ -1,5 +1,7 @@
 ghost use Rattle.std.specs.Prelude.{◌≡◌, ◌≤◌, All, IfOk, IfNone, IfSome, OnErr, false, map, true, unwrap_or};
 ghost use Rattle.mg_engine.specs.Commands.{is_write, reply_of, shards_after, shards_after_all};
+ghost use Rattle.mg_engine.specs.Questions.{answer_to, doc_count};
+ghost use Rattle.mg_engine.specs.QuestionView.{question_view};
 ghost use Rattle.mg_engine.specs.Settled.{IsSettled};
 ghost use Rattle.mg_engine.specs.World.{World, empty_world};
 ghost use Rattle.mg_engine.specs.View.{command_view, reply_view};
@@ -9,7 +11,9 @@ ghost use Rattle.mg_engine.specs.Execution.{Answers, IsExecution, answered_comma
 
 use crate::command::Command;
 use crate::context::Context;
+use crate::database::count_docs;
 use crate::prepared::Prepared;
+use crate::question::Question;
 use crate::reply::Reply;
 use crate::state::State;
 use mg_index::Catalog;
@@ -173,6 +177,37 @@ impl<P: Placement + Drop> Engine<P> {
         reply
     }
 
+    /// Returns the reply to a question, at a point of the log with this many commits; `NoMemory` if an allocation fails, or if there are more
+    /// than 9,223,372,036,854,775,807 documents. The workers are those of `answer_by`. Cost: for `Database` the number of shards; for `Leaf`
+    /// and `Winner` the placement, one look-up in one shard, a copy of the body, and that of `RevTree::ancestry` if the path is shown; for
+    /// `Keys` the number of shards, and for each id the placement, one look-up, and a copy of the body if documents are asked for; for `Range`
+    /// that of its query, and in each shard that of `Shard::count_docs_beyond`.
+    pub fn look<R: Threads + Sync>(
+        &self,
+        rt: &R,
+        alloc: Global,
+        question: &Question,
+        commits: u64,
+        workers: Workers,
+    ) -> Reply
+        ensures { (w : World) → Stands P.place self.now w
+            → IfSome (reply_view result) (λ a. a ≡ answer_to w commits (question_view question.now)) }
+    {
+        let context = Context {
+            rt,
+            alloc,
+            workers,
+            gate: &NoGate,
+        };
+        match self
+            .state
+            .look(&context, &*self.placement, question, commits)
+        {
+            Ok(reply) => reply,
+            Err(NoMemory) => Reply::NoMemory,
+        }
+    }
+
     /// Returns the reply to a write, and the engine after the write if the status is 200 or 201, otherwise `None`. `self` does not change.
     /// The reply is `NoMemory` if an allocation fails, or if there are too many references to a part of the engine. Cost: as for `step`.
     pub fn commit<R: Threads + Sync>(
@@ -230,6 +265,17 @@ impl<P: Placement + Drop> Engine<P> {
         {
             (reply, Some(state)) => (reply, Some(Engine { placement, state })),
             (reply, None) => (reply, None),
+        }
+    }
+
+    /// Counts the documents that are not deleted; `None` if there are more than a `usize` counts. Takes no memory. Cost: the number of
+    /// shards.
+    pub fn count(&self) -> Option<usize>
+        ensures { (w : World) → Stands P.place self.now w → IfSome result (λ n. n ≡ doc_count w.docs) }
+    {
+        match count_docs(self.shards()) {
+            Ok(count) => Some(count),
+            Err(NoMemory) => None,
         }
     }
 

@@ -4,7 +4,8 @@
 //! (`shards`). `step` returns, for each world that the engine represents, the definition's reply, and the
 //! engine then represents the next world; or memory was refused and the engine is as it was (`answers`,
 //! `refused`); `execute` does so for a command that it takes by value. `answer` and `answer_by` are for
-//! commands that read. `commit` returns the next engine exactly if the status is 200 or 201 (`next`);
+//! commands that read, and `look` for questions, which are reads beside the commands
+//! (specs/Questions.antt). `commit` returns the next engine exactly if the status is 200 or 201 (`next`);
 //! `commit_prepared` does so for a command that `Prepared::of` has prepared, which for a bulk reads the
 //! documents. `run` answers a list of commands; after an `Err` it has executed no command (`none_run`). Laws:
 //! `where_memory_suffices`, `reshards_change_no_reply`, `reshards_change_no_world`, `pages_join`.
@@ -14,13 +15,21 @@ mod body;
 mod bulk;
 mod command;
 mod context;
+mod database;
 mod define;
+mod design;
 mod engine;
 mod execute;
 mod fault;
+mod keys;
 pub mod laws;
+mod listing;
+mod look;
 mod prepared;
 mod query;
+mod question;
+mod range;
+mod range_query;
 mod read;
 mod refusal;
 mod reply;
@@ -30,6 +39,8 @@ mod state;
 
 pub use command::Command;
 pub use engine::Engine;
+pub use listing::Listing;
 pub use prepared::Prepared;
+pub use question::Question;
 pub use refusal::Refusal;
 pub use reply::Reply;

@@ -119,8 +119,8 @@ fn explanation_line(
     Ok(line(alloc, &value)?)
 }
 
-// Makes the reply: status 200 with the body, or the refusal. Errors: `NoMemory` if the body is that error, or if an allocation fails.
-fn make_reply(alloc: Global, body: Result<Vec<u8>, Fault>) -> Result<Reply, NoMemory>
+/// Makes the reply: status 200 with the body, or the refusal. Errors: `NoMemory` if the body is that error, or if an allocation fails.
+pub(crate) fn make_reply(alloc: Global, body: Result<Vec<u8>, Fault>) -> Result<Reply, NoMemory>
     ensures { IfOk result (λ r. (a : Answer) → MakesAnswer body a → reply_view r ≡ Some a) }
 {
     match body {

@@ -48,8 +48,12 @@ impl State {
     }
 }
 
-// Returns the shard on which an id is placed.
-fn shard_of<'a, P: Placement>(placement: &P, shards: &'a [Arc<Shard>], id: &str) -> &'a Shard
+/// Returns the shard on which an id is placed. There must be a shard.
+pub(crate) fn shard_of<'a, P: Placement>(
+    placement: &P,
+    shards: &'a [Arc<Shard>],
+    id: &str,
+) -> &'a Shard
     requires { 0 < length shards.now }
     ensures { slice_get (shards_view shards.now)
         (P.place placement.now id.now (length (shards_view shards.now))) ≡ Some result.now }

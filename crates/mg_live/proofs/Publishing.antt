@@ -26,7 +26,7 @@ use Rattle.mg_live.proofs.Prefixes.{longer_second}
 
 -- a snapshot of this database stands after its own commits
 pub stands_after : {P : Type 0} {place : P → List ℕ → ℕ → ℕ} (book : Book) (name : List ℕ) (opened : ℕ) (s : Snapshot P) → IsSnapshotOf place book name opened s → StandsAfter place name opened s (commits_of s)
-stands_after book name opened s is = record { commits = refl; stands = is.after.engine; shards = is.dealt }
+stands_after book name opened s is = record { commits = refl; stands = is.after.engine; shards = is.dealt; number = is.after.commits }
 
 -- ---- a write
 

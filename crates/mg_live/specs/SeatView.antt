@@ -3,6 +3,7 @@ use Rattle.std.specs.Prelude.{◌≡◌, ◌+◌, ℕ, zero, suc, List, [], ◌�
 use Rattle.std.specs.Coded.{Coded, code_by, coded×, coded_ℕ}
 use Rattle.std.specs.List.{sum_by}
 use Rattle.mg_engine.specs.Commands.{Asked, Answer, is_write, reply_of}
+use Rattle.mg_engine.specs.Questions.{Question, answer_to}
 use Rattle.mg_engine.specs.Settled.{is_accepted}
 use Rattle.mg_live.specs.Code.{commits_code}
 use Rattle.mg_machine.specs.Laws.{IsPrefix}
@@ -40,6 +41,12 @@ pub record IsLater (old new : SeatView) : Type 0 where
 abbrev pub SeatReads : List ℕ → SeatView → Asked → Option Answer → SeatView → Type 0
 SeatReads name old c None new = IsLater old new
 SeatReads name old c (Some a) new = IsLater old new × (a ≡ reply_of (world_of name new.seen) c)
+
+-- the seat may have caught up, and the reply is the one that the definitions give to the question after the commits that the seat has then
+-- seen. `None`: the reply is `NoMemory`; the seat may still have caught up
+abbrev pub SeatLooks : List ℕ → SeatView → Question → Option Answer → SeatView → Type 0
+SeatLooks name old q None new = IsLater old new
+SeatLooks name old q (Some a) new = IsLater old new × (a ≡ answer_to (world_of name new.seen) (length new.seen) q)
 
 -- ---- writing
 

@@ -24,11 +24,12 @@ pub record IsSnapshotOf {P : Type 0} (place : P → List ℕ → ℕ → ℕ) (l
   pub dealt : HasShardsAfter opened s.point (commits_of s)
 
 -- a snapshot, after these commits, of a database of this name, whose documents are placed by `place` and which was opened with `opened`
--- shards: it stands for the world that the commits leave, with the number of shards that they leave
+-- shards: it stands for the world that the commits leave, with the number of shards that they leave, and it has their number
 pub record StandsAfter {P : Type 0} (place : P → List ℕ → ℕ → ℕ) (name : List ℕ) (opened : ℕ) (s : Snapshot P) (cs : List Commit) : Type 0 where
   pub commits : commits_of s ≡ cs
   pub stands : Stands place (arc_value s.point.engine) (world_of name cs)
   pub shards : length (state_of s).shards ≡ shards_of opened cs
+  pub number : s.point.commits ≡ length cs
 
 -- there is a snapshot right after these commits
 abbrev pub HasSnapshot : {P : Type 0} → (P → List ℕ → ℕ → ℕ) → List ℕ → ℕ → List Commit → Type 0

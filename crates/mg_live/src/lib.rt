@@ -1,11 +1,12 @@
 //! The live database: sessions that read and write side by side, each at a seat of its own.
 //!
 //! Promises. `Live::open` returns 1 to 16 seats that have seen nothing, for every placement of documents;
-//! the program's is `Md5Placement`. docs/MODEL.md, section 9, explains `Seat::answer`. `Seat::snapshot` is
-//! the database after what the seat has seen. `share` makes a seat see all published commits
-//! (`published`), and returns them for another seat to `learn`; `seen` returns what the seat has seen,
-//! without a lock. `Live::close` counts the commits (`closed`), or hands everything back (`back`):
-//! `Missing` only if a seat is absent, `Ahead` only if a seat has seen more commits than all seats made.
+//! the program's is `Md5Placement`. docs/MODEL.md, section 9, explains `Seat::answer`. `Seat::look` answers a
+//! question after what the seat has then seen. `Seat::snapshot` is the database after what the seat has
+//! seen. `share` makes a seat see all published commits (`published`), and returns them for another seat to
+//! `learn`; `seen` returns what the seat has seen, without a lock. `Live::close` counts the commits
+//! (`closed`), or hands everything back (`back`): `Missing` only if a seat is absent, `Ahead` only if a seat
+//! has seen more commits than all seats made.
 #![tactic(auto)]
 
 mod calls;

@@ -1,12 +1,13 @@
 //! Seats, at which sessions read and write.
 ghost use Rattle.std.specs.Prelude.{◌≡◌, ◌≤◌, true, false, length, IfErr, IfOk, IfSome, OnErr, OnOk};
 ghost use Rattle.mg_engine.specs.Commands.{is_write};
+ghost use Rattle.mg_engine.specs.QuestionView.{question_view};
 ghost use Rattle.mg_engine.specs.View.{command_view, reply_view};
 ghost use Rattle.mg_live.specs.Keeping.{IsRecordOf};
 ghost use Rattle.mg_live.specs.Snapshots.{StandsAfter, HasSnapshot};
 ghost use Rattle.mg_machine.specs.Machine.{commands_of};
 ghost use Rattle.mg_live.specs.View.{commits_view};
-ghost use Rattle.mg_live.specs.SeatView.{Answered, IsLater, SeatReads, Learned, SeatWrites};
+ghost use Rattle.mg_live.specs.SeatView.{Answered, IsLater, SeatLooks, SeatReads, Learned, SeatWrites};
 
 use crate::commit_log::{Prefix, Write};
 use crate::database::{Database, Keeper};
@@ -17,7 +18,7 @@ use crate::record::Record;
 use crate::snapshot::Snapshot;
 use crate::tally::Tally;
 use left_right::Absorb;
-use mg_engine::{Command, Prepared, Reply};
+use mg_engine::{Command, Prepared, Question, Reply};
 use mg_scan::{Gate, NoGate, Place, Workers};
 use mg_shard::{Md5Placement, Placement};
 use mg_value::NoMemory;
@@ -144,6 +145,28 @@ where
             self.write(rt, command, Workers::most(workers))
         } else {
             self.read(rt, &command, Workers::most(workers), &NoGate)
+        }
+    }
+
+    /// Answers a question over one snapshot: after the commits that the seat has then seen. There are 1 to 32 workers, as in `answer`. It waits
+    /// for nobody.
+    ///
+    /// The reply is `NoMemory` if an allocation fails, at a limit that `Engine::look` has, if there are too many references to the engine,
+    /// or if the seat has seen more commits than are published; the seat may then have caught up. Cost: that of `Engine::look`.
+    pub fn look<R: Threads + Sync>(&mut self, rt: &R, question: &Question, workers: usize) -> Reply
+        requires some { 1 ≤ workers }
+        requires most { workers ≤ 32 }
+        ensures { SeatLooks D.db self.old (question_view question.now) (reply_view result) self.new }
+    {
+        let Ok(snapshot) = self.snapshot() else {
+            return Reply::NoMemory;
+        };
+        match snapshot
+            .point
+            .look(rt, self.alloc, question, Workers::most(workers))
+        {
+            Ok(reply) => reply,
+            Err(_) => Reply::NoMemory,
         }
     }
 

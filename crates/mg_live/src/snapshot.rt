@@ -2,8 +2,11 @@
 ghost use Rattle.std.specs.Prelude.{◌≡◌, ◌≤◌, true, length, All, IfOk, IfSome, MatchOption, option_map};
 ghost use Rattle.std.specs.Arc.{arc_value};
 ghost use Rattle.mg_engine.specs.Commands.{is_write};
+ghost use Rattle.mg_engine.specs.Questions.{doc_count};
 ghost use Rattle.mg_engine.specs.Settled.{accepts};
+ghost use Rattle.mg_engine.specs.Stands.{Stands};
 ghost use Rattle.mg_engine.specs.View.{command_view, reply_view};
+ghost use Rattle.mg_engine.specs.World.{World};
 ghost use Rattle.mg_live.specs.Published.{WriteLeaves};
 ghost use Rattle.mg_live.specs.Keeping.{IsRecordOf};
 ghost use Rattle.mg_live.specs.Snapshots.{IsSnapshotOf, commits_of, state_of};
@@ -35,6 +38,15 @@ impl<P: Placement + Drop> Snapshot<P> {
         ensures { result.now ≡ (state_of self.now).catalog }
     {
         self.point.engine.catalog()
+    }
+
+    /// Counts the documents that are not deleted; `None` if there are more than a `usize` counts. Takes no memory. Cost: the number of
+    /// shards.
+    pub fn count(&self) -> Option<usize>
+        ensures { (w : World) → Stands P.place (arc_value self.now.point.engine) w
+            → IfSome result (λ n. n ≡ doc_count w.docs) }
+    {
+        self.point.engine.count()
     }
 
     /// Returns the database's shards. Each has the rows of the indexes of the catalog, and of no other index. Takes no memory.

@@ -2,13 +2,15 @@
 ghost use Rattle.std.specs.Prelude.{◌≡◌, ◌<◌, ◌≤◌, ℕ, List, [], IfOk, Some, true, false, is_some};
 ghost use Rattle.std.specs.Arc.{arc_value};
 ghost use Rattle.mg_engine.specs.Commands.{is_write, reply_of};
+ghost use Rattle.mg_engine.specs.Questions.{answer_to};
+ghost use Rattle.mg_engine.specs.QuestionView.{question_view};
 ghost use Rattle.mg_engine.specs.View.{command_view, reply_view};
 ghost use Rattle.mg_engine.specs.Stands.{Stands};
 ghost use Rattle.mg_engine.specs.World.{World};
 ghost use Rattle.mg_machine.specs.Machine.{Commit, after_write, write_reply};
 ghost use Rattle.mg_machine.specs.Points.{IsAfter, HasShardsAfter};
 
-use mg_engine::{Command, Engine, Prepared, Refusal, Reply};
+use mg_engine::{Command, Engine, Prepared, Question, Refusal, Reply};
 use mg_scan::{Gate, Workers};
 use mg_shard::Placement;
 use mg_value::NoMemory;
@@ -71,6 +73,22 @@ impl<P: Placement + Drop> Point<P> {
             → reply_view r ≡ Some (reply_of w (command_view command.now))) }
     {
         into_result(self.engine.answer_by(rt, alloc, command, workers, gate))
+    }
+
+    /// Returns the reply to a question at this point, by these workers.
+    ///
+    /// Errors: `NoMemory` if an allocation fails, or at a limit that `Engine::look` has. Cost: that of `Engine::look`.
+    pub fn look<R: Threads + Sync>(
+        &self,
+        rt: &R,
+        alloc: Global,
+        question: &Question,
+        workers: Workers,
+    ) -> Result<Reply, NoMemory>
+        ensures { IfOk result (λ r. (w : World) → Stands P.place (arc_value self.now.engine) w
+            → reply_view r ≡ Some (answer_to w self.now.commits (question_view question.now))) }
+    {
+        into_result(self.engine.look(rt, alloc, question, self.commits, workers))
     }
 
     /// Executes a write, and returns its reply and the point after it: one commit later if the write is accepted, otherwise a copy of this

@@ -1,8 +1,7 @@
 pub mod Cuts
+mod Fronts
 pub mod Heads
 mod Orders
-pub mod Pulls
+mod Pulls
 pub mod Rows
 pub mod Shards
-pub mod Trees
-pub mod Turns

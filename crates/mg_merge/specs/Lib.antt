@@ -1,6 +1,6 @@
+pub mod Heads
 pub mod Merged
 pub mod Pulled
-pub mod Remaining
 pub mod Sharding
-pub mod Tournament
+pub mod Turns
 pub mod Work

@@ -1,5 +1,6 @@
 -- The merge of lists of rows, as CouchDB's coordinator merges what its shards list.
 use Rattle.std.specs.Prelude.{ℕ, List, Vec, map, take}
+use Rattle.std.specs.Borrow.{Bor}
 use Rattle.std.specs.List.{flat_map}
 use Rattle.std.specs.List.Sorted.{IsSorted}
 use Rattle.std.specs.declared.alloc.Global.{Global}
@@ -12,6 +13,10 @@ use Rattle.mg_collate.specs.Sorted.{sorted, sorted_rows}
 -- the contents of each list
 abbrev pub contents_of : {X : Type 0} → List (Vec X Global) → List (List X)
 contents_of lists = map (λ list. list.items) lists
+
+-- the borrowed items
+abbrev pub lent_view : {X : Type 0} → List (Bor X) → List X
+lent_view lent = map (λ x. x.now) lent
 
 -- the rows that each list stands for
 abbrev pub lists_view : List (Vec Row Global) → List (List RowValue)

@@ -5,23 +5,20 @@
 //! occurs (`rows`), and `merge_items` does so for any type of items that have rows (`items`).
 //! `merge_pulled` takes the same rows from sources, item by item (`rows`); each item comes from one of the
 //! sources (`given`), and it pulls the items of the result and the next one of each source that has more
-//! (`number`), so at most as many as it was asked for and one for each source (`pulled`). All three find
-//! the list that begins first by a winner tree (tournament.rt): `IsWinnerTree` in specs/Tournament.antt
-//! says which winners are right, `IsWinnerTreeBut` which still are after one list has changed. A `Work`
-//! has the lengths of the lists and of the result; only `merge` and `merge_items` make one. Laws: it does
-//! not matter how documents are dealt to lists (`any_sharding`), and lists may be cut at the page's size
-//! before the merge (`cut_lists`).
+//! (`number`), so at most as many as it was asked for and one for each source (`pulled`). All three are
+//! one merge, of sources: the heads of the sources are in a `BinaryHeap`, in the order of their turns
+//! (`turn_order` in specs/Turns.antt), which is total. A `Work` has the lengths of the lists and of the
+//! result; only `merge` and `merge_items` make one. Laws: it does not matter how documents are dealt to
+//! lists (`any_sharding`), and lists may be cut at the page's size before the merge (`cut_lists`).
 #![tactic(auto)]
 
-mod firsts;
+mod head;
 pub mod laws;
 mod merging;
 mod order;
 mod pulled;
 mod ranked;
-mod remaining;
 mod source;
-mod tournament;
 mod work;
 
 pub use merging::{merge, merge_items};

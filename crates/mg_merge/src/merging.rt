@@ -1,12 +1,11 @@
 ghost use Rattle.std.specs.Prelude.{◌≡◌, All, IfOk, length, map, take};
 ghost use Rattle.mg_collate.specs.Row.{rows_view};
 ghost use Rattle.mg_collate.specs.Sorted.{IsInOrder};
-ghost use Rattle.mg_merge.specs.Merged.{IsInOrderBy, contents_of, lists_view, merged, merged_by};
-ghost use Rattle.mg_merge.specs.Remaining.{lent_view};
+ghost use Rattle.mg_merge.specs.Merged.{IsInOrderBy, contents_of, lent_view, lists_view, merged, merged_by};
 
+use crate::pulled::merge_sources;
 use crate::ranked::Ranked;
-use crate::remaining::{take_first, whole_lists};
-use crate::tournament::Tournament;
+use crate::source::{ByItem, Rest};
 use crate::work::Work;
 use mg_collate::{Direction, Row};
 use mg_value::NoMemory;
@@ -17,10 +16,9 @@ use std::alloc::Global;
 /// order, which `are_in_order` tests; lists may be empty.
 ///
 /// Errors: `NoMemory` if an allocation fails.
-/// Cost: a copy of each row of the result; one comparison fewer than there are lists, and for each row of the
-/// result at most as many comparisons as the logarithm of the number of lists to base 2, rounded up. In each
-/// list at most one row that is not in the result is read: the first such row. Memory: for each row of the
-/// result its copy and a reference, however large `take` is; for each list a slice and three numbers.
+/// Cost: a copy of each row of the result, and the comparisons of `merge_pulled`. In each list at most one row
+/// that is not in the result is read: the first such row. Memory: for each row of the result its copy and a reference,
+/// however large `take` is; for each list a slice, a reference, a number and a direction.
 pub fn merge(
     alloc: Global,
     lists: &[Vec<Row>],
@@ -45,9 +43,8 @@ pub fn merge(
 /// `items_are_in_order` tests; lists may be empty.
 ///
 /// Errors: `NoMemory` if an allocation fails.
-/// Cost: one comparison fewer than there are lists, and for each item of the result at most as many comparisons
-/// as the logarithm of the number of lists to base 2, rounded up. No row is copied. Memory: for each item of
-/// the result an item and a reference, however large `take` is; for each list a slice and three numbers.
+/// Cost: the comparisons of `merge_pulled`. No row is copied. Memory: for each item of the result an item and a
+/// reference, however large `take` is; for each list a slice, a reference, a number and a direction.
 pub fn merge_items<T: Ranked + Copy>(
     alloc: Global,
     lists: &[Vec<T>],
@@ -77,31 +74,24 @@ fn first_lent<'a, T: Ranked>(
     ensures { IfOk result
         (λ lent. lent_view lent.items ≡ merged_by T.row_of direction take (contents_of lists.now)) }
 {
-    if lists.len() == 1 {
-        return first_of_one(alloc, lists[0].as_slice(), take);
-    }
-    let mut remaining = whole_lists(alloc, lists)?;
-    let mut tournament = Tournament::new(alloc, &remaining, direction)?;
-    let mut lent = Vec::new(alloc);
-    while lent.len() < take {
-        match take_first(&mut remaining, &mut tournament, direction) {
-            Some(item) => lent.push(item)?,
-            None => return Ok(lent),
-        }
-    }
+    let mut rests = whole_lists(alloc, lists)?;
+    let (lent, _) = merge_sources::<&'a T, ByItem, Rest<'a, T>>(
+        alloc, &mut rests, direction, take,
+    )?;
     Ok(lent)
 }
 
-// Borrows the first `count` items of a single list, without a comparison.
-fn first_of_one<'a, T>(alloc: Global, list: &'a [T], count: usize) -> Result<Vec<&'a T>, NoMemory>
-    ensures { IfOk result (λ lent. lent_view lent.items ≡ take count list.now) }
+// Lends the whole lists, of which nothing is taken yet.
+fn whole_lists<'a, T>(alloc: Global, lists: &'a [Vec<T>]) -> Result<Vec<Rest<'a, T>>, NoMemory>
+    ensures { IfOk result (λ rests. map (λ rest. rest.items.now) rests.items ≡ contents_of lists.now) }
 {
-    let count = count.min(list.len());
-    let mut lent = Vec::with_capacity(alloc, count)?;
-    for place in 0..count {
-        lent.push(&list[place])?;
+    let mut rests = Vec::with_capacity(alloc, lists.len())?;
+    for list in lists {
+        rests.push(Rest {
+            items: list.as_slice(),
+        })?;
     }
-    Ok(lent)
+    Ok(rests)
 }
 
 fn copy_all<T: Copy>(alloc: Global, lent: &[&T]) -> Result<Vec<T>, NoMemory>

@@ -21,3 +21,12 @@ impl Ranked for Row {
         self.cmp(other)
     }
 }
+
+// A lent item has the row of the item.
+impl<'a, T: Ranked> Ranked for &'a T {
+    ghost row_of = { λ item. T.row_of item.now };
+
+    fn order(&self, other: &&'a T) -> Ordering {
+        T::order(*self, *other)
+    }
+}

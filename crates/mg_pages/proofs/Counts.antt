@@ -1,34 +1,33 @@
--- How many elements parts have, and how many of them are below a key.
+-- How many elements children have, and how many of them are below a key.
 use Rattle.std.proofs.Common.{◌≡◌, ℕ, ◌+◌, ◌<◌, ◌≤◌, List, ◌++◌, length, take, drop, get_or, Bool, true, false, not, is_some, Ordering, Less, Equal, Greater, is_gt, is_lt, refl, sym, ap, ◌∙◌, arith}
-use Rattle.std.proofs.lemmas.List.{length-append, take-append-drop}
-use Rattle.std.proofs.lemmas.List.Concat.{flat_map-append}
+use Rattle.std.proofs.lemmas.List.{length-append}
 use Rattle.std.proofs.lemmas.List.Filters.{length-filter_both}
 use Rattle.std.specs.Cmp.{IsTotalOrder}
-use Rattle.std.specs.List.{flat_map}
 use Rattle.mg_pages.specs.Order.{Ascends, above, below, found, inserted, over}
 use Rattle.mg_pages.specs.Search.{AllAbove, AllBelow}
-use Rattle.mg_pages.proofs.Parts.{view_below, view_split, view_take_more}
+use Rattle.mg_pages.specs.Subtree.{Subtree, elements_of}
+use Rattle.mg_pages.proofs.Levels.{child_below, elements_cut, elements_split, elements_take_more}
 use Rattle.mg_pages.proofs.Sorted.{inserted_new, inserted_over}
 
-module _ {P T : Type 0} (view : P → List T) where
-  pub count_more : (ps : List P) (i : ℕ) (p : P) → i < length ps → p ≡ get_or ps i p → length (flat_map view (take (i + 1) ps)) ≡ length (flat_map view (take i ps)) + length (view p)
-  count_more ps i p l e = ap length (view_take_more view ps i p l e) ∙ length-append (flat_map view (take i ps)) (view p)
+module _ {T : Type 0} (ts : List (Subtree T)) where
+  pub count_cut : (k : ℕ) → length (elements_of ts) ≡ length (elements_of (take k ts)) + length (elements_of (drop k ts))
+  count_cut k = sym (ap length (elements_cut ts k)) ∙ length-append (elements_of (take k ts)) (elements_of (drop k ts))
 
-  -- the parts up to the i-th have no more elements than all parts
-  pub count_within : (ps : List P) (i : ℕ) (p : P) → i < length ps → p ≡ get_or ps i p → length (flat_map view (take i ps)) + length (view p) ≤ length (flat_map view ps)
-  count_within ps i p l e =
-      let n = ap length (view_split view ps i p l e) in
-      omega (arith, n, length-append (flat_map view (take i ps)) (view p ++ flat_map view (drop (i + 1) ps)), length-append (view p) (flat_map view (drop (i + 1) ps)))
+  module _ (i : ℕ) (t : Subtree T) (l : i < length ts) (e : t ≡ get_or ts i t) where
+    pub count_more : length (elements_of (take (i + 1) ts)) ≡ length (elements_of (take i ts)) + length t.elements
+    count_more = ap length (elements_take_more ts i t l e) ∙ length-append (elements_of (take i ts)) t.elements
 
-  pub count_cut : (ps : List P) (k : ℕ) → length (flat_map view ps) ≡ length (flat_map view (take k ps)) + length (flat_map view (drop k ps))
-  count_cut ps k =
-      sym (ap (λ qs. length (flat_map view qs)) (take-append-drop k ps)) ∙ ap length (flat_map-append view (take k ps) (drop k ps)) ∙ length-append (flat_map view (take k ps)) (flat_map view (drop k ps))
+    -- the children up to the i-th have no more elements than all children
+    pub count_within : length (elements_of (take i ts)) + length t.elements ≤ length (elements_of ts)
+    count_within =
+        let n = ap length (elements_split ts i t l e) in
+        omega (arith, n, length-append (elements_of (take i ts)) (t.elements ++ elements_of (drop (i + 1) ts)), length-append t.elements (elements_of (drop (i + 1) ts)))
 
-  -- the elements below a key are all before its part, and those of its part that are below the key
-  pub count_below_parts : (against : T → Ordering) (ps : List P) (i : ℕ) (p : P) → i < length ps → p ≡ get_or ps i p → AllBelow against (flat_map view (take i ps)) → AllAbove against (flat_map view (drop (i + 1) ps))
-      → length (below against (flat_map view ps)) ≡ length (flat_map view (take i ps)) + length (below against (view p))
-  count_below_parts against ps i p l e low high =
-      ap length (view_below view against ps i p l e low high) ∙ length-append (flat_map view (take i ps)) (below against (view p))
+    -- the elements below a key are all before its child, and those of its child that are below the key
+    pub count_below_children : (against : T → Ordering) → AllBelow against (elements_of (take i ts)) → AllAbove against (elements_of (drop (i + 1) ts))
+        → length (below against (elements_of ts)) ≡ length (elements_of (take i ts)) + length (below against t.elements)
+    count_below_children against low high =
+        ap length (child_below ts i t l e against low high) ∙ length-append (elements_of (take i ts)) (below against t.elements)
 
 pub count_of_below : {T : Type 0} (against : T → Ordering) (xs : List T) → length (below against xs) ≤ length xs
 count_of_below against xs = omega (arith, length-filter_both (λ x. is_gt (against x)) (λ x. not (is_gt (against x))) (λ x. refl) xs)

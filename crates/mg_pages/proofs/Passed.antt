@@ -1,12 +1,13 @@
 -- Skipping elements: the page of an element, and what is left of a list after `count` elements.
-use Rattle.std.proofs.Common.{◌≡◌, ℕ, zero, suc, ◌+◌, ◌-◌, ◌<◌, ◌≤◌, List, [], ◌∷◌, ◌++◌, length, take, drop, get_or, min, reverse, Ordering, refl, sym, ap, ◌∙◌, subst, arith, append_assoc, append-nil}
-use Rattle.std.proofs.lemmas.List.{drop-append-le, drop-drop, drop_all, drop_at, drop_min, length-append, length-drop, length-reverse, length-take-le, reverse-append, take-append-drop, take-append-le, take_at}
+use Rattle.std.proofs.Common.{◌≡◌, ℕ, zero, suc, ◌+◌, ◌-◌, ◌<◌, ◌≤◌, List, [], ◌∷◌, ◌++◌, length, take, drop, get_or, min, reverse, slice_get, Some, Ordering, refl, sym, ap, ◌∙◌, subst, arith, append_assoc, append-nil}
+use Rattle.std.proofs.lemmas.List.{drop-append-le, drop-drop, drop_all, drop_at, drop_min, get_or-append-add, get_or_append_left, length-append, length-drop, length-reverse, length-take-le, reverse-append, take-append-drop, take-append-le, take_at}
+use Rattle.std.proofs.lemmas.Option.{slice_get-get_or}
 use Rattle.std.specs.Cmp.{IsTotalOrder}
-use Rattle.std.specs.List.{flat_map}
 use Rattle.mg_pages.specs.Order.{Ascends, IsProbe, above, below}
-use Rattle.mg_pages.specs.Parts.{IsLast}
+use Rattle.mg_pages.specs.Subtree.{IsLast, Subtree, elements_of}
 use Rattle.mg_pages.specs.Runs.{IsEndRun, IsPageAt, IsRun, continued, continued_after, ended}
-use Rattle.mg_pages.proofs.Parts.{end_whole, run_whole, view_split}
+use Rattle.mg_pages.proofs.Levels.{elements_split}
+use Rattle.mg_pages.proofs.Lent.{end_whole, run_whole}
 use Rattle.mg_pages.proofs.Sorted.{above_suffix, below_prefix, continued_is, ended_is}
 
 -- ---- the page of an element
@@ -14,21 +15,29 @@ use Rattle.mg_pages.proofs.Sorted.{above_suffix, below_prefix, continued_is, end
 pub page_itself : {X : Type 0} (page xs : List X) (i : ℕ) → page ≡ xs → i < length xs → IsPageAt page i i xs
 page_itself page xs i e l = record { front = []; rest = []; is = sym e ∙ sym (append-nil page); at = omega arith; within = omega (arith, l, ap length e) }
 
--- the page of an element of a part is its page among all
-pub page_part : {P T : Type 0} (view : P → List T) (ps : List P) (k : ℕ) (p : P) (page : List T) (place left i : ℕ) → k < length ps → p ≡ get_or ps k p → i ≡ length (flat_map view (take k ps)) + left
-    → IsPageAt page place left (view p) → IsPageAt page place i (flat_map view ps)
-page_part view ps k p page place left i l e n it =
-    let before = flat_map view (take k ps) in
-    let after = flat_map view (drop (k + 1) ps) in
+-- the page of an element of a child is its page among all
+pub page_child : {T : Type 0} (ts : List (Subtree T)) (k : ℕ) (t : Subtree T) (page : List T) (place left i : ℕ) → k < length ts → t ≡ get_or ts k t → i ≡ length (elements_of (take k ts)) + left
+    → IsPageAt page place left t.elements → IsPageAt page place i (elements_of ts)
+page_child ts k t page place left i l e n it =
+    let before = elements_of (take k ts) in
+    let after = elements_of (drop (k + 1) ts) in
     record {
       front = before ++ it.front;
       rest = it.rest ++ after;
-      is = view_split view ps k p l e ∙ ap (λ us. before ++ (us ++ after)) it.is
+      is = elements_split ts k t l e ∙ ap (λ us. before ++ (us ++ after)) it.is
           ∙ ap (λ us. before ++ us) (append_assoc it.front (page ++ it.rest) after ∙ ap (λ us. it.front ++ us) (append_assoc page it.rest after))
           ∙ sym (append_assoc before it.front (page ++ (it.rest ++ after)));
       at = omega (arith, n, it.at, length-append before it.front);
       within = it.within;
     }
+
+-- an element of a page is the element of the list at its place
+pub element_at : {X : Type 0} (page xs : List X) (place i : ℕ) (x : X) → IsPageAt page place i xs → x ≡ get_or page place x → Some x ≡ slice_get xs i
+element_at page xs place i x it h =
+    let within : i < length xs = omega (arith, it.at, it.within, ap length it.is, length-append it.front (page ++ it.rest), length-append page it.rest) in
+    let at : get_or xs i x ≡ x =
+    ap (λ k. get_or xs k x) it.at ∙ ap (λ us. get_or us (length it.front + place) x) it.is ∙ get_or-append-add it.front (page ++ it.rest) place x ∙ get_or_append_left page it.rest x place it.within ∙ sym h in
+    sym (slice_get-get_or xs i x within ∙ ap Some at)
 
 -- ---- runs from a place on, and up to a place
 

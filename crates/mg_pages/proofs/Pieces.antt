@@ -1,26 +1,26 @@
 -- Pages as pieces of a sorted list, and keys that belong within them.
 use Rattle.std.proofs.Common.{◌≡◌, ℕ, zero, suc, ◌+◌, ◌<◌, List, [], ◌∷◌, ◌++◌, length, take, drop, get_or, Ordering, Less, Greater, is_lt, is_gt, refl, sym, ap, ◌∙◌, subst, arith, append_assoc, append-nil}
 use Rattle.std.proofs.lemmas.List.{length-drop, length-take}
-use Rattle.std.specs.List.{flat_map}
 use Rattle.mg_pages.specs.Order.{Ascends, IsProbe, above, below}
 use Rattle.mg_pages.specs.Runs.{IsEndRun, IsPiece, IsRun}
 use Rattle.mg_pages.specs.Search.{AllAbove, AllBelow, IsAmong, BelongsWithin}
-use Rattle.mg_pages.proofs.Parts.{view_split}
+use Rattle.mg_pages.specs.Subtree.{Subtree, elements_of}
+use Rattle.mg_pages.proofs.Levels.{elements_split}
 use Rattle.mg_pages.proofs.Sorted.{above_cut, above_first, above_gap, all_right, ascends_left, ascends_right, before_one, below_cut, below_gap, split_at}
 
 -- a list is a piece of itself
 pub piece_itself : {T : Type 0} (page xs : List T) → page ≡ xs → IsPiece page xs
 piece_itself page xs e = record { front = []; rest = []; is = sym e ∙ sym (append-nil page) }
 
--- a piece of one part is a piece of all parts
-pub piece_part : {P T : Type 0} (view : P → List T) (ps : List P) (i : ℕ) (p : P) (page : List T) → i < length ps → p ≡ get_or ps i p → IsPiece page (view p) → IsPiece page (flat_map view ps)
-piece_part view ps i p page l e it =
-    let before = flat_map view (take i ps) in
-    let after = flat_map view (drop (i + 1) ps) in
+-- a piece of one child is a piece of all
+pub piece_child : {T : Type 0} (ts : List (Subtree T)) (i : ℕ) (t : Subtree T) (page : List T) → i < length ts → t ≡ get_or ts i t → IsPiece page t.elements → IsPiece page (elements_of ts)
+piece_child ts i t page l e it =
+    let before = elements_of (take i ts) in
+    let after = elements_of (drop (i + 1) ts) in
     record {
       front = before ++ it.front;
       rest = it.rest ++ after;
-      is = view_split view ps i p l e ∙ ap (λ us. before ++ (us ++ after)) it.is ∙ ap (λ us. before ++ us) (append_assoc it.front (page ++ it.rest) after ∙ ap (λ us. it.front ++ us) (append_assoc page it.rest after))
+      is = elements_split ts i t l e ∙ ap (λ us. before ++ (us ++ after)) it.is ∙ ap (λ us. before ++ us) (append_assoc it.front (page ++ it.rest) after ∙ ap (λ us. it.front ++ us) (append_assoc page it.rest after))
           ∙ sym (append_assoc before it.front (page ++ (it.rest ++ after)));
     }
 

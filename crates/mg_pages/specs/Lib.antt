@@ -1,6 +1,8 @@
+pub mod Falls
 pub mod Finite
 pub mod Identified
 pub mod Order
-pub mod Parts
 pub mod Runs
 pub mod Search
+pub mod Subtree
+pub mod Tree

@@ -1,58 +1,60 @@
-//! Builds collections from elements that are in order already. Errors: those of `Subtree`.
+//! Builds trees from elements that are in order already. Errors: those of `tree`.
 ghost use Rattle.std.specs.Prelude.{◌≡◌, ◌<◌, ◌^◌, length, IfOk};
-ghost use Rattle.std.specs.List.{flat_map};
-ghost use Rattle.mg_pages.specs.Parts.{children, child_view, child_whole, page_view, page_whole, level_view, level_whole, AreWhole};
+ghost use Rattle.mg_pages.specs.Subtree.{elements_of};
 
-use crate::child::{Child, child_of, copy_children};
+use crate::element::copy_elements;
 use crate::keyed::Keyed;
-use crate::level::Level;
-use crate::level_parts::count_of;
-use crate::page::{Page, page_of};
-use crate::subtree::{FILL, Subtree};
+use crate::sizes::{LEVEL_FILL, LEVEL_LIMIT, PAGE_FILL};
+use crate::tree::{Child, level_of, page_of};
 use std::alloc::{AllocError, Global};
 
-/// Groups the elements into pages. All pages but the last have `FILL` elements. Without elements, there is no page.
-pub fn make_pages<T: Keyed>(
-    alloc: Global,
-    elements: &[T],
-) -> Result<Vec<Child<T, Page<T>>>, AllocError>
-    ensures whole { IfOk result (λ v. AreWhole (child_whole page_whole page_view) (children v.items)) }
-    ensures view { IfOk result (λ v. flat_map (child_view page_view) (children v.items) ≡ elements.now) }
+/// Groups the elements into pages. All pages but the last have `PAGE_FILL` elements. Without elements, there is no page.
+pub fn make_pages<T: Keyed>(alloc: Global, elements: &[T]) -> Result<Vec<Child<T>>, AllocError>
+    ensures { IfOk result (λ v. elements_of v.items ≡ elements.now) }
 {
     let mut pages = Vec::new(alloc);
     let mut rest = elements;
     while rest.len() > 0 {
-        let (chunk, others) = rest.split_at(rest.len().min(FILL));
-        let own = page_of(alloc, chunk)?;
-        let page = child_of::<T, Page<T>>(alloc, own)?;
+        let (chunk, others) = rest.split_at(rest.len().min(PAGE_FILL));
+        let own = copy_elements(alloc, chunk)?;
+        let page = page_of(alloc, own)?;
         pages.push(page)?;
         rest = others;
     }
     Ok(pages)
 }
 
-/// Groups the parts into levels. All levels but the last have `FILL` parts. Without parts, there is no level.
-pub fn group<T: Keyed, P: Subtree<T>>(
-    alloc: Global,
-    parts: &[Child<T, P>],
-) -> Result<Vec<Child<T, Level<T, P>>>, AllocError>
-    requires whole { AreWhole (child_whole P.is_whole P.view) (children parts.now) }
-    requires few { length (flat_map (child_view P.view) (children parts.now)) < 2 ^ 64 }
-    ensures whole { IfOk result
-        (λ v. AreWhole (child_whole (level_whole P.is_whole P.view) (level_view P.view)) (children v.items)) }
-    ensures view { IfOk result
-        (λ v. flat_map (child_view (level_view P.view)) (children v.items)
-        ≡ flat_map (child_view P.view) (children parts.now)) }
+/// Groups the children into levels. All levels but the last have `LEVEL_FILL` children. Without children, there is no level.
+pub fn group<T: Keyed>(alloc: Global, children: &[Child<T>]) -> Result<Vec<Child<T>>, AllocError>
+    requires { length (elements_of children.now) < 2 ^ 64 }
+    ensures { IfOk result (λ v. elements_of v.items ≡ elements_of children.now) }
 {
     let mut levels = Vec::new(alloc);
-    let mut rest = parts;
+    let mut rest = children;
     while rest.len() > 0 {
-        let (chunk, others) = rest.split_at(rest.len().min(FILL));
-        let count = count_of::<T, P>(chunk);
-        let parts = copy_children(alloc, chunk)?;
-        let level = child_of::<T, Level<T, P>>(alloc, Level { parts, count })?;
+        let (chunk, others) = rest.split_at(rest.len().min(LEVEL_FILL));
+        let own = copy_elements(alloc, chunk)?;
+        let level = level_of(alloc, own)?;
         levels.push(level)?;
         rest = others;
     }
     Ok(levels)
+}
+
+// More levels than are needed for 2^64 elements.
+const MOST_LEVELS: u32 = 64;
+
+/// Puts levels above the children until there are few enough for a root.
+pub fn raise<T: Keyed>(alloc: Global, children: Vec<Child<T>>) -> Result<Vec<Child<T>>, AllocError>
+    requires { length (elements_of children.items) < 2 ^ 64 }
+    ensures { IfOk result (λ v. elements_of v.items ≡ elements_of children.items) }
+{
+    let mut top = children;
+    for _ in 0..MOST_LEVELS {
+        if top.len() <= LEVEL_LIMIT {
+            return Ok(top);
+        }
+        top = group(alloc, &top)?;
+    }
+    Ok(top)
 }

@@ -2,7 +2,6 @@
 ghost use Rattle.std.specs.Prelude.{◌≡◌, ◌≤◌, ◌<◌, ◌+◌, ◌++◌, ◌∷◌, [], IfOk, OnOk, vec_len, vec_capacity};
 ghost use Rattle.std.specs.Arc.{arc_value};
 
-use mg_value::NoMemory;
 use std::alloc::{AllocError, Global};
 use std::marker::Model;
 use std::ops::Deref;
@@ -36,10 +35,11 @@ pub trait Element: Drop + Sized {
     }
 }
 
-/// A value in a block of memory that all its owners share.
+/// A value in a block of memory that all its owners share, and its hint, so that a search need not read the block.
 #[derive(Drop)]
 pub struct Shared<X: Drop> {
-    arc: Arc<X>,
+    pub(crate) arc: Arc<X>,
+    pub(crate) hint: u64,
 }
 
 impl<X: Drop> Model for Shared<X> {
@@ -51,14 +51,6 @@ impl<X: Drop> Model for Shared<X> {
 }
 
 impl<X: Drop> Shared<X> {
-    /// Puts the value into a block of its own. Errors: `NoMemory` if the allocation fails.
-    pub fn new(alloc: Global, value: X) -> Result<Shared<X>, NoMemory>
-        ensures { IfOk result (λ s. s ≡ value) }
-    {
-        let arc = Arc::new(alloc, value)?;
-        Ok(Shared { arc })
-    }
-
     /// Lends the value. Takes no memory.
     pub fn get(&self) -> &X
         ensures { result.now ≡ self.now }
@@ -70,7 +62,8 @@ impl<X: Drop> Shared<X> {
 impl<X: Drop> Element for Shared<X> {
     fn again(&self) -> Result<Shared<X>, AllocError> {
         let arc = self.arc.clone()?;
-        Ok(Shared { arc })
+        let hint = self.hint;
+        Ok(Shared { arc, hint })
     }
 
     fn owners(&self) -> usize {
@@ -122,4 +115,29 @@ pub fn copy_elements<T: Element>(alloc: Global, elements: &[T]) -> Result<Vec<T>
         element.push_again(&mut copies)?;
     }
     Ok(copies)
+}
+
+// Appends duplicates of the elements to a list. Errors: `AllocError` if an allocation or a duplicate fails; then some may have been appended.
+fn append_elements<T: Element>(list: &mut Vec<T>, elements: &[T]) -> Result<(), AllocError>
+    ensures { OnOk result (list.new.items ≡ list.old.items ++ elements.now) }
+{
+    for element in elements {
+        let own = element.again()?;
+        list.push(own)?;
+    }
+    Ok(())
+}
+
+/// Duplicates the elements of one list and then those of another into a new list. Errors: `AllocError` if an allocation or a duplicate fails.
+pub fn join_elements<T: Element>(
+    alloc: Global,
+    front: &[T],
+    back: &[T],
+) -> Result<Vec<T>, AllocError>
+    ensures { IfOk result (λ v. v.items ≡ front.now ++ back.now) }
+{
+    let mut all = Vec::with_capacity(alloc, front.len().saturating_add(back.len()))?;
+    append_elements(&mut all, front)?;
+    append_elements(&mut all, back)?;
+    Ok(all)
 }

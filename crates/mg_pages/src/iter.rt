@@ -64,8 +64,7 @@ impl<'a, T: Keyed> Iter<'a, T> {
     }
 
     /// Skips `count` elements, or all elements if fewer are left. Takes no memory. Cost: constant within a page; otherwise the logarithm of
-    /// the number of elements, and reads of the counts of the parts before the place that it reaches, at most 64 on each level below the
-    /// top.
+    /// the number of elements, and reads of the counts of the children before the place that it reaches, at most 16 on each level.
     pub fn advance(&mut self, count: usize)
         ensures { self.new ≡ drop count self.old }
     {

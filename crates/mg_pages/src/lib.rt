@@ -1,9 +1,9 @@
-//! Ordered collections in shared pages. Sharing a collection copies only its top level. A change copies at most one page and the
-//! levels above it. An insertion also splits each of these that has no room.
+//! Ordered collections in shared pages: persistent trees of dynamic height. Sharing a collection copies only its top level. A change copies at
+//! most one page and the levels above it, and splits or joins what is then too large or small.
 //!
 //! Promises. A `Pages` is a list that ascends (`ascends`). What is in a page is an `Element`. Its `again`
 //! makes a duplicate: a copy of a row, or another reference to a `Shared` value. `get` is the element that
-//! ties with the key; `iter`, `after`, `from`, `back`, `before` and `upto` iterate over the list from a place
+//! ties with the key, `at` the one at a place; `iter`, `after`, `from`, `back`, `before` and `upto` iterate over the list from a place
 //! on, in either direction, and `advance` of each iterator skips a number of the elements that are left, in
 //! the logarithm of the length. `insert` and `remove` change the list in one place (`ok`, `had`) or not at
 //! all (`err`), and removing an absent key takes no memory (`absent`); `share` returns the same list; `runs`
@@ -15,22 +15,24 @@
 
 mod back;
 mod build;
-mod child;
 mod element;
 mod hint;
 mod identified;
+mod insertion;
 mod iter;
 mod keyed;
 pub mod laws;
-mod level;
-mod level_parts;
+mod look;
+mod mend;
 mod new_page;
 mod over;
 mod page;
 mod pages;
-mod root;
+mod removal;
 mod runs;
-mod subtree;
+mod search;
+mod sizes;
+mod tree;
 
 pub use back::Back;
 pub use element::{Element, Shared};

@@ -2,27 +2,25 @@
 ghost use Rattle.std.specs.Prelude.{◌≡◌, ◌<◌, ◌^◌, IfOk, List, length};
 ghost use Rattle.std.specs.List.{AllByRecursion, flat_map};
 ghost use Rattle.mg_pages.specs.Order.{Ascends};
-ghost use Rattle.mg_pages.specs.Parts.{AreWhole, child_view, child_value, child_whole, children, page_view, page_whole};
+ghost use Rattle.mg_pages.specs.Subtree.{elements_of};
 
-use crate::build::group;
-use crate::child::{Child, child_of};
+use crate::build::raise;
+use crate::element::copy_elements;
 use crate::keyed::Keyed;
-use crate::level::Level;
-use crate::level_parts::count_of;
-use crate::page::{Page, page_of};
 use crate::pages::Pages;
-use crate::subtree::FILL;
+use crate::sizes;
+use crate::tree::{Child, count_of, page_of};
 use mg_value::NoMemory;
 use std::alloc::{AllocError, Global};
 use std::marker::Model;
 
 /// How many elements a new page should have, so that the next insertions find room in it.
-pub const PAGE_FILL: usize = FILL;
+pub const PAGE_FILL: usize = sizes::PAGE_FILL;
 
 /// A page that is part of no collection yet. Contracts see the list of its elements.
 #[derive(Drop)]
 pub struct NewPage<T: Keyed> {
-    page: Page<T>,
+    elements: Vec<T>,
 }
 
 impl<T: Keyed> Model for NewPage<T> {
@@ -30,9 +28,7 @@ impl<T: Keyed> Model for NewPage<T> {
 
     ghost Value = { List T };
 
-    ghost use Rattle.mg_pages.specs.Parts.{page_view};
-
-    ghost view = { λ p. page_view p.page };
+    ghost view = { λ p. p.elements.items };
 }
 
 impl<T: Keyed> NewPage<T> {
@@ -42,37 +38,23 @@ impl<T: Keyed> NewPage<T> {
     pub fn of(alloc: Global, elements: &[T]) -> Result<NewPage<T>, NoMemory>
         ensures { IfOk result (λ p. p ≡ elements.now) }
     {
-        let page = page_of(alloc, elements)?;
-        Ok(NewPage { page })
-    }
-
-    // Turns the page into a child of a level.
-    fn child(self, alloc: Global) -> Result<Child<T, Page<T>>, AllocError>
-        requires { 0 < length self }
-        ensures whole { IfOk result (λ c. child_whole page_whole page_view (child_value c)) }
-        ensures view { IfOk result (λ c. child_view page_view (child_value c) ≡ self) }
-    {
-        let NewPage { page } = self;
-        child_of::<T, Page<T>>(alloc, page)
+        let elements = copy_elements(alloc, elements)?;
+        Ok(NewPage { elements })
     }
 }
 
 // Turns the pages into children of a level.
-fn parts_of<T: Keyed>(
-    alloc: Global,
-    pages: Vec<NewPage<T>>,
-) -> Result<Vec<Child<T, Page<T>>>, AllocError>
+fn children_of<T: Keyed>(alloc: Global, pages: Vec<NewPage<T>>) -> Result<Vec<Child<T>>, AllocError>
     requires { AllByRecursion (λ (p : List T). 0 < length p) pages.items }
-    ensures whole { IfOk result (λ v. AreWhole (child_whole page_whole page_view) (children v.items)) }
-    ensures view { IfOk result
-        (λ v. flat_map (child_view page_view) (children v.items) ≡ flat_map (λ p. p) pages.items) }
+    ensures { IfOk result (λ v. elements_of v.items ≡ flat_map (λ p. p) pages.items) }
 {
-    let mut parts = Vec::with_capacity(alloc, pages.len())?;
+    let mut children = Vec::with_capacity(alloc, pages.len())?;
     for page in pages {
-        let part = page.child(alloc)?;
-        parts.push(part)?;
+        let NewPage { elements } = page;
+        let child = page_of(alloc, elements)?;
+        children.push(child)?;
     }
-    Ok(parts)
+    Ok(children)
 }
 
 impl<T: Keyed> Pages<T> {
@@ -86,15 +68,9 @@ impl<T: Keyed> Pages<T> {
         requires few { length (flat_map (λ p. p) pages.items) < 2 ^ 64 }
         ensures { IfOk result (λ p. p ≡ flat_map (λ p. p) pages.items) }
     {
-        let parts = parts_of(alloc, pages)?;
-        let lows = group::<T, Page<T>>(alloc, &parts)?;
-        let highs = group::<T, Level<T, Page<T>>>(alloc, &lows)?;
-        let count = count_of::<T, Level<T, Level<T, Page<T>>>>(&highs);
-        Ok(Pages {
-            root: Level {
-                parts: highs,
-                count,
-            },
-        })
+        let children = children_of(alloc, pages)?;
+        let count = count_of(&children);
+        let root = raise(alloc, children)?;
+        Ok(Pages { root, count })
     }
 }

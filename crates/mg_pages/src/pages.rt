@@ -1,32 +1,36 @@
 //! Ordered collections in shared pages.
-ghost use Rattle.std.specs.Prelude.{◌≡◌, ◌↔◌, ◌-◌, [], None, Ok, Some, false, drop, length, take, IfOk, IfSome, IsTrue, OnOk, OnErr, is_some, option_map, reverse};
+ghost use Rattle.std.specs.Prelude.{◌≡◌, ◌↔◌, ◌-◌, [], None, Ok, Some, false, drop, length, take, IfOk, IfSome, IsTrue, OnOk, OnErr, is_some, option_map, reverse, slice_get};
 ghost use Rattle.mg_pages.specs.Order.{Ascends, above, below, found, inserted, removed, upto};
 ghost use Rattle.mg_pages.specs.Runs.{IsRun, IsEndRun};
-ghost use Rattle.mg_pages.specs.Parts.{root_view, IsSound};
 
 use crate::back::Back;
-use crate::build::{group, make_pages};
-use crate::child::copy_children;
+use crate::build::{make_pages, raise};
+use crate::element::copy_elements;
+use crate::insertion::{count_after_put, put_in_root};
 use crate::iter::Iter;
 use crate::keyed::{Keyed, Probe};
-use crate::level::Level;
-use crate::level_parts::page_among;
+use crate::look::{
+    count_below, find_tie, first_run, guessed_run_after, guessed_run_before, last_run, look_up,
+    page_at, run_after, run_before,
+};
+use crate::mend::{grow, shrink};
 use crate::over::Over;
-use crate::page::Page;
-use crate::root::{Root, find_tie, guessed_run_after, guessed_run_before, put, take_out};
-use crate::subtree::Subtree;
+use crate::removal::take_out_among;
+use crate::tree::Child;
 use mg_value::NoMemory;
 use std::alloc::Global;
 use std::marker::Model;
 
 /// An ordered collection of elements, no two of which tie. Contracts see the list of the elements.
 ///
-/// A page has at most 64 elements, unless a `NewPage` had more; a level below the top has at most 64 parts. Collections share the pages
-/// and levels that they have in common. Pages and levels that no other collection shares are changed in place.
+/// It takes as much memory as it holds: nothing if it is empty, one page if its elements are few. Collections share the pages and levels that
+/// they have in common. Pages and levels that no other collection shares are changed in place.
 /// Each method that can return `NoMemory`, except `runs`, also does so if a block would get 2^63 owners.
 #[derive(Drop)]
 pub struct Pages<T: Keyed> {
-    pub(crate) root: Root<T>,
+    // the top level
+    pub(crate) root: Vec<Child<T>>,
+    pub(crate) count: usize,
 }
 
 impl<T: Keyed> Model for Pages<T> {
@@ -34,11 +38,12 @@ impl<T: Keyed> Model for Pages<T> {
 
     ghost Value = { List T };
 
-    ghost use Rattle.mg_pages.specs.Parts.{root_view, IsSound};
+    ghost use Rattle.mg_pages.specs.Subtree.{elements_of};
+    ghost use Rattle.mg_pages.specs.Tree.{IsSound};
 
-    ghost view = { λ a. root_view a.root };
+    ghost view = { λ a. elements_of a.root.items };
 
-    ghost invariant = { λ a. IsSound T.order a.root };
+    ghost invariant = { λ a. IsSound T.order a.count (elements_of a.root.items) };
 }
 
 impl<T: Keyed> Pages<T> {
@@ -47,10 +52,8 @@ impl<T: Keyed> Pages<T> {
         ensures { result ≡ [] }
     {
         Pages {
-            root: Level {
-                parts: Vec::new(alloc),
-                count: 0,
-            },
+            root: Vec::new(alloc),
+            count: 0,
         }
     }
 
@@ -63,26 +66,23 @@ impl<T: Keyed> Pages<T> {
         ensures { IfOk result (λ p. p ≡ elements.now) }
     {
         let pages = make_pages(alloc, elements)?;
-        let lows = group::<T, Page<T>>(alloc, &pages)?;
-        let parts = group::<T, Level<T, Page<T>>>(alloc, &lows)?;
+        let root = raise(alloc, pages)?;
         let count = elements.len();
-        Ok(Pages {
-            root: Level { parts, count },
-        })
+        Ok(Pages { root, count })
     }
 
     /// How many elements there are. Cost: constant.
     pub fn len(&self) -> usize
         ensures { result ≡ length self.now }
     {
-        self.root.count
+        self.count
     }
 
     /// Whether there is no element. Cost: constant.
     pub fn is_empty(&self) -> bool
         ensures { IsTrue result ↔ (self.now ≡ []) }
     {
-        self.root.count == 0
+        self.count == 0
     }
 
     /// Does nothing. From its contract the proofs of callers know that the elements ascend.
@@ -103,28 +103,36 @@ impl<T: Keyed> Pages<T> {
         if let Some(element) = find_tie::<T, Q>(&self.root, key) {
             return Some(element);
         }
-        if self.root.parts.is_empty() {
+        look_up::<T, Q>(&self.root, key)
+    }
+
+    /// Returns the element at a place, counted from 0; `None` if there are not so many elements. Takes no memory. Cost: a read of the count
+    /// of each part before the place, at most 16 on each level.
+    pub fn at(&self, place: usize) -> Option<&T>
+        ensures { option_map (λ t. t.now) result ≡ slice_get self.now place }
+    {
+        if place >= self.count {
             return None;
         }
-        self.root.get(key)
+        let (page, i) = page_at::<T>(&self.root, place);
+        Some(&page[i])
     }
 
     /// Counts the elements below the key: adds up the counts of the parts before the key's place. Takes no memory. Cost: the logarithm
-    /// of the number of elements, and a step for each of these parts, at most 64 on each level below the top.
+    /// of the number of elements, and a step for each of these parts, at most 16 on each level.
     pub fn count_below<Q: Probe<T>>(&self, key: &Q) -> usize
         ensures { result ≡ length (below (Q.against key.now) self.now) }
     {
-        if self.root.parts.is_empty() {
-            return 0;
-        }
-        self.root.count_below(key)
+        // called only for its contract: there are fewer than 2^64 elements
+        let _all = self.len();
+        count_below::<T, Q>(&self.root, key)
     }
 
     /// Counts the elements above the key. Cost: that of `count_below`. Takes no memory.
     pub fn count_above<Q: Probe<T>>(&self, key: &Q) -> usize
         ensures { result ≡ length (above (Q.against key.now) self.now) }
     {
-        self.root.count - self.count_below(&Over { key })
+        self.count - self.count_below(&Over { key })
     }
 
     // Lends the first elements, up to the end of their page; empty if there are no elements.
@@ -132,10 +140,7 @@ impl<T: Keyed> Pages<T> {
         ensures run { IsRun result.now self.now }
         ensures ascends { Ascends T.order self.now }
     {
-        if self.root.parts.is_empty() {
-            return &[];
-        }
-        self.root.first_run()
+        first_run::<T>(&self.root)
     }
 
     // Lends the first elements above a key, up to the end of their page; empty if there are no such elements.
@@ -143,10 +148,7 @@ impl<T: Keyed> Pages<T> {
         ensures run { IsRun result.now (above (Q.against key.now) self.now) }
         ensures ascends { Ascends T.order self.now }
     {
-        if self.root.parts.is_empty() {
-            return &[];
-        }
-        self.root.run_after(key)
+        run_after::<T, Q>(&self.root, key)
     }
 
     // Returns what `run_after` returns, but looks first in the page to which the hints lead. If this is the right page, fewer elements are
@@ -174,10 +176,7 @@ impl<T: Keyed> Pages<T> {
         let left = self.count_above(key).saturating_sub(count);
         if left > 0 {
             let first = self.len() - left;
-            let (page, place) = page_among::<T, Level<T, Level<T, Page<T>>>>(
-                &self.root.parts,
-                first,
-            );
+            let (page, place) = page_at::<T>(&self.root, first);
             return &page[place..];
         }
         &[]
@@ -190,18 +189,6 @@ impl<T: Keyed> Pages<T> {
     {
         let run = self.first_run();
         Iter::at(self, run)
-    }
-
-    /// Lends all elements in one slice, which is empty for an empty collection; `None` if they are in several pages. `from_sorted` puts up
-    /// to 48 elements into one page. Takes no memory. Cost: constant.
-    pub fn in_one_page(&self) -> Option<&[T]>
-        ensures { IfSome result (λ page. page.now ≡ self.now) }
-    {
-        let run = self.first_run();
-        if run.len() < self.len() {
-            return None;
-        }
-        Some(run)
     }
 
     /// Iterates over the elements above the key, in ascending order. Takes no memory. Cost: one look-up; then a step for each element, and
@@ -218,10 +205,7 @@ impl<T: Keyed> Pages<T> {
         ensures run { IsEndRun result.now self.now }
         ensures ascends { Ascends T.order self.now }
     {
-        if self.root.parts.is_empty() {
-            return &[];
-        }
-        self.root.last_run()
+        last_run::<T>(&self.root)
     }
 
     // Lends the last elements below a key, from the start of their page; empty if there are no such elements.
@@ -229,10 +213,7 @@ impl<T: Keyed> Pages<T> {
         ensures run { IsEndRun result.now (below (Q.against key.now) self.now) }
         ensures ascends { Ascends T.order self.now }
     {
-        if self.root.parts.is_empty() {
-            return &[];
-        }
-        self.root.run_before(key)
+        run_before::<T, Q>(&self.root, key)
     }
 
     // Returns what `run_before` returns, but looks first in the page to which the hints lead.
@@ -262,10 +243,7 @@ impl<T: Keyed> Pages<T> {
         let left = self.count_below(key).saturating_sub(count);
         if left > 0 {
             let last = left - 1;
-            let (page, place) = page_among::<T, Level<T, Level<T, Page<T>>>>(
-                &self.root.parts,
-                last,
-            );
+            let (page, place) = page_at::<T>(&self.root, last);
             return &page[..place + 1];
         }
         &[]
@@ -296,17 +274,13 @@ impl<T: Keyed> Pages<T> {
 
     /// Makes another collection of the same elements, which shares all pages with this one.
     ///
-    /// Errors: `NoMemory` if an allocation fails. Cost: a copy of the top level, which has one part for each 30,000
-    /// to 260,000 elements (for fewer after removals, since parts are never joined, or if `from_pages` was given small
-    /// pages). Nothing below it is copied.
+    /// Errors: `NoMemory` if an allocation fails. Cost: a copy of the top level. Nothing below it is copied.
     pub fn share(&self, alloc: Global) -> Result<Pages<T>, NoMemory>
         ensures { IfOk result (λ p. p ≡ self.now) }
     {
-        let parts = copy_children(alloc, &self.root.parts)?;
-        let count = self.root.count;
-        Ok(Pages {
-            root: Level { parts, count },
-        })
+        let root = copy_elements(alloc, &self.root)?;
+        let count = self.count;
+        Ok(Pages { root, count })
     }
 
     /// Inserts an element, and returns whether it replaced one that ties with it.
@@ -318,7 +292,12 @@ impl<T: Keyed> Pages<T> {
         ensures ok { OnOk result (self.new ≡ inserted T.order element self.old) }
         ensures err { OnErr result (self.new ≡ self.old) }
     {
-        let had = put(alloc, &mut self.root, element)?;
+        let Some(more) = self.count.checked_add(1) else {
+            return Err(NoMemory);
+        };
+        let had = put_in_root(alloc, &mut self.root, element)?;
+        self.count = count_after_put(more, had);
+        grow(alloc, &mut self.root);
         Ok(had)
     }
 
@@ -336,7 +315,9 @@ impl<T: Keyed> Pages<T> {
         if self.get(key).is_none() {
             return Ok(false);
         }
-        take_out::<T, Q>(alloc, &mut self.root, key)?;
+        take_out_among::<T, Q>(alloc, &mut self.root, key)?;
+        self.count -= 1;
+        shrink(alloc, &mut self.root);
         Ok(true)
     }
 }

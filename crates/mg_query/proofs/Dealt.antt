@@ -14,11 +14,11 @@ use Rattle.std.specs.List.Sorted.{IsPermutation}
 use Rattle.mg_merge.specs.Merged.{joined}
 use Rattle.mg_revtree.specs.History.{Paths}
 use Rattle.mg_shard.specs.Dealt.{Placing, ShardsStandFor, histories_on}
-use Rattle.mg_shard.specs.Documents.{docs_of}
-use Rattle.mg_shard.specs.Histories.{Histories, served_documents, served_entry}
+use Rattle.mg_shard.specs.Documents.{KeptDocuments, StandFor, deleted_of, docs_of}
+use Rattle.mg_shard.specs.Histories.{Histories, deleted_documents, deleted_id, served_documents, served_entry}
 use Rattle.mg_shard.specs.Shard.{ShardView}
 use Rattle.mg_shard.proofs.Shown.{bytes_cmp, bytes_exact}
-use Rattle.mg_shard.proofs.Standing.{same_docs}
+use Rattle.mg_shard.proofs.Standing.{same_deleted, same_docs}
 
 -- ---- elements e with a number f e and maybe a value g e
 
@@ -123,15 +123,24 @@ all_within place n hs h =
     let placed_at = λ (e : List ℕ × Paths) (k : is_some (find bytes_cmp e.0 (entries hs)) ≡ true). let v = some_value (find bytes_cmp e.0 (entries hs)) k in h e.0 v.0 (get-entries hs e.0 ∙ v.1) in
     all_weaker (λ e. is_some (find bytes_cmp e.0 (entries hs)) ≡ true) (λ e. place e.0 n < n) placed_at (entries hs) (each_found [] (entries hs))
 
--- the served documents of all shards together are the served documents of the histories
-pub dealt : (place : Placing) (shards : List ShardView) (hs : Histories) → ShardsStandFor place shards hs → IsPermutation (served_documents hs) (joined (map (λ s. docs_of s.documents) shards))
-dealt place shards hs stands =
+-- what each shard lists of its documents, by `g`, is together what `g` gives of the histories
+pub dealt_by : {D : Type 0} (g : List ℕ × Paths → Option D) (listed : KeptDocuments → List D) → ((ds : KeptDocuments) (hs : Histories) → StandFor ds hs → listed ds ≡ filter_map g (entries hs))
+    → (place : Placing) (shards : List ShardView) (hs : Histories) → ShardsStandFor place shards hs → IsPermutation (filter_map g (entries hs)) (joined (map (λ s. listed s.documents) shards))
+dealt_by g listed same place shards hs stands =
     let n = length shards in
     let bound : n ≡ 0 + n = omega arith in
-    subst (λ ds. IsPermutation ds (joined (map (λ s. docs_of s.documents) shards))) (all_from_zero (λ e. place e.0 n) served_entry (entries hs))
-    (gathered (λ e. place e.0 n) served_entry (λ s. docs_of s.documents) 0 shards (entries hs)
+    subst (λ ds. IsPermutation ds (joined (map (λ s. listed s.documents) shards))) (all_from_zero (λ e. place e.0 n) g (entries hs))
+    (gathered (λ e. place e.0 n) g (λ s. listed s.documents) 0 shards (entries hs)
     (λ i s at.
     let here : i ≡ 0 + i = omega arith in
-    same_docs s.documents (histories_on place n i hs) (stands.each i s at) ∙ ap (filter_map served_entry) (entries_kept hs (λ id. eqb (place id n) i))
-    ∙ ap (λ k. at_one (λ e. place e.0 n) served_entry k (entries hs)) here)
+    same s.documents (histories_on place n i hs) (stands.each i s at) ∙ ap (filter_map g) (entries_kept hs (λ id. eqb (place id n) i))
+    ∙ ap (λ k. at_one (λ e. place e.0 n) g k (entries hs)) here)
     (subst (λ m. AllByRecursion (λ e. place e.0 n < m) (entries hs)) bound (all_within place n hs stands.placed)))
+
+-- the served documents of all shards together are the served documents of the histories
+pub dealt : (place : Placing) (shards : List ShardView) (hs : Histories) → ShardsStandFor place shards hs → IsPermutation (served_documents hs) (joined (map (λ s. docs_of s.documents) shards))
+dealt = dealt_by served_entry docs_of same_docs
+
+-- the deleted documents of all shards together are the deleted documents of the histories
+pub deleted_dealt : (place : Placing) (shards : List ShardView) (hs : Histories) → ShardsStandFor place shards hs → IsPermutation (deleted_documents hs) (joined (map (λ s. deleted_of s.documents) shards))
+deleted_dealt = dealt_by deleted_id deleted_of same_deleted

@@ -29,7 +29,7 @@ PageAnswers item_view (Err e) r = FailsAs e r
 -- the index that the code's `Source` stands for
 abbrev pub source_view : code.Source → Source
 source_view code.TheVariants.AllDocs = all_docs
-source_view (code.TheVariants.Defined d) = defined d.now
+source_view (code.TheVariants.Defined d place) = defined d.now
 
 -- the catalog of these definitions has the index under its design document and name; every catalog has the index of all documents
 abbrev pub IsInCatalog : List IndexDefinition → Source → Type 0

@@ -111,6 +111,32 @@ pub fn page_text<R: Threads + Sync, G: Gate + Sync>(
     Ok(write_page(alloc, query, found.source, hits)?)
 }
 
+/// Returns the page that answers a query, as values. The shards and documents must be as for `page`, and the search is that of `page_text`.
+///
+/// Errors: those of `page`. Cost: that of `page_text`, but each document that is shown is made a value.
+pub fn page_by<R: Threads + Sync, G: Gate + Sync>(
+    rt: &R,
+    alloc: Global,
+    query: &Query<'_>,
+    catalog: &Catalog,
+    shards: &[Arc<Shard>],
+    workers: Workers,
+    gate: &G,
+) -> Result<Page, PageError>
+    requires indexes { HaveIndexes catalog.now (shards_view shards.now) }
+    ensures answers { (place : Placing) (hs : Histories)
+        → ShardsStandFor place (shards_view shards.now) hs → HaveIdsAndRevs (candidates_of hs)
+        → PageAnswers page_view result (answer_of catalog.now (query_view query.now) (candidates_of hs)) }
+    ensures refused { (why : Unanswered) → served_by catalog.now (query_view query.now) ≡ Err why
+        → result ≡ Err (error_of why) }
+{
+    let listed = find_page(rt, alloc, query, catalog, shards, workers, gate)?;
+    let hits = after_skip(&listed.hits, listed.skip);
+    let docs = show_all(alloc, query, hits)?;
+    let bookmark = last_bookmark(alloc, query, listed.source, hits)?;
+    Ok(Page { docs, bookmark })
+}
+
 // Writes the text of the page that shows the documents of these hits. Errors: `NoMemory` if an allocation fails.
 fn write_page(
     alloc: Global,

@@ -2,7 +2,7 @@
 //!
 //! Promises. `Query::read` returns the query or its first fault, and never `NoMemory` in place of a fault that
 //! is found without memory: a wrong shape, a fault of the selector, a letter that no bookmark has, and a sort in
-//! both directions without a bookmark (`refused`). `page` returns the definition's answer as values, `page_text`
+//! both directions without a bookmark (`refused`). `page` and `page_by` return the definition's answer as values, `page_text`
 //! as text, for all histories that the shards represent (`answers`). They require that the shards have the
 //! indexes of the catalog; they may have others (`indexes`). Each shard hands over the rows that the query
 //! finds there, but at most as many as the page skips and shows (`handed`, `work`). `explain` is the
@@ -26,7 +26,7 @@ mod shown;
 mod source;
 mod text;
 
-pub use answer::{page, page_text};
+pub use answer::{page, page_by, page_text};
 pub use error::{PageError, QueryError};
 pub use explanation::explain;
 pub use query::Query;

@@ -21,6 +21,7 @@ use mg_normal::Normal;
 use mg_path::{Path, PathError};
 use mg_range::{KeyRange, decides};
 use mg_scan::Target;
+use mg_shard::IndexRef;
 use mg_value::{Json, NoMemory};
 use std::alloc::Global;
 
@@ -30,11 +31,11 @@ const ID_COLUMN: &str = "_id";
 // The name of the index of all documents.
 const ALL_DOCS: &str = "_all_docs";
 
-// The index that serves a query: that of all documents, or a defined one, lent by its catalog.
+// The index that serves a query: that of all documents, or a defined one, lent by its catalog, and its place there.
 #[derive(Clone, Copy)]
 pub(crate) enum Source<'a> {
     AllDocs,
-    Defined(&'a IndexDef),
+    Defined(&'a IndexDef, usize),
 }
 
 // Chooses the index that serves the query. Takes no memory. Errors: `NoUsableIndex` if no index is usable; otherwise `BadBookmark` if the
@@ -66,7 +67,7 @@ fn choose_source<'a>(query: &Query<'_>, catalog: &'a Catalog) -> Option<Source<'
 {
     match choose(catalog, &query.normal, &query.sort, &query.hint) {
         Ok(Choice::AllDocs) => Some(Source::AllDocs),
-        Ok(Choice::Index(index)) => Some(Source::Defined(&catalog.list()[index])),
+        Ok(Choice::Index(place)) => Some(Source::Defined(&catalog.list()[place], place)),
         Err(_) => None,
     }
 }
@@ -115,7 +116,7 @@ impl<'a> Source<'a> {
     {
         match self {
             Source::AllDocs => None,
-            Source::Defined(definition) => Some(definition.ddoc()),
+            Source::Defined(definition, _) => Some(definition.ddoc()),
         }
     }
 
@@ -124,7 +125,7 @@ impl<'a> Source<'a> {
     {
         match self {
             Source::AllDocs => ALL_DOCS,
-            Source::Defined(definition) => definition.name(),
+            Source::Defined(definition, _) => definition.name(),
         }
     }
 
@@ -134,7 +135,7 @@ impl<'a> Source<'a> {
     {
         match self {
             Source::AllDocs => 1,
-            Source::Defined(definition) => definition.columns().len(),
+            Source::Defined(definition, _) => definition.columns().len(),
         }
     }
 
@@ -145,10 +146,11 @@ impl<'a> Source<'a> {
     {
         match self {
             Source::AllDocs => Target::AllDocs,
-            Source::Defined(definition) => Target::Index {
+            Source::Defined(definition, place) => Target::Index(IndexRef {
                 ddoc: definition.ddoc(),
                 name: definition.name(),
-            },
+                place,
+            }),
         }
     }
 
@@ -159,7 +161,7 @@ impl<'a> Source<'a> {
     {
         match self {
             Source::AllDocs => id_range(alloc, normal),
-            Source::Defined(definition) => KeyRange::of(alloc, definition.columns(), normal),
+            Source::Defined(definition, _) => KeyRange::of(alloc, definition.columns(), normal),
         }
     }
 
@@ -170,7 +172,7 @@ impl<'a> Source<'a> {
     {
         match self {
             Source::AllDocs => false,
-            Source::Defined(definition) => {
+            Source::Defined(definition, _) => {
                 !normal.has_rest() && decides(definition.columns(), normal.atoms())
             }
         }
@@ -182,7 +184,7 @@ impl<'a> Source<'a> {
     {
         match self {
             Source::AllDocs => all_docs_listed(alloc),
-            Source::Defined(definition) => definition.listed(alloc),
+            Source::Defined(definition, _) => definition.listed(alloc),
         }
     }
 }

@@ -22,3 +22,4 @@ pub mod Leafless
 pub mod Bodies
 pub mod Firsts
 pub mod Pairs
+pub mod Ancestors

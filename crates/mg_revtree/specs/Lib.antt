@@ -2,6 +2,7 @@ pub mod Revision
 pub mod History
 pub mod Tree
 pub mod Changes
+pub mod Ancestry
 pub mod Nodes
 pub mod Steps
 pub mod Laws

@@ -1,9 +1,10 @@
 //! The ways in which a revision tree is kept, from the smallest tree to the largest.
-ghost use Rattle.std.specs.Prelude.{◌≡◌, ◌<◌, ◌≤◌, ◌+◌, List, IfOk, IfSome, OnErr, OnOk, is_some, length, map, option_map, string_bytes};
+ghost use Rattle.std.specs.Prelude.{◌≡◌, ◌<◌, ◌≤◌, ◌+◌, List, IfOk, IfSome, OnErr, OnOk, is_some, length, map, option_and_then, option_copied, option_map, string_bytes};
 ghost use Rattle.mg_revtree.specs.Revision.{run_from};
 ghost use Rattle.mg_revtree.specs.Body.{IsFormOf};
 ghost use Rattle.mg_revtree.specs.History.{Paths, Link, are_known_whole, first_of, fit, links};
 ghost use Rattle.mg_revtree.specs.Growth.{after_line, first_tree, is_empty, is_run_of, line_tree, tree_in};
+ghost use Rattle.mg_revtree.specs.Known.{parent_below};
 ghost use Rattle.mg_revtree.specs.Tree.{AreKnownLinks, AreSorted, StandsFor, find};
 ghost use Rattle.mg_revtree.specs.Changes.{found_of, path_of, with_path};
 
@@ -12,7 +13,7 @@ use crate::error::Merged;
 use crate::form::Form;
 use crate::grown::{Grown, only_leaf};
 use crate::leaf::{Leaf, SharedLeaf};
-use crate::links::KnownLinks;
+use crate::links::{KnownLinks, LookUp};
 use crate::pair::Pair;
 use crate::revision::Rev;
 use mg_packed::Packed;
@@ -97,6 +98,21 @@ impl Growth {
             Growth::Pair(pair) => pair.knows_whole(start, ids),
             Growth::Line(_, known) => known.knows_whole(start, ids),
             Growth::Grown(grown) => grown.links.knows_whole(start, ids),
+        }
+    }
+
+    /// Returns the id of a revision's parent, which is at the position below; `None` if no parent of the revision is known. Takes no memory.
+    /// Cost: the logarithm of the known revisions.
+    pub fn parent(&self, pos: u32, id: &[u8]) -> Option<&[u8]>
+        ensures { parent_below pos (option_copied result)
+            ≡ option_and_then (λ p. p) (find (pos, id.now) (tree_in self.now).links) }
+    {
+        match self {
+            Growth::Empty => None,
+            Growth::First(_) => None,
+            Growth::Pair(pair) => pair.look_up_parent(pos, id).flatten(),
+            Growth::Line(_, known) => known.look_up_parent(pos, id).flatten(),
+            Growth::Grown(grown) => grown.links.look_up_parent(pos, id).flatten(),
         }
     }
 

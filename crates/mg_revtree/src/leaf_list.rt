@@ -1,4 +1,4 @@
-ghost use Rattle.std.specs.Prelude.{◌≡◌, ◌<◌, ◌≤◌, [], IfErr, IfNone, IfOk, IfSome, IsOk, None, filter, is_some, length, map, not, string_bytes, vec_capacity, vec_len};
+ghost use Rattle.std.specs.Prelude.{◌≡◌, ◌<◌, ◌≤◌, [], IfErr, IfNone, IfOk, IfSome, IsOk, None, filter, is_some, length, map, not, option_copied, option_map, string_bytes, vec_capacity, vec_len};
 ghost use Rattle.std.specs.List.{insert};
 ghost use Rattle.mg_revtree.specs.Revision.{run_from, same_revision};
 ghost use Rattle.mg_revtree.specs.History.{has_child, links, ranked_with};
@@ -41,6 +41,18 @@ pub fn is_leaf(leaves: &[SharedLeaf], pos: u32, id: &[u8]) -> bool
     ensures { AreRanked leaves.now → result ≡ is_some (leaf_in (pos, id.now) leaves.now) }
 {
     place_among(leaves, pos, id).is_some()
+}
+
+/// Returns the leaf of a revision; `None` if the revision is not a leaf. Takes no memory. Cost: the logarithm of the leaves.
+pub fn leaf_of<'a>(leaves: &'a [SharedLeaf], pos: u32, id: &[u8]) -> Option<&'a Leaf>
+    ensures { AreRanked leaves.now → AreApart leaves.now
+        → option_copied result ≡ option_map
+        (λ m. record { rev = (pos, id.now); deleted = m.0; body = m.1 }) (leaf_in (pos, id.now) leaves.now) }
+{
+    match place_among(leaves, pos, id) {
+        Some(at) => Some(leaves[at].leaf()),
+        None => None,
+    }
 }
 
 // Removes the leaf of a revision, if there is one.

@@ -1,7 +1,8 @@
 ghost use Rattle.std.specs.Prelude.{◌≡◌, ◌+◌, ◌<◌, ◌≤◌, [], Err, IfOk, IfSome, IsOk, IsOkUnless, Ok, OnErr, OnOk, false, is_some, length, map, option_copied, string_bytes, true};
 ghost use Rattle.mg_revtree.specs.Revision.{run_from};
 ghost use Rattle.mg_revtree.specs.Body.{IsFormOf};
-ghost use Rattle.mg_revtree.specs.History.{Paths, first_of, fits, is_known_whole, leaves_of, winner_of};
+ghost use Rattle.mg_revtree.specs.History.{Paths, first_of, fits, is_known_whole, leaf_of, leaves_of, winner_of};
+ghost use Rattle.mg_revtree.specs.Ancestry.{ancestry};
 ghost use Rattle.mg_revtree.specs.Growth.{empty_tree, first_tree};
 ghost use Rattle.mg_revtree.specs.Tree.{AreLeaves, AreLosers, AreRanked, StandsFor};
 ghost use Rattle.mg_revtree.specs.Losers.{losers_of};
@@ -13,7 +14,7 @@ use crate::form::Form;
 use crate::growth::Growth;
 use crate::history::History;
 use crate::leaf::{Leaf, SharedLeaf};
-use crate::leaf_list::{is_leaf, lent_leaves, undeleted_among};
+use crate::leaf_list::{is_leaf, leaf_of, lent_leaves, undeleted_among};
 use crate::rev_id::RevId;
 use crate::revision::Rev;
 use mg_packed::Packed;
@@ -48,6 +49,17 @@ fn ids_over(alloc: Global, id: String, parent: Option<&Rev>) -> Result<Vec<Strin
         ids.push(String::from_str(alloc, parent.id.as_str())?)?;
     }
     Ok(ids)
+}
+
+// Copies the id of a known revision, which was a text when its path was accepted. Errors: `NoMemory` if an allocation fails, or if the bytes
+// are not a text.
+fn text_of(alloc: Global, id: &[u8]) -> Result<String, NoMemory>
+    ensures { IfOk result (λ text. string_bytes text ≡ id.now) }
+{
+    match str::from_utf8(id) {
+        Ok(text) => Ok(String::from_str(alloc, text)?),
+        Err(_) => Err(NoMemory),
+    }
 }
 
 /// The revision tree of a document: its known revisions with their parents, and its leaves with their deletion marks
@@ -106,6 +118,37 @@ impl RevTree {
         ensures { self.new ≡ self.old }
     {
         self.growth.move_body_into(form);
+    }
+
+    /// Returns the leaf with this revision, the winner or another, deleted or not; `None` if the revision is not a leaf. Takes no memory.
+    /// Cost: the logarithm of the leaves.
+    pub fn leaf(&self, rev: &Rev) -> Option<&Leaf>
+        ensures { (h : Paths) → StandsFor self.now h → option_copied result ≡ leaf_of h rev.now }
+    {
+        leaf_of(self.growth.leaves(), rev.pos, rev.id.as_bytes())
+    }
+
+    /// Lists the ids of a revision and of its known ancestors, newest first. Each is that of a revision at the position below the one before
+    /// it, and its parent.
+    ///
+    /// Errors: `NoMemory` if an allocation fails. Cost: the number of the revisions, and for each the logarithm of the known revisions.
+    /// Source: `_revisions` of CouchDB's API reference.
+    pub fn ancestry(&self, alloc: Global, rev: &Rev) -> Result<Vec<String>, NoMemory>
+        ensures { IfOk result (λ ids. (h : Paths) → StandsFor self.now h
+            → map string_bytes ids.items ≡ map (λ r. r.1) (ancestry h rev.now)) }
+    {
+        let mut ids = Vec::new(alloc);
+        let mut id = rev.id.as_bytes();
+        let mut pos = rev.pos;
+        while pos > 0 {
+            ids.push(text_of(alloc, id)?)?;
+            let Some(parent) = self.growth.parent(pos, id) else {
+                return Ok(ids);
+            };
+            id = parent;
+            pos -= 1;
+        }
+        Ok(ids)
     }
 
     /// Lists the leaves, best first. Errors: `NoMemory` if an allocation fails. Cost: their number.

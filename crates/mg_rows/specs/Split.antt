@@ -18,7 +18,7 @@ held_end (Shared bytes end) = end
 abbrev pub held_parts : Held → List ℕ × List ℕ
 held_parts held = (take (held_end held) (held_bytes held), drop (held_end held) (held_bytes held))
 
--- the first part is no longer than all bytes together; in the value itself these are at most 45, and the array has room for them
+-- the first part is no longer than all bytes together; in the value itself these are at most 29, and the array has room for them
 abbrev pub IsSound : Held → Type 0
-IsSound (Inline count end bytes) = (end ≤ count) × (count ≤ length bytes) × (count ≤ 45)
+IsSound (Inline count end bytes) = (end ≤ count) × (count ≤ length bytes) × (count ≤ 29)
 IsSound (Shared bytes end) = end ≤ length (arc_value bytes).items

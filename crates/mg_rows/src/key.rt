@@ -62,7 +62,7 @@ impl KeyBytes {
         Ok(())
     }
 
-    /// Makes the row of the key and the id of a document. A row of up to 45 bytes takes no memory.
+    /// Makes the row of the key and the id of a document. A row of up to 29 bytes takes no memory.
     ///
     /// Errors: `NoMemory` if an allocation fails. Cost: the size of the key and the id.
     pub fn row(&self, alloc: Global, id: &str) -> Result<RowBytes, NoMemory>

@@ -21,7 +21,7 @@ const KEY_END: u8 = 0;
 /// see the row.
 ///
 /// The order of the bytes is the order of rows: by key, as `mg_collate::compare_keys` orders keys, and rows of equal
-/// keys by the bytes of the id. A `RowBytes` takes 48 bytes of memory, and stores up to 45 bytes of a row in itself;
+/// keys by the bytes of the id. A `RowBytes` takes 32 bytes of memory, and stores up to 29 bytes of a row in itself;
 /// the bytes of a longer row are in a block that copies share. The bytes of a row are, for each column, the type of
 /// the value (null 1, false 2, true 3, numbers 4, strings 5, arrays 6, objects 7) and what the value holds, then 0,
 /// and then the id. A number takes 9 bytes, and a string takes two more than its own.
@@ -78,7 +78,7 @@ impl RowBytes {
         Ok(RowBytes { bytes })
     }
 
-    /// Duplicates the row: copies up to 45 bytes, and shares the block of a longer row. Takes no memory.
+    /// Duplicates the row: copies up to 29 bytes, and shares the block of a longer row. Takes no memory.
     ///
     /// Errors: `NoMemory` if the block of a longer row has 2^63 - 1 owners. Cost: constant.
     #[inline(always)]

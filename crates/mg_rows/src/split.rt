@@ -1,4 +1,4 @@
-// Immutable bytes in two parts: up to 45 bytes are stored in the value itself, more are stored in a block that copies share.
+// Immutable bytes in two parts: up to 29 bytes are stored in the value itself, more are stored in a block that copies share.
 ghost use Rattle.std.specs.Prelude.{◌≡◌, ◌≤◌, ◌+◌, ◌++◌, [], ◌∷◌, IfOk, IfSome, length, take};
 ghost use Rattle.mg_rows.specs.Split.{held_bytes, held_end, held_parts, IsSound};
 
@@ -7,18 +7,18 @@ use std::alloc::Global;
 use std::marker::Model;
 use std::sync::Arc;
 
-// The most bytes that are stored in the value itself. With this limit a row takes 48 bytes.
-const INLINE: usize = 45;
+// The most bytes that are stored in the value itself. With this limit a row takes 32 bytes.
+const INLINE: usize = 29;
 
 #[derive(Drop)]
 pub(crate) enum Held {
     // how many bytes there are, how many of them are the first part's, and the bytes
-    Inline(u8, u8, [u8; 45]),
+    Inline(u8, u8, [u8; 29]),
     // the bytes, and how many of them are the first part's
     Shared(Arc<Vec<u8>>, usize),
 }
 
-/// Bytes in two parts: up to 45 bytes in the value itself, more in a block that copies share. A copy takes no memory.
+/// Bytes in two parts: up to 29 bytes in the value itself, more in a block that copies share. A copy takes no memory.
 #[derive(Drop)]
 pub(crate) struct SplitBytes {
     held: Held,
@@ -39,7 +39,7 @@ impl Model for SplitBytes {
 impl SplitBytes {
     /// Copies bytes: the first part is `front` and then the byte `last`, the second part is `back`.
     ///
-    /// Errors: `NoMemory` if an allocation fails; up to 45 bytes take no memory. Cost: the count of bytes.
+    /// Errors: `NoMemory` if an allocation fails; up to 29 bytes take no memory. Cost: the count of bytes.
     pub(crate) fn of(
         alloc: Global,
         front: &[u8],
@@ -126,14 +126,14 @@ fn hold(alloc: Global, front: &[u8], last: u8, back: &[u8]) -> Result<Held, NoMe
 }
 
 // Makes the array that is stored in the value itself: the bytes in order, filled up with zeros.
-fn inside(front: &[u8], last: u8, back: &[u8]) -> [u8; 45]
-    requires { length front.now + 1 + length back.now ≤ 45 }
+fn inside(front: &[u8], last: u8, back: &[u8]) -> [u8; 29]
+    requires { length front.now + 1 + length back.now ≤ 29 }
     ensures bytes { take (length front.now + 1 + length back.now) result
         ≡ front.now ++ last ∷ [] ++ back.now }
 {
     let end = front.len() + 1;
     let count = end + back.len();
-    let mut inside = [0u8; 45];
+    let mut inside = [0u8; 29];
     inside[..front.len()].copy_from_slice(front);
     inside[front.len()] = last;
     inside[end..count].copy_from_slice(back);

@@ -27,11 +27,12 @@ use Rattle.mg_range.specs.contracts.row_range.RowRange as RowRange
 use Rattle.mg_range.specs.contracts.span.Limit as Limit
 use Rattle.mg_range.specs.contracts.span.Span as Span
 use Rattle.mg_scan.specs.contracts.search.Search as Search
-use Rattle.mg_scan.proofs.target.Target.TheSendSync as target
+use Rattle.mg_scan.specs.contracts.target.Target as Target
 use Rattle.mg_scan.proofs.Values.{json_field_sync, json_sync}
 use Rattle.mg_rows.proofs.row.RowBytes.TheSendSync as rows
 use Rattle.mg_selector.specs.contracts.operator.Op as Op
 use Rattle.mg_selector.specs.contracts.selector.Sel as Sel
+use Rattle.mg_shard.proofs.index_ref.IndexRef.TheSendSync as index
 
 -- ---- ranges
 
@@ -116,8 +117,11 @@ normal_sync = search (sendable, crosses, maps, atom_sync, condition_sync) depth 
 
 -- ---- the whole search
 
+target_sync : (κs : _) → IsSync (Target.the_row κs)
+target_sync κs = search (sendable, crosses, maps, index.the_sync) depth 40
+
 pub search_sync : (κs : _) → IsSync (Search.the_row κs)
-search_sync κs = search (sendable, crosses, maps, normal_sync, row_range_sync, rows.the_sync, target.the_sync) depth 60
+search_sync κs = search (sendable, crosses, maps, normal_sync, row_range_sync, rows.the_sync, target_sync) depth 60
 
 -- ---- the definition of an index
 

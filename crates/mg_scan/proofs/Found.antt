@@ -3,7 +3,6 @@ use Rattle.std.proofs.Common.{◌≡◌, ℕ, List, [], Option, Some, None, map,
 use Rattle.std.specs.FinMap.{entries, get}
 use Rattle.std.specs.List.{AllByRecursion}
 use Rattle.std.specs.Option.{option_map_or}
-use denote.Ref.{Bor}
 use Rattle.mg_collate.specs.Row.{RowValue}
 use Rattle.mg_collate.specs.declared.direction.Direction.{Direction}
 use Rattle.mg_index.specs.Catalog.{definition_at}
@@ -26,6 +25,7 @@ use Rattle.mg_shard.specs.Rows.{rows_of}
 use Rattle.mg_shard.specs.Shard.{ShardView}
 use Rattle.mg_shard.specs.Walk.{beyond}
 use Rattle.mg_shard.specs.declared.document.Document.{Document}
+use Rattle.mg_shard.specs.declared.index_ref.IndexRef.{IndexRef}
 use Rattle.mg_value.specs.Value.{Value}
 
 -- ---- all documents
@@ -66,11 +66,11 @@ or_map : (f : List Steps → List RowValue) (o : Option IndexDefinition) → opt
 or_map f None = refl
 or_map f (Some d) = refl
 
-pub gives_index : (s : Search) (shard : ShardView) (hits : List Hit) (ddoc name : Bor (List ℕ)) → s.target ≡ Index ddoc name
-    → hit_rows hits ≡ option_map_or (λ d. first_matches (search_input s d.columns) (docs_of shard.documents)) (definition_at ddoc.now name.now shard.definitions) [] → AreHitsOf shard.documents hits
+pub gives_index : (s : Search) (shard : ShardView) (hits : List Hit) (x : IndexRef) → s.target ≡ Index x
+    → hit_rows hits ≡ option_map_or (λ d. first_matches (search_input s d.columns) (docs_of shard.documents)) (definition_at x.ddoc.now x.name.now shard.definitions) [] → AreHitsOf shard.documents hits
     → AreHitsFound s shard hits
-gives_index s shard hits ddoc name e is documents =
+gives_index s shard hits x e is documents =
     record {
-      rows = is ∙ or_map (λ columns. first_matches (search_input s columns) (docs_of shard.documents)) (definition_at ddoc.now name.now shard.definitions) ∙ ap (λ t. found_in t (search_input s) shard) (sym e);
+      rows = is ∙ or_map (λ columns. first_matches (search_input s columns) (docs_of shard.documents)) (definition_at x.ddoc.now x.name.now shard.definitions) ∙ ap (λ t. found_in t (search_input s) shard) (sym e);
       documents = documents;
     }

@@ -241,7 +241,7 @@ module _ (direction : Direction) (range : Range) (after : Option RowValue) (p : 
       → count_upcoming target range after direction shard + length (all_found_in target (input_of_parts everything range (Some p) more direction) shard)
       ≡ count_upcoming target range (Some p) direction shard + length (all_found_in target (input_of_parts everything range after count direction) shard)
   one_counted count more AllDocs shard is = absurd is
-  one_counted count more (Index ddoc name) shard is = one_index count more (definition_at ddoc.now name.now shard.definitions) (docs_of shard.documents)
+  one_counted count more (Index x) shard is = one_index count more (definition_at x.ddoc.now x.name.now shard.definitions) (docs_of shard.documents)
 
   found_or : (count more : ℕ) (o : Option (List Steps)) (ds : List ServedDocument)
       → option_map_or (λ columns. all_matches (input_of_parts everything range (Some p) more direction columns) ds) o []

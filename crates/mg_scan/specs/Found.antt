@@ -17,7 +17,7 @@ use Rattle.mg_shard.specs.Shard.{ShardView}
 -- the columns of a target in a shard with these indexes; `None` if the index is not one of them. The one column of `AllDocs` is `_id`
 abbrev pub target_columns : Target → List IndexDefinition → Option (List Steps)
 target_columns AllDocs definitions = Some id_columns
-target_columns (Index ddoc name) definitions = option_map (λ d. d.columns) (definition_at ddoc.now name.now definitions)
+target_columns (Index x) definitions = option_map (λ d. d.columns) (definition_at x.ddoc.now x.name.now definitions)
 
 -- what a search asks for, made from its parts; the columns come last, since they depend on the shard
 abbrev pub input_of_parts : NormalForm → Range → Option RowValue → ℕ → Direction → List Steps → SearchInput

@@ -17,7 +17,7 @@ use Rattle.mg_shard.specs.Shard.{ShardView}
 -- the target is an index
 abbrev pub IsIndex : Target → Type 0
 IsIndex AllDocs = ⊥
-IsIndex (Index ddoc name) = Unit {0}
+IsIndex (Index x) = Unit {0}
 
 -- how many rows of a shard (for `AllDocs`, documents, deleted ones too) come after where a search begins; 0 if the shard lacks the index
 abbrev pub count_upcoming_by : Search → ShardView → ℕ

@@ -22,4 +22,4 @@ begin_of_parts range after direction r = begin_order direction (side_of range (i
 -- the shard has no such index
 abbrev pub count_upcoming : Target → Range → Option RowValue → Direction → ShardView → ℕ
 count_upcoming AllDocs range after direction s = length (beyond direction (λ e. begin_of_parts range after direction (id_row e.0)) (entries s.documents))
-count_upcoming (Index ddoc name) range after direction s = option_map_or (λ rows. length (beyond direction (begin_of_parts range after direction) rows)) (rows_at ddoc.now name.now s) 0
+count_upcoming (Index x) range after direction s = option_map_or (λ rows. length (beyond direction (begin_of_parts range after direction) rows)) (rows_at x.ddoc.now x.name.now s) 0

@@ -11,7 +11,7 @@ ghost use Rattle.mg_scan.specs.Way.{begin_at};
 use crate::begin::Begin;
 use crate::search::Search;
 use crate::target::Target;
-use mg_shard::Shard;
+use mg_shard::{IndexRef, Shard};
 use std::sync::Arc;
 
 /// Whether at most `most` documents (deleted ones too) or rows of all shards come after the place where a search begins. If they do, the
@@ -19,7 +19,7 @@ use std::sync::Arc;
 /// counts as 0. The documents or rows are not read one by one. Takes no memory.
 ///
 /// Cost: in each shard, until the sum exceeds `most`, finding the index, one look-up of where to begin, and a read of the count of each
-/// part before that place, at most 64 for each level below the top.
+/// part before that place, on each level.
 pub fn reads_at_most(shards: &[Arc<Shard>], search: Search<'_>, most: usize) -> bool
     ensures { result
         ≡ nat_le (sum_by
@@ -47,17 +47,17 @@ pub(crate) fn count_upcoming(shard: &Shard, search: Search<'_>) -> usize
 {
     match search.target {
         Target::AllDocs => shard.count_documents_beyond(&Begin { search }, search.direction),
-        Target::Index { ddoc, name } => count_upcoming_rows(shard, ddoc, name, search),
+        Target::Index(index) => count_upcoming_rows(shard, index, search),
     }
 }
 
 // How many rows of an index come after the place where the search begins; 0 if there is no such index.
-fn count_upcoming_rows(shard: &Shard, ddoc: &str, name: &str, search: Search<'_>) -> usize
+fn count_upcoming_rows(shard: &Shard, index: IndexRef<'_>, search: Search<'_>) -> usize
     ensures { result ≡ option_map_or
         (λ rows. length (beyond search.entry.direction (begin_at search.entry) rows))
-        (rows_at ddoc.now name.now shard.now) 0 }
+        (rows_at index.entry.ddoc.now index.entry.name.now shard.now) 0 }
 {
-    match shard.count_rows_beyond(ddoc, name, &Begin { search }, search.direction) {
+    match shard.count_rows_beyond(index, &Begin { search }, search.direction) {
         Some(count) => count,
         None => 0,
     }

@@ -9,7 +9,7 @@ use crate::scout::{Scout, insert_scout, scout_of};
 use crate::search::{Search, is_late_row, is_reached};
 use crate::target::Target;
 use mg_rows::RowBytes;
-use mg_shard::Shard;
+use mg_shard::{IndexRef, Shard};
 use mg_value::NoMemory;
 use std::alloc::Global;
 use std::sync::Arc;
@@ -45,7 +45,7 @@ pub(crate) fn pass_over<'a>(
     }
     match search.target {
         Target::AllDocs => Ok((search, skip)),
-        Target::Index { ddoc, name } => pass_rows(alloc, shards, search, skip, ddoc, name),
+        Target::Index(index) => pass_rows(alloc, shards, search, skip, index),
     }
 }
 
@@ -60,8 +60,7 @@ fn pass_rows<'a>(
     shards: &'a [Arc<Shard>],
     search: Search<'a>,
     skip: usize,
-    ddoc: &str,
-    name: &str,
+    index: IndexRef<'_>,
 ) -> Result<(Search<'a>, usize), NoMemory>
     requires { IsIndex search.target }
     ensures { IfOk result (λ r. HasPageOf (shards_view shards.now) search.entry skip r.0 r.1) }
@@ -74,7 +73,7 @@ fn pass_rows<'a>(
                 skip,
                 upcoming,
             };
-            let passed = pass_rounds(alloc, shards, all, ddoc, name)?;
+            let passed = pass_rounds(alloc, shards, all, index)?;
             Ok((passed.search, passed.skip))
         }
     }
@@ -85,8 +84,7 @@ fn pass_rounds<'a>(
     alloc: Global,
     shards: &'a [Arc<Shard>],
     all: LongSkip<'a>,
-    ddoc: &str,
-    name: &str,
+    index: IndexRef<'_>,
 ) -> Result<LongSkip<'a>, NoMemory>
     requires index { IsIndex all.search.target }
     requires upcoming { all.upcoming ≡ count_all_upcoming (shards_view shards.now) all.search }
@@ -96,7 +94,7 @@ fn pass_rounds<'a>(
     let mut passed = all;
     let mut stride = first_stride(all.skip, shards.len());
     while stride > 1 {
-        let next = pass_round(alloc, shards, passed, ddoc, name, stride)?;
+        let next = pass_round(alloc, shards, passed, index, stride)?;
         passed = next;
         stride /= SHRINK;
     }
@@ -109,8 +107,7 @@ fn pass_round<'a>(
     alloc: Global,
     shards: &'a [Arc<Shard>],
     passed: LongSkip<'a>,
-    ddoc: &str,
-    name: &str,
+    index: IndexRef<'_>,
     stride: usize,
 ) -> Result<LongSkip<'a>, NoMemory>
     requires index { IsIndex passed.search.target }
@@ -120,7 +117,7 @@ fn pass_round<'a>(
         r.search r.skip) }
     ensures upcoming { IfOk result (λ r. r.upcoming ≡ count_all_upcoming (shards_view shards.now) r.search) }
 {
-    match row_near(alloc, shards, passed, ddoc, name, stride)? {
+    match row_near(alloc, shards, passed, index, stride)? {
         None => Ok(passed),
         Some(row) => Ok(pass_to(shards, passed, row)),
     }
@@ -204,14 +201,13 @@ fn row_near<'a>(
     alloc: Global,
     shards: &'a [Arc<Shard>],
     passed: LongSkip<'_>,
-    ddoc: &str,
-    name: &str,
+    index: IndexRef<'_>,
     stride: usize,
 ) -> Result<Option<&'a RowBytes>, NoMemory>
     requires { 0 < stride }
 {
     let search = passed.search;
-    let mut scouts = scouts_of(alloc, shards, search, ddoc, name, stride)?;
+    let mut scouts = scouts_of(alloc, shards, search, index, stride)?;
     let steps = (passed.skip / stride).saturating_sub(shards.len());
     let mut last = None;
     for _ in 0..steps {
@@ -232,8 +228,7 @@ fn scouts_of<'a>(
     alloc: Global,
     shards: &'a [Arc<Shard>],
     search: Search<'_>,
-    ddoc: &str,
-    name: &str,
+    index: IndexRef<'_>,
     stride: usize,
 ) -> Result<Vec<Scout<'a>>, NoMemory>
     requires { 0 < stride }
@@ -241,7 +236,7 @@ fn scouts_of<'a>(
     let mut scouts = Vec::with_capacity(alloc, shards.len())?;
     for i in 0..shards.len() {
         let shard: &Shard = &shards[i];
-        if let Some(rows) = shard.rows_beyond(ddoc, name, &Begin { search }, search.direction) {
+        if let Some(rows) = shard.rows_beyond(index, &Begin { search }, search.direction) {
             if let Some(scout) = scout_of(rows, search, stride) {
                 insert_scout(&mut scouts, scout, search.direction)?;
             }

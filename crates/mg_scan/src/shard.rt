@@ -22,7 +22,7 @@ use crate::search::{Search, is_late_id, is_late_row};
 use crate::target::Target;
 use mg_normal::Normal;
 use mg_rows::RowBytes;
-use mg_shard::{Document, Documents, Rows, Shard};
+use mg_shard::{Document, Documents, IndexRef, Rows, Shard};
 use mg_value::NoMemory;
 use std::alloc::Global;
 
@@ -162,17 +162,16 @@ fn hits_of_all_docs<'a>(
 fn hits_of_index<'a>(
     alloc: Global,
     shard: &'a Shard,
-    ddoc: &str,
-    name: &str,
+    index: IndexRef<'_>,
     search: Search<'_>,
 ) -> Result<Vec<Hit<'a>>, NoMemory>
     ensures rows { IfOk result (λ v. hit_rows v.items
         ≡ option_map_or
         (λ d. first_matches (search_input search.entry d.columns) (docs_of shard.now.documents))
-        (definition_at ddoc.now name.now shard.now.definitions) []) }
+        (definition_at index.entry.ddoc.now index.entry.name.now shard.now.definitions) []) }
     ensures documents { IfOk result (λ v. AreHitsOf shard.now.documents v.items) }
 {
-    match shard.rows_beyond(ddoc, name, &Begin { search }, search.direction) {
+    match shard.rows_beyond(index, &Begin { search }, search.direction) {
         Some(rows) => Ok(hits_of_rows(alloc, shard, rows, search)?),
         None => Ok(Vec::new(alloc)),
     }
@@ -191,6 +190,6 @@ pub(crate) fn hits_in<'a>(
 {
     match search.target {
         Target::AllDocs => Ok(hits_of_all_docs(alloc, shard, search)?),
-        Target::Index { ddoc, name } => Ok(hits_of_index(alloc, shard, ddoc, name, search)?),
+        Target::Index(index) => Ok(hits_of_index(alloc, shard, index, search)?),
     }
 }

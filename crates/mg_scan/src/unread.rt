@@ -6,7 +6,7 @@ ghost use Rattle.mg_scan.specs.Begun.{AreBegun, IsBegun, IsBegunIn, IsUnreadAfte
 use crate::begin::Begin;
 use crate::search::Search;
 use crate::target::Target;
-use mg_shard::{Documents, Rows, Shard};
+use mg_shard::{Documents, IndexRef, Rows, Shard};
 
 /// What a search has still to read in a shard.
 #[derive(Drop)]
@@ -27,7 +27,7 @@ pub(crate) fn unread_of<'a>(shard: &'a Shard, search: Search<'_>) -> Unread<'a>
 {
     match search.target {
         Target::AllDocs => Unread::Documents(documents_of(shard, search)),
-        Target::Index { ddoc, name } => unread_in_index(shard, ddoc, name, search),
+        Target::Index(index) => unread_in_index(shard, index, search),
     }
 }
 
@@ -41,11 +41,12 @@ fn documents_of<'a>(shard: &'a Shard, search: Search<'_>) -> Documents<'a>
 
 // Finds the rows of an index from where the search begins; nothing if the shard has no such index.
 #[inline(always)]
-fn unread_in_index<'a>(shard: &'a Shard, ddoc: &str, name: &str, search: Search<'_>) -> Unread<'a>
-    ensures { IsBegunIn (option_map (λ d. d.columns) (definition_at ddoc.now name.now shard.now.definitions))
+fn unread_in_index<'a>(shard: &'a Shard, index: IndexRef<'_>, search: Search<'_>) -> Unread<'a>
+    ensures { IsBegunIn (option_map (λ d. d.columns)
+        (definition_at index.entry.ddoc.now index.entry.name.now shard.now.definitions))
         search.entry shard.now result }
 {
-    match shard.rows_beyond(ddoc, name, &Begin { search }, search.direction) {
+    match shard.rows_beyond(index, &Begin { search }, search.direction) {
         Some(rows) => Unread::Rows(rows),
         None => Unread::Nothing,
     }

@@ -2,6 +2,7 @@
 use Rattle.std.proofs.Common.{◌≡◌, ℕ, zero, suc, ◌+◌, ◌<◌, ◌≤◌, Bool, true, false, cond, not, ◌&&◌, List, [], ◌∷◌, ◌++◌, Option, Some, option_map, Ordering, Less, Equal, Greater, is_eq, is_gt, is_lt, length, slice_get, set, unwrap_or, refl, sym, ap, ap₂, ◌∙◌, subst, arith}
 use Rattle.std.proofs.lemmas.Cmp.{nat_list_cmp_total, tied_itself}
 use Rattle.std.proofs.lemmas.Map.Text.{is_eq-slice_cmp}
+use Rattle.std.proofs.lemmas.Option.{get_or_from_slice_get}
 use Rattle.std.specs.List.{AllByRecursion, filter, find}
 use Rattle.std.specs.Cmp.Lexicographic.{slice_cmp}
 use Rattle.std.specs.Ordering.{match_ordering, nat_cmp, ordering_then}
@@ -11,6 +12,8 @@ use Rattle.mg_index.specs.Definition.{IndexDefinition}
 use Rattle.mg_index.proofs.Catalogs.{IsCatalog-with, IsCatalog-without}
 use Rattle.mg_pages.specs.Order.{Ascends, IsProbe, above, below, first_of_list, found, inserted, removed}
 use Rattle.mg_pages.specs.Search.{AllAbove as AllAboveKey}
+use Rattle.mg_pages.proofs.Lasts.{found_among}
+use Rattle.mg_pages.proofs.Pieces.{piece_among, piece_itself}
 use Rattle.mg_pages.proofs.Sorted.{above_of_above, all_weaker, below_of_above}
 use Rattle.mg_shard.specs.Documents.{KeptDocuments, docs_of}
 use Rattle.mg_shard.specs.Rows.{rows_of}
@@ -242,6 +245,13 @@ first_found p (x ∷ xs) = first_where (p x) x (filter p xs) (find p xs) (first_
 -- a look-up by design document and name finds the index that has both
 pub found-named : (ddoc name : List ℕ) (xs : List Index) → found (name_against ddoc name) xs ≡ find (λ x. is_named ddoc name x.0) xs
 found-named ddoc name xs = first_found (λ x. is_eq (name_against ddoc name x)) xs ∙ (λ i. find (λ x. ties-named ddoc name x i) xs)
+
+-- the index that has both is the one that a look-up finds, wherever it is
+pub named_at : (ddoc name : List ℕ) (xs : List Index) (i : ℕ) (x : Index) → Ascends index_order xs → Some x ≡ slice_get xs i → is_named ddoc name x.0 ≡ true → Some x ≡ find (λ y. is_named ddoc name y.0) xs
+named_at ddoc name xs i x s at is =
+    let within = get_within xs i x (sym at) in
+    let among = piece_among xs xs (piece_itself xs xs refl) i x within (sym (get_or_from_slice_get xs i x x (sym at))) in
+    sym (sym (found-named ddoc name xs) ∙ found_among index_order (name_against ddoc name) (name_probes ddoc name) xs x s among (tied (name_against ddoc name x) (ties-named ddoc name x ∙ is)))
 
 -- ---- an index that is removed
 

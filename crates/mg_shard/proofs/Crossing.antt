@@ -6,7 +6,7 @@ use Rattle.mg_index.proofs.definition.IndexDef.TheSendSync as definition
 use Rattle.mg_packed.proofs.packed.Packed.TheSendSync as packed
 use Rattle.mg_packed.proofs.written.Written.TheSendSync as written
 use Rattle.mg_pages.proofs.element.Shared.TheSendSync as element
-use Rattle.mg_pages.proofs.pages.Pages.TheSendSync as pages
+use Rattle.mg_pages.proofs.Crossing.{pages_send, pages_sync}
 use Rattle.mg_revtree.specs.contracts.body.Block as Block
 use Rattle.mg_revtree.specs.contracts.body.Body as Body
 use Rattle.mg_revtree.specs.contracts.form.Form as Form
@@ -20,6 +20,7 @@ use Rattle.mg_revtree.proofs.links.list.Links.TheSendSync as links
 use Rattle.mg_revtree.proofs.revision.Rev.TheSendSync as revision
 use Rattle.mg_rows.proofs.row.RowBytes.TheSendSync as row
 use Rattle.mg_shard.specs.contracts.document.Document as Document
+use Rattle.mg_shard.specs.contracts.document_pages.DocumentPages as DocumentPages
 use Rattle.mg_shard.specs.contracts.index_entry.IndexEntry as IndexEntry
 use Rattle.mg_shard.specs.contracts.served.Served as Served
 use Rattle.mg_shard.specs.contracts.shard.Shard as Shard
@@ -91,13 +92,19 @@ pub document_sync : IsSync Document.the_row
 document_sync = search (sendable, crosses, maps, tree_send, tree_sync, served_send, served_sync) depth 40
 
 pub index_send : IsSend IndexEntry.the_row
-index_send = search (sendable, crosses, maps, row.the_send, row.the_sync, definition.the_send, definition.the_sync, pages.the_send, pages.the_sync) depth 40
+index_send = search (sendable, crosses, maps, row.the_send, row.the_sync, definition.the_send, definition.the_sync, pages_send, pages_sync) depth 40
 
 pub index_sync : IsSync IndexEntry.the_row
-index_sync = search (sendable, crosses, maps, row.the_send, row.the_sync, definition.the_send, definition.the_sync, pages.the_send, pages.the_sync) depth 40
+index_sync = search (sendable, crosses, maps, row.the_send, row.the_sync, definition.the_send, definition.the_sync, pages_send, pages_sync) depth 40
+
+pub documents_send : IsSend DocumentPages.the_row
+documents_send = search (sendable, crosses, maps, document_send, document_sync, element.the_send, element.the_sync, pages_send, pages_sync) depth 40
+
+pub documents_sync : IsSync DocumentPages.the_row
+documents_sync = search (sendable, crosses, maps, document_send, document_sync, element.the_send, element.the_sync, pages_send, pages_sync) depth 40
 
 pub shard_send : IsSend Shard.the_row
-shard_send = search (sendable, crosses, maps, document_send, document_sync, element.the_send, element.the_sync, index_send, index_sync, pages.the_send, pages.the_sync) depth 40
+shard_send = search (sendable, crosses, maps, documents_send, documents_sync, element.the_send, element.the_sync, index_send, index_sync, pages_send, pages_sync) depth 40
 
 pub shard_sync : IsSync Shard.the_row
-shard_sync = search (sendable, crosses, maps, document_send, document_sync, element.the_send, element.the_sync, index_send, index_sync, pages.the_send, pages.the_sync) depth 40
+shard_sync = search (sendable, crosses, maps, documents_send, documents_sync, element.the_send, element.the_sync, index_send, index_sync, pages_send, pages_sync) depth 40

@@ -13,3 +13,4 @@ pub mod Owned
 pub mod Extracting
 pub mod Crossing
 pub mod Together
+pub mod Deleted

@@ -104,7 +104,8 @@ entries-kept_documents ds h =
     get-from_entries nat_list_cmp_total _ q ∙ sym (get-from_sorted bytes_cmp (map kept_entry ds) q sorted)))
     ∙ entries-from_sorted bytes_cmp (map kept_entry ds) sorted
 
-served_all : (ds : List Document) → filter_map doc_entry (map kept_entry ds) ≡ docs_in ds
+-- the served documents of a list, by their entries
+pub served_all : (ds : List Document) → filter_map doc_entry (map kept_entry ds) ≡ docs_in ds
 served_all [] = refl
 served_all (d ∷ ds) = rw (served_all ds)
 

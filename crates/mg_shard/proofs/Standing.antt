@@ -1,6 +1,6 @@
 -- Documents that stand for histories: look-ups, insertions, and the served documents.
 use lib.Dec.{T}
-use Rattle.std.proofs.Common.{◌≡◌, ℕ, Bool, true, false, ◌&&◌, List, [], ◌∷◌, Ordering, Less, Equal, Greater, Option, Some, None, option_and_then, option_map, unwrap_or, map, cond, arith, refl, ap, sym, ◌∙◌, subst, is_eq, is_lt}
+use Rattle.std.proofs.Common.{◌≡◌, ℕ, Bool, true, false, ◌&&◌, List, [], ◌∷◌, Ordering, Less, Equal, Greater, Option, Some, None, option_and_then, option_map, unwrap_or, map, cond, arith, refl, ap, sym, ◌∙◌, subst, is_eq, is_lt, is_none}
 use Rattle.std.proofs.lemmas.Cmp.{nat_list_cmp_total}
 use Rattle.std.specs.List.{filter_map}
 use Rattle.std.specs.Ordering.{eq_by_cmp}
@@ -11,8 +11,8 @@ use Rattle.mg_revtree.specs.History.{Paths, Leaf, winner_of}
 use Rattle.mg_revtree.proofs.Winners.{front_wins, none_wins}
 use Rattle.mg_revtree.specs.Tree.{AreLeaves, StandsFor, Tree}
 use Rattle.mg_doc.specs.Served.{served_of, shown_leaf}
-use Rattle.mg_shard.specs.Documents.{KeptDocument, KeptDocuments, StandFor, StandsAt, doc_entry, docs_of, tree_at}
-use Rattle.mg_shard.specs.Histories.{Histories, ServedDocument, history_at, served_documents, served_entry}
+use Rattle.mg_shard.specs.Documents.{KeptDocument, KeptDocuments, StandFor, StandsAt, deleted_entry, deleted_of, doc_entry, docs_of, tree_at}
+use Rattle.mg_shard.specs.Histories.{Histories, ServedDocument, deleted_documents, deleted_id, history_at, served_documents, served_entry}
 use Rattle.mg_shard.proofs.Shown.{bytes_cmp, bytes_exact}
 
 -- ---- look-ups
@@ -125,6 +125,21 @@ docs_served (e ∷ es) = rw (docs_served es)
 -- the served ones among the documents are the served documents of the histories
 pub same_docs : (ds : KeptDocuments) (hs : Histories) → StandFor ds hs → docs_of ds ≡ served_documents hs
 same_docs ds hs st = docs_kept (entries ds) ∙ ap (filter_map formed) (same_forms ds hs st) ∙ sym (docs_served (entries hs))
+
+abbrev unformed : List ℕ × Option Value → Option (List ℕ)
+unformed e = cond (is_none e.1) (Some e.0) None
+
+deleted_kept : (es : List (List ℕ × KeptDocument)) → filter_map deleted_entry es ≡ filter_map unformed (seen kept_form es)
+deleted_kept [] = refl
+deleted_kept (e ∷ es) = rw (deleted_kept es)
+
+deleted_served : (es : List (List ℕ × Paths)) → filter_map deleted_id es ≡ filter_map unformed (seen served_of es)
+deleted_served [] = refl
+deleted_served (e ∷ es) = rw (deleted_served es)
+
+-- the deleted ones among the documents are the deleted documents of the histories
+pub same_deleted : (ds : KeptDocuments) (hs : Histories) → StandFor ds hs → deleted_of ds ≡ deleted_documents hs
+same_deleted ds hs st = deleted_kept (entries ds) ∙ ap (filter_map unformed) (same_forms ds hs st) ∙ sym (deleted_served (entries hs))
 
 -- ---- two histories for which one tree stands
 

@@ -1,5 +1,5 @@
 -- Documents as a shard keeps them: what contracts see of them, and the histories that they stand for.
-use Rattle.std.specs.Prelude.{◌≡◌, ℕ, List, map, Option, Some, None, option_map, option_and_then}
+use Rattle.std.specs.Prelude.{◌≡◌, ℕ, List, Bool, filter, map, Option, Some, None, is_none, option_map, option_and_then, if◌then◌else◌}
 use Rattle.std.specs.Cmp.Lexicographic.{slice_cmp}
 use Rattle.std.specs.FinMap.{FinMap, entries, from_entries, get}
 use Rattle.std.specs.List.{filter_map}
@@ -50,6 +50,15 @@ doc_entry e = option_map (λ form. (e.0, form)) e.1.1
 abbrev pub docs_of : KeptDocuments → List ServedDocument
 docs_of ds = filter_map doc_entry (entries ds)
 
+-- the id of a kept document that is deleted; `None` if it is served
+abbrev pub deleted_entry : List ℕ × KeptDocument → Option (List ℕ)
+deleted_entry e = if is_none e.1.1 then Some e.0 else None
+
+-- the ids of the deleted ones among kept documents, in their order. By the law `TheDeletedAreKept` they are the `deleted_documents` of the
+-- histories that the kept documents stand for
+abbrev pub deleted_of : KeptDocuments → List (List ℕ)
+deleted_of ds = filter_map deleted_entry (entries ds)
+
 -- ---- of the code's documents
 
 -- the id of a document
@@ -75,6 +84,14 @@ kept_documents ds = from_entries (map kept_entry ds)
 -- the served ones in a list of documents, in its order: what `docs_of` gives if the list is in the order of the ids
 abbrev pub docs_in : List Document → List ServedDocument
 docs_in ds = filter_map (λ d. doc_entry (kept_entry d)) ds
+
+-- whether a document is deleted
+abbrev pub is_deleted : Document → Bool
+is_deleted d = is_none (form_of d)
+
+-- the deleted ones in a list of documents, in its order
+abbrev pub deleted_among : List Document → List Document
+deleted_among ds = filter is_deleted ds
 
 -- a lent id with a form, as a served document
 abbrev pub lent_document_view : Bor (List ℕ) × Value → ServedDocument

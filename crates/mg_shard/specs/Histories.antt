@@ -1,5 +1,5 @@
 -- The histories of documents by their ids: what a shard stands for, with no mention of how documents are kept.
-use Rattle.std.specs.Prelude.{ℕ, List, [], Option, option_map, unwrap_or}
+use Rattle.std.specs.Prelude.{ℕ, List, [], Option, Some, None, is_none, option_map, unwrap_or, if◌then◌else◌}
 use Rattle.std.specs.Cmp.Lexicographic.{slice_cmp}
 use Rattle.std.specs.FinMap as finite
 use Rattle.std.specs.FinMap.{FinMap, entries}
@@ -28,3 +28,11 @@ served_entry e = option_map (λ form. (e.0, form)) (served_of e.0 e.1)
 -- the served documents of these histories, in the order of their ids
 abbrev pub served_documents : Histories → List ServedDocument
 served_documents hs = filter_map served_entry (entries hs)
+
+-- the id of a document that has a history and is not served, since its winner is deleted; `None` if it is served
+abbrev pub deleted_id : List ℕ × Paths → Option (List ℕ)
+deleted_id e = if is_none (served_of e.0 e.1) then Some e.0 else None
+
+-- the ids of the documents that have a history and are not served, in their order
+abbrev pub deleted_documents : Histories → List (List ℕ)
+deleted_documents hs = filter_map deleted_id (entries hs)

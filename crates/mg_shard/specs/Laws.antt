@@ -3,15 +3,19 @@ use Rattle.std.specs.Prelude.{◌≡◌, ℕ, List, Some, length, slice_get, sli
 use Rattle.std.specs.FinMap.{empty, get}
 use Rattle.mg_doc.specs.Document.{Edit}
 use Rattle.mg_shard.specs.Dealt.{DraftsStandFor, Placing, ShardStandsFor, ShardsStandFor, kept_at}
-use Rattle.mg_shard.specs.Documents.{KeptDocuments, StandFor, StandsAt, docs_of}
+use Rattle.mg_shard.specs.Documents.{KeptDocuments, StandFor, StandsAt, deleted_of, docs_of}
 use Rattle.mg_shard.specs.Draft.{DraftStandsFor, DraftView}
 use Rattle.mg_shard.specs.Edits.{after_edit, id_in, outcome_in}
-use Rattle.mg_shard.specs.Histories.{Histories, served_documents}
+use Rattle.mg_shard.specs.Histories.{Histories, deleted_documents, served_documents}
 use Rattle.mg_shard.specs.Shard.{ShardView}
 
 -- the served documents of a shard are those of the histories that it stands for
 abbrev pub TheServedAreKept : Type 0
 TheServedAreKept = (ds : KeptDocuments) (hs : Histories) → StandFor ds hs → docs_of ds ≡ served_documents hs
+
+-- the deleted documents of a shard are those of the histories that it stands for
+abbrev pub TheDeletedAreKept : Type 0
+TheDeletedAreKept = (ds : KeptDocuments) (hs : Histories) → StandFor ds hs → deleted_of ds ≡ deleted_documents hs
 
 -- shards that have no document stand for the empty map of histories
 abbrev pub NothingIsDealt : Type 0

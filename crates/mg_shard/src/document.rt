@@ -54,7 +54,7 @@ impl Document {
     ghost use Rattle.mg_revtree.specs.History.{Paths};
     ghost use Rattle.mg_revtree.specs.Tree.{StandsFor};
     ghost use Rattle.mg_doc.specs.Served.{served_of};
-    ghost use Rattle.mg_shard.specs.Documents.{form_of, id_bytes, kept_of};
+    ghost use Rattle.mg_shard.specs.Documents.{form_of, id_bytes, is_deleted, kept_of};
     ghost use Rattle.mg_shard.specs.Rows.{row_key};
     ghost use Rattle.mg_shard.specs.Own.{id_columns};
 
@@ -95,6 +95,13 @@ impl Document {
             Some(form) => Some(form.part()),
             None => None,
         }
+    }
+
+    /// Whether the document is deleted. Takes no memory.
+    pub fn is_deleted(&self) -> bool
+        ensures { result ≡ is_deleted self.now }
+    {
+        self.written().is_none()
     }
 
     /// Returns the block of the form in which the document is served, with the form's text; `None` if the document is deleted. Takes no

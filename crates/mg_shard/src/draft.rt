@@ -14,12 +14,12 @@ ghost use Rattle.mg_shard.specs.Edits.{after_edit, after_edits, first_refusal_in
 ghost use Rattle.mg_shard.specs.Histories.{Histories};
 
 use crate::document::Document;
+use crate::document_pages::DocumentPages;
 use crate::index_entry::IndexEntry;
 use crate::index_list::{list_in_pages, mend_all, share_indexes};
 use crate::reply::EditReply;
 use crate::shard::Shard;
 use mg_doc::{Edit, EditError, Look, ReadyEdit};
-use mg_pages::{Pages, Shared};
 use mg_revtree::RevTree;
 use mg_rows::KeyBytes;
 use mg_value::NoMemory;
@@ -258,10 +258,10 @@ fn keep_trees(
 // Keeps a document with each of these trees, under its id and with its served form, and mends the rows of the indexes.
 fn keep_all(
     alloc: Global,
-    mut documents: Pages<Shared<Document>>,
+    mut documents: DocumentPages,
     mut indexes: Vec<IndexEntry>,
     mut touched: BTreeMap<String, RevTree>,
-) -> Result<(Pages<Shared<Document>>, Vec<IndexEntry>), NoMemory>
+) -> Result<(DocumentPages, Vec<IndexEntry>), NoMemory>
     ensures stands { IfOk result
         (λ r. (hs : Histories) → TouchedStandFor (kept_documents documents) (touched_of touched.entries) hs
         → StandFor (kept_documents r.0) hs) }
@@ -273,8 +273,14 @@ fn keep_all(
     let mut scratch = KeyBytes::new(alloc);
     while let Some((id, tree)) = touched.pop_first() {
         let document = Document::of(alloc, id, tree)?;
-        mend_all(alloc, &mut scratch, &mut indexes, &documents, &document)?;
-        documents.insert(alloc, Shared::new(alloc, document)?)?;
+        mend_all(
+            alloc,
+            &mut scratch,
+            &mut indexes,
+            documents.all(),
+            &document,
+        )?;
+        documents = documents.with(alloc, document)?;
     }
     Ok((documents, indexes))
 }

@@ -1,6 +1,7 @@
 //! An index of a shard, as an element of the shard's list of indexes.
 ghost use Rattle.std.specs.Prelude.{◌≡◌};
 
+use crate::index_ref::IndexRef;
 use crate::index_rows::mend_rows;
 use mg_index::IndexDef;
 use mg_packed::Written;
@@ -54,14 +55,7 @@ impl Keyed for IndexEntry {
     }
 }
 
-/// A design document and a name, by which an index is looked up.
-#[derive(Clone, Copy)]
-pub(crate) struct IndexName<'a> {
-    pub(crate) ddoc: &'a str,
-    pub(crate) name: &'a str,
-}
-
-impl<'a> Probe<IndexEntry> for IndexName<'a> {
+impl<'a> Probe<IndexEntry> for IndexRef<'a> {
     ghost use Rattle.mg_shard.specs.Index.{name_against, name_probes};
 
     ghost against = { λ key x. name_against key.ddoc.now key.name.now x };

@@ -8,7 +8,8 @@ ghost use Rattle.mg_shard.specs.Index.{HasRows, definitions_of, index_order};
 ghost use Rattle.mg_pages.specs.Order.{inserted};
 
 use crate::document::Document;
-use crate::index_entry::{IndexEntry, IndexName};
+use crate::index_entry::IndexEntry;
+use crate::index_ref::IndexRef;
 use mg_packed::Written;
 use mg_pages::{Element, Pages, Shared};
 use mg_rows::{KeyBytes, RowBytes};
@@ -44,31 +45,34 @@ pub(crate) fn list_in_pages(
     Pages::from_sorted(alloc, indexes)
 }
 
-// Returns the index of this design document and name, if there is one. If all indexes are in one page, their names are compared in turn,
-// which is faster than a look-up.
+// Returns the index that is named, if there is one: looks first at its place, and then for its name.
 #[inline(always)]
-fn index_there<'a>(indexes: &'a Pages<IndexEntry>, ddoc: &str, name: &str) -> Option<&'a IndexEntry>
-    ensures { option_map (λ x. x.now) result ≡ find (λ x. is_named ddoc.now name.now x.0) indexes.now }
+fn index_there<'a>(indexes: &'a Pages<IndexEntry>, index: IndexRef<'_>) -> Option<&'a IndexEntry>
+    ensures { option_map (λ x. x.now) result
+        ≡ find (λ x. is_named index.entry.ddoc.now index.entry.name.now x.0) indexes.now }
 {
-    match indexes.in_one_page() {
-        Some(page) => page.iter().find(|index| index.is_named(ddoc, name)),
-        None => indexes.get(&IndexName { ddoc, name }),
+    indexes.ascends();
+    if let Some(entry) = indexes.at(index.place) {
+        if entry.is_named(index.ddoc, index.name) {
+            return Some(entry);
+        }
     }
+    indexes.get(&index)
 }
 
-/// Returns the rows of the index of this design document and name, if there is one. Takes no memory. Cost: a comparison of names with
-/// each index, or one look-up if the indexes are in several pages.
+/// Returns the rows of the index that is named, if there is one. Takes no memory. Cost: a comparison of names at the index's place; one
+/// look-up by name if another index is there.
 #[inline(always)]
 pub(crate) fn rows_there<'a>(
     indexes: &'a Pages<IndexEntry>,
-    ddoc: &str,
-    name: &str,
+    index: IndexRef<'_>,
 ) -> Option<&'a Pages<RowBytes>>
     ensures { option_map (λ rows. rows.now) result
-        ≡ option_map (λ x. x.1) (find (λ x. is_named ddoc.now name.now x.0) indexes.now) }
+        ≡ option_map (λ x. x.1)
+        (find (λ x. is_named index.entry.ddoc.now index.entry.name.now x.0) indexes.now) }
 {
-    match index_there(indexes, ddoc, name) {
-        Some(index) => Some(index.rows()),
+    match index_there(indexes, index) {
+        Some(entry) => Some(entry.rows()),
         None => None,
     }
 }
@@ -103,7 +107,8 @@ pub(crate) fn remove_index(
 {
     indexes.ascends();
     let mut left = indexes.share(alloc)?;
-    left.remove(alloc, &IndexName { ddoc, name })?;
+    let place = 0;
+    left.remove(alloc, &IndexRef { ddoc, name, place })?;
     Ok(left)
 }
 

@@ -1,7 +1,7 @@
 //! Laws of what shards stand for, each the contract of a function that changes nothing.
 ghost use Rattle.std.specs.Prelude.{All};
 ghost use Rattle.mg_index.specs.Catalog.{IsCatalog};
-ghost use Rattle.mg_shard.specs.Laws.{DraftsBecomeShards, ItsShardDecidesEachEdit, ItsShardMakesEachEdit, EachIdHasItsShard, NothingIsDealt, ShardsBecomeDrafts, TheServedAreKept};
+ghost use Rattle.mg_shard.specs.Laws.{DraftsBecomeShards, ItsShardDecidesEachEdit, ItsShardMakesEachEdit, EachIdHasItsShard, NothingIsDealt, ShardsBecomeDrafts, TheDeletedAreKept, TheServedAreKept};
 ghost use Rattle.mg_shard.specs.Shard.{shards_view};
 
 use crate::shard::Shard;
@@ -10,6 +10,11 @@ use std::sync::Arc;
 /// The served documents of a shard are those of the histories that it stands for.
 pub fn the_served_are_kept()
     ensures { TheServedAreKept }
+{}
+
+/// The deleted documents of a shard are those of the histories that it stands for.
+pub fn the_deleted_are_kept()
+    ensures { TheDeletedAreKept }
 {}
 
 /// Shards that have no document stand for the empty map of histories.

@@ -39,8 +39,7 @@ fn add_documents<'a>(shard: &'a Shard, all: &mut Vec<&'a Shared<Document>>) -> R
     ensures { OnOk result ((id : List ℕ) → last_kept (documents_view all.new.items) id
         ≡ option_or (get shard.now.documents id) (last_kept (documents_view all.old.items) id)) }
 {
-    shard.documents.ascends();
-    for document in shard.documents.iter() {
+    for document in shard.documents.all().iter() {
         all.push(document)?;
     }
     Ok(())

@@ -13,6 +13,7 @@ ghost use Rattle.mg_shard.specs.Redealt.{AreMade, AreRedealt, IsMade, documents_
 ghost use Rattle.mg_shard.specs.Shard.{shards_view};
 
 use crate::document::Document;
+use crate::document_pages::DocumentPages;
 use crate::extracted::MANY_DOCUMENTS;
 use crate::index_entry::IndexEntry;
 use crate::index_list::{list_in_pages, share_indexes};
@@ -135,6 +136,7 @@ fn index_documents<R: Threads + Sync>(
     ensures documents { IfOk result (λ s. s.documents ≡ kept_documents documents) }
     ensures definitions { IfOk result (λ s. s.definitions ≡ definitions_of indexes.now) }
 {
+    let documents = DocumentPages::of(alloc, documents)?;
     let unindexed = Shard {
         documents: documents.share(alloc)?,
         indexes: Pages::new(alloc),

@@ -2,8 +2,9 @@
 ghost use Rattle.std.specs.Prelude.{◌≡◌, ℕ, List, [], Some, length, map, option_map, reverse, unwrap_or, IfOk, IfSome};
 ghost use Rattle.std.specs.FinMap as finite;
 ghost use Rattle.std.specs.FinMap.{entries, get};
+ghost use Rattle.std.specs.List.{filter_map};
 ghost use Rattle.std.specs.declared.cmp.Ordering.{Ordering};
-ghost use Rattle.mg_shard.specs.Documents.{KeptDocument, docs_of, kept_entry, form_at, id_bytes, kept_of, tree_at, StandFor};
+ghost use Rattle.mg_shard.specs.Documents.{KeptDocument, deleted_of, doc_entry, docs_of, kept_entry, form_at, id_bytes, kept_of, tree_at, StandFor};
 ghost use Rattle.mg_shard.specs.Own.{HasOwnId};
 ghost use Rattle.mg_shard.specs.Walk.{beyond};
 ghost use Rattle.mg_shard.specs.declared.document.Document.{Document};
@@ -17,9 +18,11 @@ ghost use Rattle.mg_shard.specs.Index.{definitions_of};
 
 use crate::docs::Docs;
 use crate::document::Document;
+use crate::document_pages::DocumentPages;
 use crate::draft::Draft;
 use crate::index_entry::IndexEntry;
 use crate::index_list::rows_there;
+use crate::index_ref::IndexRef;
 use crate::reply::EditReply;
 use crate::walk::{Documents, Rows, Walk, count_beyond};
 use mg_collate::Direction;
@@ -39,7 +42,7 @@ use std::marker::Model;
 /// The rows of an index are always those of an index that is made from scratch of the served documents, in the order of key, then id.
 #[derive(Drop)]
 pub struct Shard {
-    pub(crate) documents: Pages<Shared<Document>>,
+    pub(crate) documents: DocumentPages,
     pub(crate) indexes: Pages<IndexEntry>,
 }
 
@@ -66,7 +69,7 @@ impl Shard {
         ensures indexes { result.definitions ≡ [] }
     {
         Shard {
-            documents: Pages::new(alloc),
+            documents: DocumentPages::new(alloc),
             indexes: Pages::new(alloc),
         }
     }
@@ -88,7 +91,7 @@ impl Shard {
         ensures kept { option_map (λ d. kept_of d.now) result ≡ get self.now.documents id.now }
         ensures id { IfSome result (λ d. id_bytes d.now ≡ id.now) }
     {
-        match self.documents.get(&id) {
+        match self.documents.all().get(&id) {
             Some(document) => Some(document.get()),
             None => None,
         }
@@ -120,8 +123,7 @@ impl Shard {
     pub fn docs(&self) -> Docs<'_>
         ensures { result ≡ docs_of self.now.documents }
     {
-        self.documents.ascends();
-        let documents = Documents::over(&self.documents, Direction::Asc);
+        let documents = Documents::over(self.documents.all(), Direction::Asc);
         Docs::over(documents)
     }
 
@@ -129,8 +131,7 @@ impl Shard {
     pub fn docs_back(&self) -> Docs<'_>
         ensures { result ≡ reverse (docs_of self.now.documents) }
     {
-        self.documents.ascends();
-        let documents = Documents::over(&self.documents, Direction::Desc);
+        let documents = Documents::over(self.documents.all(), Direction::Desc);
         Docs::over(documents)
     }
 
@@ -146,12 +147,11 @@ impl Shard {
             → ((d : Document) → Q.against place.now d ≡ order (kept_entry d))
             → map kept_entry result ≡ beyond direction order (entries self.now.documents) }
     {
-        self.documents.ascends();
-        Documents::beyond(&self.documents, place, direction)
+        Documents::beyond(self.documents.all(), place, direction)
     }
 
     /// Counts the documents, deleted ones too, that `documents_beyond` lists after a place in a direction. They are not read one by one.
-    /// Takes no memory. Cost: one look-up, and a read of the count of each part before the place, at most 64 for each level below the top.
+    /// Takes no memory. Cost: one look-up, and a read of the count of each part before the place, at most 16 on each level.
     pub fn count_documents_beyond<Q: Probe<Shared<Document>>>(
         &self,
         place: &Q,
@@ -161,8 +161,40 @@ impl Shard {
             → ((d : Document) → Q.against place.now d ≡ order (kept_entry d))
             → result ≡ length (beyond direction order (entries self.now.documents)) }
     {
-        self.documents.ascends();
-        count_beyond(&self.documents, place, direction)
+        count_beyond(self.documents.all(), place, direction)
+    }
+
+    /// Counts the documents that are not deleted. Takes no memory. Cost: constant.
+    pub fn count_docs(&self) -> usize
+        ensures { result ≡ length (docs_of self.now.documents) }
+    {
+        let all = self.documents.all().len();
+        let deleted = self.documents.deleted().len();
+        all - deleted
+    }
+
+    /// Counts the deleted documents. Takes no memory. Cost: constant.
+    pub fn count_deleted(&self) -> usize
+        ensures { result ≡ length (deleted_of self.now.documents) }
+    {
+        self.documents.deleted().len()
+    }
+
+    /// Counts the documents after a place in a direction, without the deleted ones. Takes no memory. Cost: that of
+    /// `count_documents_beyond`, twice if there are deleted documents.
+    pub fn count_docs_beyond<Q: Probe<Shared<Document>>>(
+        &self,
+        place: &Q,
+        direction: Direction,
+    ) -> usize
+        ensures { (order : List ℕ × KeptDocument → Ordering)
+            → ((d : Document) → Q.against place.now d ≡ order (kept_entry d))
+            → result ≡ length
+            (filter_map doc_entry (beyond direction order (entries self.now.documents))) }
+    {
+        let all = count_beyond(self.documents.all(), place, direction);
+        let deleted = count_beyond(self.documents.deleted(), place, direction);
+        all - deleted
     }
 
     /// Does nothing. From its contract the proofs of callers know that the `_id` of a served document, if there is one, is the document's
@@ -213,13 +245,24 @@ impl Shard {
         Ok((self.or_shared(alloc, next)?, replies))
     }
 
+    // Returns the rows of the index that is named, if there is one. Takes no memory. Cost: one comparison of names if the index is at the
+    // place that the name says, otherwise one look-up by name.
+    #[inline(always)]
+    fn index_rows(&self, index: IndexRef<'_>) -> Option<&Pages<RowBytes>>
+        ensures { option_map (λ rows. rows.now) result
+            ≡ rows_at index.entry.ddoc.now index.entry.name.now self.now }
+    {
+        rows_there(&self.indexes, index)
+    }
+
     /// Lists the rows of the index of this design document and name, in the order of key, then id; `None` if there is no such index. They
-    /// are the rows of an index that is made from scratch of the served documents. Takes no memory. Cost: that of finding the index, which
-    /// is a comparison of names with each index, or one look-up if the indexes are in several pages; and then a step a row.
+    /// are the rows of an index that is made from scratch of the served documents. Takes no memory. Cost: one look-up of the index by its
+    /// name, and then a step a row.
     pub fn rows(&self, ddoc: &str, name: &str) -> Option<Rows<'_>>
         ensures { result ≡ rows_at ddoc.now name.now self.now }
     {
-        match rows_there(&self.indexes, ddoc, name) {
+        let place = 0;
+        match self.index_rows(IndexRef { ddoc, name, place }) {
             Some(rows) => Some(Walk::over(rows, Direction::Asc)),
             None => None,
         }
@@ -230,46 +273,46 @@ impl Shard {
     pub fn rows_back(&self, ddoc: &str, name: &str) -> Option<Rows<'_>>
         ensures { result ≡ option_map reverse (rows_at ddoc.now name.now self.now) }
     {
-        match rows_there(&self.indexes, ddoc, name) {
+        let place = 0;
+        match self.index_rows(IndexRef { ddoc, name, place }) {
             Some(rows) => Some(Walk::over(rows, Direction::Desc)),
             None => None,
         }
     }
 
-    /// Lists the rows that come after a place in a direction, in the index of this design document and name; `None` if there is no such
-    /// index. Ascending, these are the rows above the place; descending, those below it, from the last to the first. There need not be a
-    /// row at the place, which may be the beginning of a range of keys; rows that tie with it are not listed. Takes no memory. Cost: that
-    /// of finding the index, as for `rows`, one look-up of the place, and then a step a row.
+    /// Lists the rows that come after a place in a direction, in the index that is named; `None` if there is no such index. Ascending,
+    /// these are the rows above the place; descending, those below it, from the last to the first. There need not be a row at the place,
+    /// which may be the beginning of a range of keys; rows that tie with it are not listed. Takes no memory. Cost: one comparison of names
+    /// if the index is where the name says, otherwise a look-up of the index by its name; one look-up of the place, and then a step a row.
     pub fn rows_beyond<Q: Probe<RowBytes>>(
         &self,
-        ddoc: &str,
-        name: &str,
+        index: IndexRef<'_>,
         place: &Q,
         direction: Direction,
     ) -> Option<Rows<'_>>
         ensures { result
-            ≡ option_map (beyond direction (Q.against place.now)) (rows_at ddoc.now name.now self.now) }
+            ≡ option_map (beyond direction (Q.against place.now))
+            (rows_at index.entry.ddoc.now index.entry.name.now self.now) }
     {
-        match rows_there(&self.indexes, ddoc, name) {
+        match self.index_rows(index) {
             Some(rows) => Some(Walk::beyond(rows, place, direction)),
             None => None,
         }
     }
 
     /// Counts the rows that `rows_beyond` lists after a place in a direction; `None` if there is no such index. The rows are not read one
-    /// by one. Takes no memory. Cost: that of finding the index, as for `rows`, one look-up of the place, and a read of the count of each
-    /// part before the place, at most 64 for each level below the top.
+    /// by one. Takes no memory. Cost: that of finding the index, as for `rows_beyond`, one look-up of the place, and a read of the count of
+    /// each part before the place, on each level.
     pub fn count_rows_beyond<Q: Probe<RowBytes>>(
         &self,
-        ddoc: &str,
-        name: &str,
+        index: IndexRef<'_>,
         place: &Q,
         direction: Direction,
     ) -> Option<usize>
         ensures { result ≡ option_map (λ rows. length (beyond direction (Q.against place.now) rows))
-            (rows_at ddoc.now name.now self.now) }
+            (rows_at index.entry.ddoc.now index.entry.name.now self.now) }
     {
-        match rows_there(&self.indexes, ddoc, name) {
+        match self.index_rows(index) {
             Some(rows) => Some(count_beyond(rows, place, direction)),
             None => None,
         }
@@ -287,6 +330,7 @@ impl Shard {
         ensures { result
             ≡ option_map (beyond direction (row_value_order row.now)) (rows_at ddoc.now name.now self.now) }
     {
-        self.rows_beyond(ddoc, name, row, direction)
+        let place = 0;
+        self.rows_beyond(IndexRef { ddoc, name, place }, row, direction)
     }
 }

@@ -54,9 +54,9 @@ impl Shard {
     ) -> Result<Pages<RowBytes>, NoMemory>
         ensures { IfOk result (λ rows. rows ≡ rows_of columns.now (docs_of self.now.documents)) }
     {
-        self.documents.ascends();
-        let runs = self.documents.runs(alloc)?;
-        let rows = rows_by_threads(rt, alloc, columns, &runs, self.documents.len())?;
+        let documents = self.documents.all();
+        let runs = documents.runs(alloc)?;
+        let rows = rows_by_threads(rt, alloc, columns, &runs, documents.len())?;
         let rows = sorted_by_threads(rt, rows);
         let pages = pages_by_threads(rt, alloc, &rows)?;
         Ok(pages)
@@ -77,7 +77,7 @@ impl Shard {
     ) -> Result<Pages<RowBytes>, NoMemory>
         ensures { IfOk result (λ rows. rows ≡ rows_of definition.now.columns (docs_of self.now.documents)) }
     {
-        if workers < 2 || self.documents.len() < MANY_DOCUMENTS {
+        if workers < 2 || self.documents.all().len() < MANY_DOCUMENTS {
             return Ok(self.rows_alone(alloc, definition.columns())?);
         }
         Ok(self.rows_together(rt, alloc, definition.columns())?)

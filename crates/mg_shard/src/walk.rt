@@ -66,7 +66,7 @@ impl<'a, T: Keyed> Walk<'a, T> {
     }
 
     /// Skips `count` elements, or all that are left if there are fewer. Cost: constant within a page; otherwise one look-up, and a read
-    /// of the count of each part before the place, at most 64 for each level below the top. Takes no memory.
+    /// of the count of each part before the place, at most 16 on each level. Takes no memory.
     pub fn advance(&mut self, count: usize)
         ensures { self.new ≡ drop count self.old }
     {

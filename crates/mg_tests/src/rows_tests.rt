@@ -29,14 +29,13 @@ const ROWS: &[RowCase] = &[
     RowCase(r#"["a"]"#, "", &[5, 98, 0, 0]),
     RowCase(r#"["a\u0000"]"#, "", &[5, 98, 1, 0, 0]),
     RowCase(r#"["ab"]"#, "", &[5, 98, 99, 0, 0]),
-    // 46 bytes, one more than fit in the row itself
+    // 30 bytes, one more than fit in the row itself
     RowCase(
-        r#"["xxxxxxxxxxxxxxxxxxxxxxxxxxxxxxxxxxxxxxxxxx"]"#,
+        r#"["xxxxxxxxxxxxxxxxxxxxxxxxxx"]"#,
         "a",
         &[
             5, 121, 121, 121, 121, 121, 121, 121, 121, 121, 121, 121, 121, 121, 121, 121, 121, 121,
-            121, 121, 121, 121, 121, 121, 121, 121, 121, 121, 121, 121, 121, 121, 121, 121, 121,
-            121, 121, 121, 121, 121, 121, 121, 121, 0, 0, 97,
+            121, 121, 121, 121, 121, 121, 121, 121, 121, 0, 0, 97,
         ],
     ),
     RowCase(r#"["é"]"#, "é", &[5, 196, 170, 0, 0, 195, 169]),

@@ -4,12 +4,13 @@ ghost use Rattle.std.proofs.Common.{refl, ◌∙◌};
 ghost use Rattle.mg_machine.specs.Laws.{IsPrefix};
 ghost use Rattle.mg_machine.proofs.Beginnings.{itself, in_turn};
 ghost use Rattle.mg_engine.specs.Commands.{Asked, Answer};
+ghost use Rattle.mg_engine.specs.QuestionView.{question_view};
 ghost use Rattle.mg_engine.specs.View.{command_view, reply_view};
 ghost use Rattle.mg_http.specs.Solo.{EngineAnswers};
-ghost use Rattle.mg_live.specs.SeatView.{Answered};
+ghost use Rattle.mg_live.specs.SeatView.{Answered, SeatLooks};
 
 use left_right::Absorb;
-use mg_engine::{Command, Engine, Reply};
+use mg_engine::{Command, Engine, Question, Reply};
 use mg_live::{Database, Keeper, Seat, Seen, Snapshot};
 use mg_server::{Handover, Learner};
 use mg_shard::{Md5Placement, Placement};
@@ -67,6 +68,18 @@ where
     pub workers: usize,
     ghost some_worker: { 1 ≤ workers },
     ghost most_workers: { workers ≤ 32 },
+}
+
+impl<D: Database, C: Keeper, P: Placement + Drop> SeatService<D, C, P>
+where
+    Snapshot<P>: Absorb<(), State = ()>,
+{
+    /// Answers the question at the seat, with its workers, as `Seat::look` does.
+    pub fn look<R: Threads + Sync>(&mut self, rt: &R, question: &Question) -> Reply
+        ensures { SeatLooks D.db self.old.seat (question_view question.now) (reply_view result) self.new.seat }
+    {
+        self.seat.look(rt, question, self.workers)
+    }
 }
 
 impl<D: Database, C: Keeper, P: Placement + Drop> Service for SeatService<D, C, P>

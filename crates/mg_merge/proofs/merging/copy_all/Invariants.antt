@@ -1,5 +1,5 @@
 use Rattle.std.proofs.Common.{◌≡◌, take}
-use Rattle.mg_merge.specs.Remaining.{lent_view}
+use Rattle.mg_merge.specs.Merged.{lent_view}
 use Rattle.mg_merge.proofs.merging.copy_all.Given as goal
 
 abbrev pub invariant-loop-item : goal.invariant-loop-item

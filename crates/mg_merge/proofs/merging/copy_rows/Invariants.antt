@@ -1,6 +1,6 @@
 use Rattle.std.proofs.Common.{◌≡◌, take}
 use Rattle.mg_collate.specs.Row.{rows_view}
-use Rattle.mg_merge.specs.Remaining.{lent_view}
+use Rattle.mg_merge.specs.Merged.{lent_view}
 use Rattle.mg_merge.proofs.merging.copy_rows.Given as goal
 
 abbrev pub invariant-loop-row : goal.invariant-loop-row

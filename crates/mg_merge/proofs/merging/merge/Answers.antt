@@ -1,7 +1,6 @@
 use Rattle.std.proofs.Common.{ap, ◌∙◌}
 use Rattle.mg_collate.specs.Row.{row_view, rows_view}
-use Rattle.mg_merge.specs.Merged.{contents_of, merged}
-use Rattle.mg_merge.specs.Remaining.{lent_view}
+use Rattle.mg_merge.specs.Merged.{contents_of, lent_view, merged}
 use Rattle.mg_merge.proofs.Rows.{all_by_rows, rows_of_merged, views}
 use Rattle.mg_merge.proofs.merging.merge.Goals as goal
 

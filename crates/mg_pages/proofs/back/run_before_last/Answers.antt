@@ -1,7 +1,7 @@
 use Rattle.std.proofs.Common.{◌≡◌, ◌∷◌, ◌++◌, [], arith, ap, sym, ◌∙◌}
 use Rattle.mg_pages.specs.Order.{probe_from_total}
 use Rattle.mg_pages.specs.Runs.{ended}
-use Rattle.mg_pages.proofs.Parts.{empty_of_length, ended_below}
+use Rattle.mg_pages.proofs.Lent.{empty_of_length, ended_below}
 use Rattle.mg_pages.proofs.back.run_before_last.Goals as goal
 
 pub returns : goal.returns

@@ -1,7 +1,8 @@
 use Rattle.std.proofs.Common.{arith, ap, sym, ◌∙◌}
 use Rattle.mg_pages.specs.Order.{above}
 use Rattle.mg_pages.specs.Runs.{continued_after}
-use Rattle.mg_pages.proofs.Parts.{only_one, continued_above}
+use Rattle.mg_pages.proofs.Levels.{only_one}
+use Rattle.mg_pages.proofs.Lent.{continued_above}
 use Rattle.mg_pages.specs.Order.{probe_from_total}
 use Rattle.mg_pages.proofs.iter.run_after_first.Goals as goal
 

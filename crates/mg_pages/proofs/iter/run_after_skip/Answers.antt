@@ -2,7 +2,7 @@ use Rattle.std.proofs.Common.{◌-◌, length, arith, ap, ◌∙◌}
 use Rattle.std.proofs.lemmas.List.{take_rest}
 use Rattle.mg_pages.specs.Order.{probe_from_total}
 use Rattle.mg_pages.specs.Runs.{continued}
-use Rattle.mg_pages.proofs.Children.{last_at}
+use Rattle.mg_pages.proofs.Lasts.{last_at}
 use Rattle.mg_pages.proofs.Passed.{continued_behind, continued_drop, continued_from, continued_none}
 use Rattle.mg_pages.proofs.iter.run_after_skip.Goals as goal
 

@@ -8,9 +8,9 @@ use Rattle.mg_shard.specs.Walk.{beyond}
 pub returns-in-Some : goal.returns-in-Some
 returns-in-Some c =
     let s = c.args.search in
-    counts (λ rows. length (beyond s.direction (begin_at s) rows)) (rows_at c.args.ddoc.now c.args.name.now c.args.shard.now) c.in-Some.count c.in-Some.ensures
+    counts (λ rows. length (beyond s.direction (begin_at s) rows)) (rows_at c.args.index.ddoc.now c.args.index.name.now c.args.shard.now) c.in-Some.count c.in-Some.ensures
 
 pub returns-in-None : goal.returns-in-None
 returns-in-None c =
     let s = c.args.search in
-    counts_none (λ rows. length (beyond s.direction (begin_at s) rows)) (rows_at c.args.ddoc.now c.args.name.now c.args.shard.now) c.in-None.ensures
+    counts_none (λ rows. length (beyond s.direction (begin_at s) rows)) (rows_at c.args.index.ddoc.now c.args.index.name.now c.args.shard.now) c.in-None.ensures

@@ -7,4 +7,4 @@ returns-in_ok-hits_of_all_docs-in-AllDocs c =
 
 pub returns-in_ok-hits_of_index-in-Index : goal.returns-in_ok-hits_of_index-in-Index
 returns-in_ok-hits_of_index-in-Index c =
-    gives_index c.args.search c.args.shard.now _ c.in-Index.ddoc c.in-Index.name c.in-Index.is c.in_ok-hits_of_index-in-Index.ensures.rows c.in_ok-hits_of_index-in-Index.ensures.documents
+    gives_index c.args.search c.args.shard.now _ c.in-Index.index c.in-Index.is c.in_ok-hits_of_index-in-Index.ensures.rows c.in_ok-hits_of_index-in-Index.ensures.documents

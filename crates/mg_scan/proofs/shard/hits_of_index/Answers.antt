@@ -8,10 +8,10 @@ pub returns-in_ok-hits_of_rows-in-Some-clause-rows : goal.returns-in_ok-hits_of_
 returns-in_ok-hits_of_rows-in-Some-clause-rows c =
     let shard = c.args.shard.now in
     c.in_ok-hits_of_rows-in-Some.ensures.rows
-    ∙ index_found c.args.search shard.documents (definition_at c.args.ddoc.now c.args.name.now shard.definitions) c.in-Some.rows c.in-Some.ensures
+    ∙ index_found c.args.search shard.documents (definition_at c.args.index.ddoc.now c.args.index.name.now shard.definitions) c.in-Some.rows c.in-Some.ensures
 
 pub returns-in-None-clause-rows : goal.returns-in-None-clause-rows
 returns-in-None-clause-rows c =
     let shard = c.args.shard.now in
     ap hit_rows c.new.ensures.items
-    ∙ index_missing c.args.search shard.documents (definition_at c.args.ddoc.now c.args.name.now shard.definitions) c.in-None.ensures
+    ∙ index_missing c.args.search shard.documents (definition_at c.args.index.ddoc.now c.args.index.name.now shard.definitions) c.in-None.ensures

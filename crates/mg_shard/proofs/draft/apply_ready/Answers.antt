@@ -1,4 +1,3 @@
-use Rattle.std.proofs.Common.{refl}
 use Rattle.mg_doc.specs.Applied.{refusal_in}
 use Rattle.mg_shard.specs.Edits.{outcome_view}
 use Rattle.mg_shard.proofs.Touched.{refused_tree, reply_refused}

@@ -1,5 +1,5 @@
 use Rattle.std.proofs.Common.{◌≡◌, None, ap, sym, ◌∙◌, subst}
-use Rattle.mg_pages.proofs.Parts.{on_err_when}
+use Rattle.mg_pages.proofs.Levels.{on_err_when}
 use Rattle.mg_doc.specs.Applied.{refusal_in}
 use Rattle.mg_doc.specs.Document.{Edit}
 use Rattle.mg_doc.specs.Edit.{first_refusal, outcome_of}

@@ -1,5 +1,5 @@
 use Rattle.std.proofs.Common.{◌≡◌, None, ap, refl, sym, ◌∙◌, subst}
-use Rattle.mg_pages.proofs.Parts.{on_err_when}
+use Rattle.mg_pages.proofs.Levels.{on_err_when}
 use Rattle.mg_revtree.specs.History.{Paths}
 use Rattle.mg_revtree.specs.Tree.{StandsFor}
 use Rattle.mg_doc.specs.Applied.{refusal_in}

@@ -12,9 +12,9 @@ use Rattle.mg_shard.proofs.placed.add_documents.Goals as goal
 
 pub loop-document-init : goal.loop-document-init
 loop-document-init c = record {
-  ascends = subst (λ (ds : List Document). Ascends (id_order id_bytes) ds) (sym (c.into_iter-document-iterator.ensures.into_iter_gives ∙ c.iter-document-items.ensures)) c.ascends.ensures;
+  ascends = subst (λ (ds : List Document). Ascends (id_order id_bytes) ds) (sym (c.into_iter-document-iterator.ensures.into_iter_gives ∙ c.iter-document-items.ensures ∙ c.all.ensures.all)) c.all.ensures.ascends;
   goes_on = λ id. ap (λ (ds : List Document). option_or (get (kept_documents ds) id) (last_kept (documents_view c.args.all.now.items) id))
-      (c.into_iter-document-iterator.ensures.into_iter_gives ∙ c.iter-document-items.ensures)
+      (c.into_iter-document-iterator.ensures.into_iter_gives ∙ c.iter-document-items.ensures ∙ c.all.ensures.all)
       ∙ ap (λ v. option_or (get v.documents id) (last_kept (documents_view c.args.all.now.items) id)) c.shard.view_is;
 }
 

@@ -1,7 +1,7 @@
 use Rattle.std.proofs.Common.{◌≡◌, None, Some, cond, rules, sym, ap, ◌∙◌, subst}
 use Rattle.std.specs.FinMap.{get}
 use Rattle.std.specs.Ordering.{eq_by_cmp}
-use Rattle.mg_pages.proofs.Parts.{on_err_when}
+use Rattle.mg_pages.proofs.Levels.{on_err_when}
 use Rattle.mg_shard.specs.Draft.{DraftStandsFor, TouchedStandFor, touched_of}
 use Rattle.mg_shard.specs.Edits.{first_refusal_in, id_in}
 use Rattle.mg_shard.specs.Histories.{Histories, history_at}

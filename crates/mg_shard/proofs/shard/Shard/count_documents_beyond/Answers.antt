@@ -1,4 +1,4 @@
-use Rattle.std.proofs.Common.{◌∙◌, ap, length, sym}
+use Rattle.std.proofs.Common.{◌∙◌, ap, length, map, sym}
 use Rattle.std.proofs.lemmas.List.{length-map}
 use Rattle.std.specs.FinMap.{entries}
 use Rattle.mg_shard.specs.Documents.{kept_entry}
@@ -11,5 +11,5 @@ pub returns : goal.returns
 returns g c = λ order same.
     let ds = c.self.inside.documents in
     let direction = c.args.direction in
-    c.count_beyond.ensures ∙ sym (length-map _ kept_entry) ∙ ap length (beyond-map kept_entry _ order same direction ds)
-    ∙ ap (λ es. length (beyond direction order es)) (sym (entries-kept_documents ds c.ascends.ensures) ∙ ap (λ v. entries v.documents) c.self.view_is)
+    c.count_beyond.ensures ∙ sym (length-map _ kept_entry) ∙ ap length (beyond-map kept_entry _ order same direction c.all.result.now ∙ ap (λ es. beyond direction order (map kept_entry es)) c.all.ensures.all)
+    ∙ ap (λ es. length (beyond direction order es)) (sym (entries-kept_documents ds c.all.ensures.ascends) ∙ ap (λ v. entries v.documents) c.self.view_is)

@@ -10,5 +10,5 @@ pub returns : goal.returns
 returns g c = λ order same.
     let ds = c.self.inside.documents in
     let direction = c.args.direction in
-    ap (map kept_entry) c.beyond.ensures ∙ beyond-map kept_entry _ order same direction ds
-    ∙ ap (beyond direction order) (sym (entries-kept_documents ds c.ascends.ensures) ∙ ap (λ v. entries v.documents) c.self.view_is)
+    ap (map kept_entry) c.beyond.ensures ∙ beyond-map kept_entry _ order same direction c.all.result.now ∙ ap (λ es. beyond direction order (map kept_entry es)) c.all.ensures.all
+    ∙ ap (beyond direction order) (sym (entries-kept_documents ds c.all.ensures.ascends) ∙ ap (λ v. entries v.documents) c.self.view_is)

@@ -1,24 +1,8 @@
-use Rattle.std.proofs.Common.{◌≡◌, ◌∙◌, List, None, Option, Some, ap}
-use Rattle.mg_collate.specs.Row.{RowValue}
-use Rattle.mg_shard.specs.Documents.{kept_documents}
-use Rattle.mg_shard.specs.Shard.{rows_at}
-use Rattle.mg_shard.proofs.Catalogued.{rows_found}
+use Rattle.std.proofs.Common.{◌∙◌, Some, ap}
 use Rattle.mg_shard.proofs.shard.Shard.rows.Goals as goal
 
 pub returns-in-Some : goal.returns-in-Some
-returns-in-Some c =
-    let ddoc = c.args.ddoc.now in
-    let name = c.args.name.now in
-    let there : Some c.in-Some.rows.now ≡ rows_at ddoc name c.args.self.now =
-    c.in-Some.ensures
-    ∙ rows_found (kept_documents c.self.inside.documents) ddoc name c.self.inside.indexes c.self.invariant.rows ∙ ap (rows_at ddoc name) c.self.view_is in
-    ap Some c.over.ensures ∙ there
+returns-in-Some c = ap Some c.over.ensures ∙ c.in-Some.ensures
 
 pub returns-in-None : goal.returns-in-None
-returns-in-None c =
-    let ddoc = c.args.ddoc.now in
-    let name = c.args.name.now in
-    let there : ◌≡◌ {A = Option (List RowValue)} None (rows_at ddoc name c.args.self.now) =
-    c.in-None.ensures
-    ∙ rows_found (kept_documents c.self.inside.documents) ddoc name c.self.inside.indexes c.self.invariant.rows ∙ ap (rows_at ddoc name) c.self.view_is in
-    there
+returns-in-None c = c.in-None.ensures

@@ -1,27 +1,12 @@
-use Rattle.std.proofs.Common.{◌≡◌, ◌∙◌, List, None, Option, Some, ap, option_map}
+use Rattle.std.proofs.Common.{◌∙◌, Some, ap, option_map}
 use Rattle.mg_collate.specs.Row.{RowValue}
-use Rattle.mg_shard.specs.Documents.{kept_documents}
-use Rattle.mg_shard.specs.Shard.{rows_at}
 use Rattle.mg_shard.specs.Walk.{beyond}
-use Rattle.mg_shard.proofs.Catalogued.{rows_found}
 use Rattle.mg_shard.proofs.shard.Shard.rows_beyond.Goals as goal
 
 pub returns-in-Some : goal.returns-in-Some
 returns-in-Some g c =
-    let ddoc = c.args.ddoc.now in
-    let name = c.args.name.now in
-    let there : Some c.in-Some.rows.now ≡ rows_at ddoc name c.args.self.now =
-    c.in-Some.ensures
-    ∙ rows_found (kept_documents c.self.inside.documents) ddoc name c.self.inside.indexes c.self.invariant.rows ∙ ap (rows_at ddoc name) c.self.view_is in
     let f = beyond {T = RowValue} c.args.direction (g.Q.Probe.against c.args.place.now) in
-    ap Some c.beyond.ensures ∙ ap (option_map f) there
+    ap Some c.beyond.ensures ∙ ap (option_map f) c.in-Some.ensures
 
 pub returns-in-None : goal.returns-in-None
-returns-in-None g c =
-    let ddoc = c.args.ddoc.now in
-    let name = c.args.name.now in
-    let there : ◌≡◌ {A = Option (List RowValue)} None (rows_at ddoc name c.args.self.now) =
-    c.in-None.ensures
-    ∙ rows_found (kept_documents c.self.inside.documents) ddoc name c.self.inside.indexes c.self.invariant.rows ∙ ap (rows_at ddoc name) c.self.view_is in
-    let f = beyond {T = RowValue} c.args.direction (g.Q.Probe.against c.args.place.now) in
-    ap (option_map f) there
+returns-in-None g c = let f = beyond {T = RowValue} c.args.direction (g.Q.Probe.against c.args.place.now) in ap (option_map f) c.in-None.ensures

@@ -18,7 +18,7 @@ pages_by_threads-requires g c =
     let columns = c.args.columns.now in
     let unsorted : c.in_ok-rows.rows.items ≡ filter_map (row_of columns) (docs_of documents) =
     c.in_ok-rows.ensures ∙ ap (filter_map (row_of columns)) (ap (λ (runs : List (Bor (List Document))). docs_in (elements_view runs)) c.deref.ensures.value
-    ∙ ap docs_in c.in_ok-runs.ensures ∙ docs-kept_documents c.self.inside.documents c.ascends.ensures ∙ ap (λ v. docs_of v.documents) c.self.view_is) in (
+    ∙ ap docs_in (c.in_ok-runs.ensures ∙ c.all-documents.ensures.all) ∙ docs-kept_documents c.self.inside.documents c.all-documents.ensures.ascends ∙ ap (λ v. docs_of v.documents) c.self.view_is) in (
       c.type_bounds.sync-R,
       subst (λ (rows : List RowValue). Ascends row_value_order rows) (sym c.deref-2.ensures.value)
           (sorted_ascends c.in_ok-rows.rows.items c.sorted_by_threads-rows.result.items
@@ -33,4 +33,4 @@ returns g c =
     ∙ put_in_order c.in_ok-rows.rows.items _ c.sorted_by_threads-rows.ensures.permutation c.sorted_by_threads-rows.ensures.sorted
     ∙ ap (sorted row_value_order) (c.in_ok-rows.ensures
     ∙ ap (filter_map (row_of columns)) (ap (λ (runs : List (Bor (List Document))). docs_in (elements_view runs)) c.deref.ensures.value
-    ∙ ap docs_in c.in_ok-runs.ensures ∙ docs-kept_documents c.self.inside.documents c.ascends.ensures ∙ ap (λ v. docs_of v.documents) c.self.view_is))
+    ∙ ap docs_in (c.in_ok-runs.ensures ∙ c.all-documents.ensures.all) ∙ docs-kept_documents c.self.inside.documents c.all-documents.ensures.ascends ∙ ap (λ v. docs_of v.documents) c.self.view_is))
