@@ -68,6 +68,11 @@ class Watch:
         self.begin()
         return self.looks[-1]
 
+    def forget(self):
+        """Drops the last look."""
+        self.looks.pop()
+        self.begin()
+
     def fault(self):
         """Returns why the machine was not quiet; None if it was."""
         loops = [look["loop_ms"] for look in self.looks]

@@ -65,9 +65,10 @@ def source(measurement):
     versions = ", ".join(f"{name} {number}" for name, number in there.items()) + (f" (not installed: {', '.join(absent)})" if absent else "")
     loops, others = [look["loop_ms"] for look in found["looks"]], max(look["others"] for look in found["looks"])
     minutes = sum(part["took"] for part in found["parts"].values()) / 60
+    again = sum(part.get("again", 0) for part in found["parts"].values())
     words = (f"Measured on {found['date']} at commit `{found['commit']}` in {minutes:.0f} minutes, on {found['machine']}, beside {versions}. "
              f"Meanwhile other processes took at most {others:.2f} processors, and a loop that is always the same took {min(loops):.1f} to "
-             f"{max(loops):.1f} ms. A figure is the median of {found['turns']} turns, with the least and the greatest in brackets; a turn of a "
+             f"{max(loops):.1f} ms; a part of a turn that a busy machine disturbed was measured again ({again} were). A figure is the median of {found['turns']} turns, with the least and the greatest in brackets; a turn of a "
              f"cell takes {found['seconds']:g} s.")
     if not found["cycles"]:
         words += " This machine does not count cycles, so processor time stands for them."
