@@ -1,22 +1,18 @@
--- The members whose names begin with a byte stand together: where they begin and end, and the object without them.
-use Rattle.std.proofs.Common.{◌≡◌, ℕ, zero, suc, ◌+◌, ◌-◌, ◌≤◌, ◌<◌, ◌^◌, List, [], ◌∷◌, ◌++◌, length, take, drop, Bool, true, false, if◌then◌else◌, Ordering, Less, Equal, Greater, nat_cmp, inl, inr, length-append, length-take-le, length-drop, subst, IsUtf8, append-nil, refl, sym, ap, ap₂, ◌∙◌, append_assoc, arith}
+-- The members whose names begin with a byte stand together: where they begin and end, and the members without them.
+use Rattle.std.proofs.Common.{◌≡◌, ℕ, zero, suc, ◌+◌, ◌-◌, ◌≤◌, ◌<◌, List, [], ◌∷◌, length, Bool, true, false, if◌then◌else◌, Ordering, Less, Equal, Greater, nat_cmp, inl, inr, IsUtf8, refl, sym, ap, ap₂, ◌∙◌, arith}
 use Rattle.std.specs.Cmp.Lexicographic.{slice_cmp}
 use Rattle.std.proofs.lemmas.Bool.{cases_lt, lt-ltb, le-ltb, eq-eqb, ne_eqb}
 use Rattle.std.proofs.lemmas.Cmp.{ranked}
 use Rattle.std.specs.Ordering.{MatchOrdering, ordering_then}
-use Rattle.std.specs.List.{concat}
 use Rattle.mg_value.specs.Held.{AllAfter}
-use Rattle.mg_value.specs.Value.{Value, object, Members, no_members, member, member_list}
+use Rattle.mg_value.specs.Value.{Value, Members, no_members, member, member_list}
 use Rattle.mg_value.specs.Stored.{IsStored, MembersAreStored}
 use Rattle.mg_packed.specs.Front.{begins_with, without_names_beginning}
-use Rattle.mg_packed.specs.Packed.{packed, word, offsets, named, member_entries, container}
-use Rattle.mg_packed.specs.Gap.{offset_in, entries_in, IsObjectBlock}
-use Rattle.mg_packed.specs.Ranks.{rank_of, ranked_below, without_entries}
-use Rattle.mg_packed.specs.Read.{Holds, IsBlockOf, members_in, nth_name, value_in}
-use Rattle.mg_packed.proofs.Entries.{length-container}
-use Rattle.mg_packed.proofs.Gaps.{begin_behind, begins_ascend, offsets_joined, concat_joined}
-use Rattle.mg_packed.proofs.Laws.{members_is, value_is}
-use Rattle.mg_packed.proofs.Parts.{length-member_entries}
+use Rattle.mg_packed.specs.Ranks.{rank_of, ranked_below}
+use Rattle.mg_packed.specs.Read.{nth_name}
+use Rattle.mg_packed.specs.Walk.{first_members, members_past, joined, part}
+use Rattle.mg_packed.proofs.Copies.{all_members}
+use Rattle.mg_packed.proofs.Parting.{past_none}
 use Rattle.mg_packed.proofs.Search.{after}
 
 first_le : (c d : ℕ) (o p : Ordering) → MatchOrdering o (c < d) (c ≡ d) (d < c) → ordering_then o p ≡ Less → c ≤ d
@@ -69,36 +65,37 @@ none_below : (n : ℕ) (k : List ℕ) (ms : Members) → AllAfter k ms → n ≤
 none_below n k no_members a h = refl
 none_below n k (member l v ms) a h = below_no n l v ms (omega (arith, h, ranks_ascend k l a.0))
 
--- one more member, by whether its name is below, at or above the byte
-module _ (b : ℕ) (k : List ℕ) (v : Value) (ms : Members) (rest : member_entries (without_names_beginning b ms) ≡ without_entries (ranked_below (suc b) ms) (ranked_below (suc (suc b)) ms) (member_entries ms)) where
-  abbrev Goal : Type 0
-  Goal = member_entries (without_names_beginning b (member k v ms)) ≡ without_entries (ranked_below (suc b) (member k v ms)) (ranked_below (suc (suc b)) (member k v ms)) (member_entries (member k v ms))
+-- the members before the i-th, and those from the j-th on
+abbrev outside : Members → ℕ → ℕ → Members
+outside ms i j = joined (first_members i ms) (members_past j ms)
 
-  kept : begins_with b k ≡ false → member_entries (without_names_beginning b (member k v ms)) ≡ named k (packed v) ∷ member_entries (without_names_beginning b ms)
-  kept e = ap (λ x. member_entries (if x then without_names_beginning b ms else member k v (without_names_beginning b ms))) e
+-- one more member, by whether its name is below, at or above the byte
+module _ (b : ℕ) (k : List ℕ) (v : Value) (ms : Members) (rest : without_names_beginning b ms ≡ outside ms (ranked_below (suc b) ms) (ranked_below (suc (suc b)) ms)) where
+  abbrev Goal : Type 0
+  Goal = without_names_beginning b (member k v ms) ≡ outside (member k v ms) (ranked_below (suc b) (member k v ms)) (ranked_below (suc (suc b)) (member k v ms))
+
+  kept : begins_with b k ≡ false → without_names_beginning b (member k v ms) ≡ member k v (without_names_beginning b ms)
+  kept e = ap (λ x. if x then without_names_beginning b ms else member k v (without_names_beginning b ms)) e
 
   below : begins_with b k ≡ false → rank_of k < suc b → Goal
-  below e h =
-      kept e ∙ ap (λ x. named k (packed v) ∷ x) rest
-      ∙ sym (ap₂ (λ i j. without_entries i j (member_entries (member k v ms))) (below_yes (suc b) k v ms h) (below_yes (suc (suc b)) k v ms (omega (arith, h))))
+  below e h = kept e ∙ ap (member k v) rest ∙ sym (ap₂ (λ i j. outside (member k v ms) i j) (below_yes (suc b) k v ms h) (below_yes (suc (suc b)) k v ms (omega (arith, h))))
 
   at : AllAfter k ms → begins_with b k ≡ true → rank_of k ≡ suc b → Goal
   at a e h =
-      ap (λ x. member_entries (if x then without_names_beginning b ms else member k v (without_names_beginning b ms))) e
-      ∙ rest ∙ ap (λ i. without_entries i (ranked_below (suc (suc b)) ms) (member_entries ms)) (none_below (suc b) k ms a (omega (arith, h)))
-      ∙ sym (ap₂ (λ i j. without_entries i j (member_entries (member k v ms))) (below_no (suc b) k v ms (omega (arith, h))) (below_yes (suc (suc b)) k v ms (omega (arith, h))))
+      ap (λ x. if x then without_names_beginning b ms else member k v (without_names_beginning b ms)) e
+      ∙ rest ∙ ap (λ i. outside ms i (ranked_below (suc (suc b)) ms)) (none_below (suc b) k ms a (omega (arith, h)))
+      ∙ sym (ap₂ (λ i j. outside (member k v ms) i j) (below_no (suc b) k v ms (omega (arith, h))) (below_yes (suc (suc b)) k v ms (omega (arith, h))))
 
   above : AllAfter k ms → begins_with b k ≡ false → suc (suc b) ≤ rank_of k → Goal
   above a e h =
-      kept e ∙ ap (λ x. named k (packed v) ∷ x) rest
-      ∙ ap₂ (λ i j. named k (packed v) ∷ without_entries i j (member_entries ms)) (none_below (suc b) k ms a (omega (arith, h))) (none_below (suc (suc b)) k ms a h)
-      ∙ sym (ap₂ (λ i j. without_entries i j (member_entries (member k v ms))) (below_no (suc b) k v ms (omega (arith, h))) (below_no (suc (suc b)) k v ms h))
+      kept e ∙ ap (member k v) (rest ∙ ap₂ (λ i j. outside ms i j) (none_below (suc b) k ms a (omega (arith, h))) (none_below (suc (suc b)) k ms a h) ∙ past_none ms)
+      ∙ sym (ap₂ (λ i j. outside (member k v ms) i j) (below_no (suc b) k v ms (omega (arith, h))) (below_no (suc (suc b)) k v ms h))
 
-pub front_entries : (b : ℕ) (ms : Members) → MembersAreStored ms → member_entries (without_names_beginning b ms) ≡ without_entries (ranked_below (suc b) ms) (ranked_below (suc (suc b)) ms) (member_entries ms)
-front_entries b no_members stored = refl
-front_entries b (member [] v ms) stored = below b [] v ms (front_entries b ms stored.3) refl (omega arith)
-front_entries b (member (c ∷ s) v ms) stored =
-    let rest = front_entries b ms stored.3 in
+front_outside : (b : ℕ) (ms : Members) → MembersAreStored ms → without_names_beginning b ms ≡ outside ms (ranked_below (suc b) ms) (ranked_below (suc (suc b)) ms)
+front_outside b no_members stored = refl
+front_outside b (member [] v ms) stored = below b [] v ms (front_outside b ms stored.3) refl (omega arith)
+front_outside b (member (c ∷ s) v ms) stored =
+    let rest = front_outside b ms stored.3 in
     elim (cases_lt c b) [
       | inl h ↦ below b (c ∷ s) v ms rest (ne_eqb c b (λ e. omega arith)) (omega arith)
       | inr h ↦ elim (cases_lt b c) [
@@ -106,6 +103,24 @@ front_entries b (member (c ∷ s) v ms) stored =
         | inr l ↦ let same : c ≡ b = omega arith in at b (c ∷ s) v ms rest stored.0 (eq-eqb c b same) (omega (arith, same))
       ]
     ]
+
+length-past : (ms : Members) (j : ℕ) → j ≤ length (member_list ms) → length (member_list (members_past j ms)) ≡ length (member_list ms) - j
+length-past no_members zero h = refl
+length-past no_members (suc j) h = absurd (omega arith)
+length-past (member k v ms) zero h = omega arith
+length-past (member k v ms) (suc j) h = length-past ms j (omega arith) ∙ omega arith
+
+-- the members outside a gap, as two parts
+pub front_parts : (b : ℕ) (ms : Members) (i j : ℕ) → MembersAreStored ms → i ≡ ranked_below (b + 1) ms → j ≡ ranked_below (b + 2) ms → joined (part ms 0 i) (part ms j (length (member_list ms) - j)) ≡ without_names_beginning b ms
+front_parts b ms i j stored ei ej =
+    let one : i ≡ ranked_below (suc b) ms = ei ∙ ap (λ n. ranked_below n ms) (omega arith) in
+    let two : j ≡ ranked_below (suc (suc b)) ms = ej ∙ ap (λ n. ranked_below n ms) (omega arith) in
+    let size : length (member_list ms) - j ≡ length (member_list (members_past j ms)) = sym (length-past ms j (omega (arith, ej, below_within (b + 2) ms))) in
+    ap (λ x. joined (first_members i x) (part ms j (length (member_list ms) - j))) (past_none ms)
+    ∙ ap (λ n. joined (first_members i ms) (first_members n (members_past j ms))) size
+    ∙ ap (λ x. joined (first_members i ms) x) (all_members (members_past j ms))
+    ∙ ap₂ (λ x y. outside ms x y) one two
+    ∙ sym (front_outside b ms stored)
 
 after_by : (x : Bool) (l k : List ℕ) (v : Value) (rest : Members) → slice_cmp nat_cmp l k ≡ Less → AllAfter l rest → AllAfter l (if x then rest else member k v rest)
 after_by true l k v rest e a = a
@@ -119,65 +134,6 @@ stored_by : (x : Bool) (k : List ℕ) (v : Value) (rest : Members) → AllAfter 
 stored_by true k v rest a utf8 stored more = more
 stored_by false k v rest a utf8 stored more = (a, utf8, stored, more)
 
-stored_without : (b : ℕ) (ms : Members) → MembersAreStored ms → MembersAreStored (without_names_beginning b ms)
+pub stored_without : (b : ℕ) (ms : Members) → MembersAreStored ms → MembersAreStored (without_names_beginning b ms)
 stored_without b no_members stored = tt
 stored_without b (member k v ms) stored = stored_by (begins_with b k) k v (without_names_beginning b ms) (after_without b k ms stored.0) stored.1 stored.2 (stored_without b ms stored.3)
-
--- ---- the new block
-
-without_short : (entries : List (List ℕ)) (i j : ℕ) → i ≤ j → j ≤ length entries → length (container (without_entries i j entries)) ≤ length (container entries)
-without_short entries i j le within =
-    omega (
-      arith,
-      length-container entries,
-      length-container (without_entries i j entries),
-      length-append (take i entries) (drop j entries),
-      length-take-le i entries (omega (arith, le, within)),
-      length-drop j entries,
-      ap length (concat_joined (take i entries) (drop j entries)),
-      length-append (concat (take i entries)) (concat (drop j entries)),
-      begins_ascend entries i j le,
-      begin_behind entries j,
-    )
-
-pub front_block : (b new : List ℕ) (front : ℕ) (ms : Members) (i j : ℕ) → IsObjectBlock b → ms ≡ members_in b → i ≡ ranked_below (front + 1) ms → j ≡ ranked_below (front + 2) ms
-    → i ≤ j → j ≤ length (entries_in b) → new ≡ 6 ∷ container (without_entries i j (entries_in b)) → IsBlockOf new (object (without_names_beginning front ms))
-front_block b new front ms i j o same first next le within is =
-    let one : front + 1 ≡ suc front = omega arith in
-    let two : front + 2 ≡ suc (suc front) = omega arith in
-    let from : i ≡ ranked_below (suc front) ms = first ∙ ap (λ n. ranked_below n ms) one in
-    let up_to : j ≡ ranked_below (suc (suc front)) ms = next ∙ ap (λ n. ranked_below n ms) two in
-    let stored : MembersAreStored ms = subst MembersAreStored (sym same) o.0.stored in
-    let entries : member_entries (without_names_beginning front ms) ≡ without_entries i j (entries_in b) =
-    front_entries front ms stored ∙ ap₂ (λ m n. without_entries m n (member_entries ms)) (sym from) (sym up_to) ∙ ap (λ x. without_entries i j (member_entries x)) same in
-    let made : new ≡ packed (object (without_names_beginning front ms)) = is ∙ ap (λ x. 6 ∷ container x) (sym entries) in
-    let size : length (packed (object (without_names_beginning front ms))) ≡ suc (length (container (without_entries i j (entries_in b)))) = ap (λ x. length (6 ∷ container x)) entries in
-    let short : length (packed (object (without_names_beginning front ms))) < 2 ^ 32 = omega (arith, size, without_short (entries_in b) i j le within, o.0.short) in
-    (record { stored = stored_without front ms stored; short = short; rest = []; begins = made ∙ sym (append-nil (packed (object (without_names_beginning front ms)))) }, made)
-
-pub without_made : (none tag counted placed new : List ℕ) (entries : List (List ℕ)) (i j n : ℕ) → none ≡ [] → tag ≡ none ++ 6 ∷ [] → counted ≡ tag ++ word n → n ≡ length (without_entries i j entries)
-    → placed ≡ counted ++ (offsets 0 (take i entries) ++ offsets (offset_in entries i) (drop j entries)) → new ≡ placed ++ (concat (take i entries) ++ concat (drop j entries))
-    → new ≡ 6 ∷ container (without_entries i j entries)
-unfolding container
-without_made none tag counted placed new entries i j n e1 e2 e3 e4 e5 e6 =
-    let kept = without_entries i j entries in
-    let begun : counted ≡ 6 ∷ word (length kept) = e3 ∙ ap (λ x. x ++ word n) (e2 ∙ ap (λ x. x ++ 6 ∷ []) e1) ∙ ap (λ m. 6 ∷ word m) e4 in
-    let from_none : offset_in entries i ≡ 0 + offset_in entries i = omega arith in
-    let cells : offsets 0 (take i entries) ++ offsets (offset_in entries i) (drop j entries) ≡ offsets 0 kept =
-    ap (λ m. offsets 0 (take i entries) ++ offsets m (drop j entries)) from_none ∙ sym (offsets_joined 0 (take i entries) (drop j entries)) in
-    let stands : concat (take i entries) ++ concat (drop j entries) ≡ concat kept = sym (concat_joined (take i entries) (drop j entries)) in
-    e6 ∙ ap₂ (λ p q. p ++ q) (e5 ∙ ap₂ (λ p q. p ++ q) begun cells) stands ∙ append_assoc (6 ∷ word (length kept)) (offsets 0 kept) (concat kept)
-
-pub count_without : (entries : List (List ℕ)) (i j : ℕ) → i ≤ j → j ≤ length entries → length (without_entries i j entries) + (j - i) ≡ length entries
-count_without entries i j le within = omega (arith, le, within, length-append (take i entries) (drop j entries), length-take-le i entries (omega (arith, le, within)), length-drop j entries)
-
--- ---- the object's own bytes, without those that follow
-
-pub front_ready : (bytes block : List ℕ) (ms : Members) → Holds bytes (object ms) → IsBlockOf block (value_in bytes) → IsObjectBlock block × (ms ≡ members_in block)
-front_ready bytes block ms h o =
-    let own : IsBlockOf block (object ms) = subst (λ v. IsBlockOf block v) (value_is bytes (object ms) h) o in
-    let same : ms ≡ members_in block = sym (members_is block ms own.0) in
-    (subst (λ m. IsBlockOf block (object m)) same own, same)
-
-pub counted_entries : (block : List ℕ) (ms : Members) (n : ℕ) → n ≡ length (member_list ms) → ms ≡ members_in block → n ≡ length (entries_in block)
-counted_entries block ms n e same = e ∙ sym (length-member_entries ms) ∙ ap (λ m. length (member_entries m)) same

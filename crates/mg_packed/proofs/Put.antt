@@ -1,14 +1,12 @@
--- A member that is put into an object goes into the gap of its name.
-use Rattle.std.proofs.Common.{◌≡◌, ℕ, zero, suc, ◌≤◌, ◌<◌, List, ◌∷◌, length, IsUtf8, Some, None, Ordering, Less, Equal, Greater, nat_cmp, refl, sym, ap, ◌∙◌, arith}
+-- The gap of a name among the names of an object, and what stands in it.
+use Rattle.std.proofs.Common.{◌≡◌, ℕ, zero, suc, ◌≤◌, ◌<◌, List, length, IsUtf8, Some, None, Ordering, Less, Equal, Greater, nat_cmp, refl, ap, ◌∙◌, arith}
 use Rattle.std.proofs.lemmas.Cmp.{nat_list_cmp_total}
 use Rattle.std.specs.Cmp.Lexicographic.{slice_cmp}
 use Rattle.std.specs.Ordering.{match_ordering}
 use Rattle.mg_value.specs.Held.{AllAfter}
 use Rattle.mg_value.specs.Value.{Value, Members, no_members, member, member_list, get_member, put}
-use Rattle.mg_collate.proofs.Ties.{same_text}
-use Rattle.mg_packed.specs.Gap.{names_before, names_up_to, with_entry}
+use Rattle.mg_packed.specs.Gap.{names_before, names_up_to}
 use Rattle.mg_value.specs.Stored.{IsStored, MembersAreStored}
-use Rattle.mg_packed.specs.Packed.{packed, member_entries, named}
 use Rattle.mg_packed.specs.Read.{nth_value}
 use Rattle.mg_packed.proofs.Search.{seen, turned, turned_back, after}
 
@@ -65,21 +63,7 @@ pub missed : (k : List ℕ) (ms : Members) → MembersAreStored ms → names_up_
 missed k no_members stored h = refl
 missed k (member l w ms) stored h = missed_by (slice_cmp nat_cmp k l) k l w ms refl stored.0 (missed k ms stored.3) h
 
--- ---- the entry goes into the gap
-
-put_by : (o : Ordering) (k l : List ℕ) (v w : Value) (ms : Members) → slice_cmp nat_cmp k l ≡ o
-    → member_entries (put k v ms) ≡ with_entry (names_before k ms) (names_up_to k ms) (named k (packed v)) (member_entries ms)
-    → member_entries (match_ordering o (member k v (member l w ms)) (member l v ms) (member l w (put k v ms)))
-    ≡ with_entry (match_ordering o 0 0 (suc (names_before k ms))) (match_ordering o 0 1 (suc (names_up_to k ms))) (named k (packed v)) (named l (packed w) ∷ member_entries ms)
-put_by Less k l v w ms e rest = refl
-put_by Equal k l v w ms e rest = let same : l ≡ k = sym (same_text k l e) in ap (λ x. named x (packed v) ∷ member_entries ms) same
-put_by Greater k l v w ms e rest = ap (λ x. named l (packed w) ∷ x) rest
-
-pub put_entry : (k : List ℕ) (v : Value) (ms : Members) → member_entries (put k v ms) ≡ with_entry (names_before k ms) (names_up_to k ms) (named k (packed v)) (member_entries ms)
-put_entry k v no_members = refl
-put_entry k v (member l w ms) = put_by (slice_cmp nat_cmp k l) k l v w ms refl (put_entry k v ms)
-
--- ---- the names are still in order
+-- ---- with a member put in, the names are still in order
 
 after_by : (o : Ordering) (l k m : List ℕ) (v w : Value) (ms : Members) → slice_cmp nat_cmp l k ≡ Less → AllAfter l (member m w ms) → AllAfter l (put k v ms)
     → AllAfter l (match_ordering o (member k v (member m w ms)) (member m v ms) (member m w (put k v ms)))

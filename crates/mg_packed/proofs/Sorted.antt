@@ -15,8 +15,9 @@ use Rattle.mg_value.specs.Borrowed.{IsTreeOf, AreItemTreesOf}
 use Rattle.mg_value.specs.Held.{AllAfter}
 use Rattle.mg_value.specs.Stored.{IsStored, AreStored, MembersAreStored}
 use Rattle.mg_value.specs.Text.{whole_members}
-use Rattle.mg_value.specs.Value.{Value, Items, no_items, item, Members, no_members, member}
-use Rattle.mg_packed.specs.Packed.{packed, named, item_entries, member_entries}
+use Rattle.mg_value.specs.Value.{Value, text, Items, no_items, item, Members, no_members, member}
+use Rattle.mg_packed.specs.Tables.{item_pieces, member_pieces}
+use Rattle.mg_packed.proofs.Parts.{piece_of}
 use Rattle.mg_packed.specs.Sorted.{TreeMember, by_name, Ascend, sorted_data, ItemsMatch, MembersMatch}
 
 split : (k : List ℕ) (o : Option Data) (r : Option parsed.Members) (ds : parsed.Members) → option_and_then (λ d. option_map (parsed.member k d) r) o ≡ Some ds
@@ -67,13 +68,13 @@ abbrev pub members_with : Members → List ℕ → Value → Members
 members_with no_members k v = member k v no_members
 members_with (member l w ms) k v = member l w (members_with ms k v)
 
-pub entries-items_with : (vs : Items) (v : Value) → item_entries (items_with vs v) ≡ item_entries vs ++ packed v ∷ []
-entries-items_with no_items v = refl
-entries-items_with (item w vs) v = ap (λ es. packed w ∷ es) (entries-items_with vs v)
+pub pieces-items_with : (vs : Items) (v : Value) → item_pieces (items_with vs v) ≡ item_pieces vs ++ piece_of 44 v ∷ []
+pieces-items_with no_items v = refl
+pieces-items_with (item w vs) v = ap (λ ps. piece_of 44 w ∷ ps) (pieces-items_with vs v)
 
-pub entries-members_with : (ms : Members) (k : List ℕ) (v : Value) → member_entries (members_with ms k v) ≡ member_entries ms ++ named k (packed v) ∷ []
-entries-members_with no_members k v = refl
-entries-members_with (member l w ms) k v = ap (λ es. named l (packed w) ∷ es) (entries-members_with ms k v)
+pub pieces-members_with : (ms : Members) (k : List ℕ) (v : Value) → member_pieces (members_with ms k v) ≡ member_pieces ms ++ piece_of 44 (text k) ∷ piece_of 58 v ∷ []
+pieces-members_with no_members k v = refl
+pieces-members_with (member l w ms) k v = ap (λ ps. piece_of 44 (text l) ∷ piece_of 58 w ∷ ps) (pieces-members_with ms k v)
 
 pub items_match-push : (ts : List (Tree Global)) (t : Tree Global) (vs : Items) (v : Value) → ItemsMatch ts vs → IsTreeOf (value_view t) v → IsStored v → ItemsMatch (ts ++ t ∷ []) (items_with vs v)
 items_match-push [] t no_items v h whole stored = (whole, stored, tt)
@@ -86,18 +87,6 @@ members_match-push [] e no_members v h utf8 whole stored = (refl, utf8, whole, s
 members_match-push [] e (member l w ms) v h utf8 whole stored = absurd h
 members_match-push (u ∷ es) e no_members v h utf8 whole stored = absurd h
 members_match-push (u ∷ es) e (member l w ms) v h utf8 whole stored = (h.0, h.1, h.2, h.3, members_match-push es e ms v h.4 utf8 whole stored)
-
-pub length-items_match : (ts : List (Tree Global)) (vs : Items) → ItemsMatch ts vs → length (item_entries vs) ≡ length ts
-length-items_match [] no_items h = refl
-length-items_match [] (item w vs) h = absurd h
-length-items_match (t ∷ ts) no_items h = absurd h
-length-items_match (t ∷ ts) (item w vs) h = ap suc (length-items_match ts vs h.2)
-
-pub length-members_match : (es : List TreeMember) (ms : Members) → MembersMatch es ms → length (member_entries ms) ≡ length es
-length-members_match [] no_members h = refl
-length-members_match [] (member l w ms) h = absurd h
-length-members_match (e ∷ es) no_members h = absurd h
-length-members_match (e ∷ es) (member l w ms) h = ap suc (length-members_match es ms h.4)
 
 -- ---- parts that match make the whole
 

@@ -12,10 +12,10 @@ use Rattle.json.specs.Value.{value_view}
 use Rattle.json.specs.declared.value.Value.{Value as Tree}
 use Rattle.serde_json.specs.Data as parsed
 use Rattle.serde_json.specs.Read.{of_json, of_members}
-use Rattle.std.specs.List.{concat}
-use Rattle.mg_packed.specs.Packed.{offsets, packed, named, item_entries}
+use Rattle.mg_packed.specs.Tables.{tables}
 use Rattle.mg_value.specs.Borrowed.{IsTreeOf}
 use Rattle.mg_value.specs.Stored.{IsStored}
+use Rattle.mg_value.specs.Text.{compact}
 use Rattle.mg_value.specs.Value.{Value, Items, no_items, item, Members, no_members, member}
 
 -- a member of a parse tree: its name and its tree
@@ -53,17 +53,15 @@ MembersMatch [] (member k v ms) = ⊥
 MembersMatch (e ∷ es) no_members = ⊥
 MembersMatch (e ∷ es) (member k v ms) = (e.0.now ≡ k) × IsUtf8 k × IsTreeOf (value_view e.1.now) v × IsStored v × MembersMatch es ms
 
--- the new bytes are the old ones, and then those of a value that the tree stands for and a `Json` can hold
-abbrev pub IsPushed : json.Json → List ℕ → List ℕ → Type 0
-IsPushed j old new = (v : Value) × IsTreeOf j v × IsStored v × (new ≡ old ++ packed v)
+-- the new text and tables are the old ones, and then those of v
+pub record IsAdded (v : Value) (b0 t0 b t : List ℕ) : Type 0 where
+  pub text : b ≡ b0 ++ compact v
+  pub tables : t ≡ t0 ++ tables v
+  pub stored : IsStored v
 
--- the new bytes are the old ones, and then the entry of a member with this name; the tree stands for its value, which a `Json` can hold
-abbrev pub IsMemberPushed : List ℕ → json.Json → List ℕ → List ℕ → Type 0
-IsMemberPushed k j old new = IsUtf8 k × ((v : Value) × IsTreeOf j v × IsStored v × (new ≡ old ++ named k (packed v)))
-
--- the new bytes are the old ones, and then the offsets and entries of the items that the trees stand for
-abbrev pub AreItemsPushed : List (Tree Global) → List ℕ → List ℕ → Type 0
-AreItemsPushed ts old new = (vs : Items) × ItemsMatch ts vs × (new ≡ old ++ (offsets 0 (item_entries vs) ++ concat (item_entries vs)))
+-- they are the old ones, and then those of a value that the tree stands for
+abbrev pub IsPushed : json.Json → List ℕ → List ℕ → List ℕ → List ℕ → Type 0
+IsPushed j b0 t0 b t = (v : Value) × IsTreeOf j v × IsAdded v b0 t0 b t
 
 -- the members of the parse tree, sorted by name, stand for these members
 abbrev pub AreSortedMembers : json.Members → Members → Type 0

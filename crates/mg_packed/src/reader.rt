@@ -4,11 +4,8 @@ ghost use Rattle.json.specs.Value.{value_view};
 ghost use Rattle.serde_json.specs.Data.{Data};
 ghost use Rattle.mg_value.specs.Text.{Reads, IsText, whole_of};
 ghost use Rattle.mg_value.specs.Borrowed.{IsTreeOf};
-ghost use Rattle.mg_value.specs.Value.{Value};
 ghost use Rattle.mg_value.specs.View.{view};
-ghost use Rattle.mg_packed.specs.Read.{IsBlockOf};
 
-use crate::measure::as_word;
 use crate::packed::Packed;
 use crate::tree::{GaveUp, push_tree};
 use json::{Scratch, Value as Tree};
@@ -60,21 +57,22 @@ fn read_with(alloc: Global, text: &str, scratch: &mut Scratch) -> Option<Packed>
     ensures { IfSome result (λ packed. Reads text.now packed) }
 {
     let tree = read_tree(alloc, text, scratch)?;
-    match tree_block(alloc, text.len(), &tree) {
-        Ok(bytes) => Some(Packed::in_block(bytes)),
+    match tree_packed(alloc, text.len(), &tree) {
+        Ok(packed) => Some(packed),
         Err(_) => None,
     }
 }
 
-// Writes the bytes of the value that the tree stands for into a new block. The block is allocated with twice the length of the text, and
-// grows if it has to, so spare room may be left. Errors: `GaveUp` if `push_tree` gives up, the block would be too long, or memory runs out.
-fn tree_block(alloc: Global, text_len: usize, tree: &Tree<'_>) -> Result<Vec<u8>, GaveUp>
-    ensures { IfOk result (λ b. (v : Value) × IsTreeOf (value_view tree.now) v × IsBlockOf b.items v) }
+// Puts the value that the tree stands for into a block. The buffers begin with the length of the text, which no compact text of the same
+// value passes. Errors: `GaveUp` if `push_tree` gives up, the text or the tables would be too long, or memory runs out.
+fn tree_packed(alloc: Global, text_len: usize, tree: &Tree<'_>) -> Result<Packed, GaveUp>
+    ensures { IfOk result (λ packed. IsTreeOf (value_view tree.now) packed) }
 {
-    let mut out = Vec::with_capacity(alloc, text_len.saturating_mul(2))?;
-    push_tree(alloc, &mut out, tree, MAX_DEPTH)?;
-    as_word(out.len())?;
-    Ok(out)
+    let mut text = Vec::with_capacity(alloc, text_len)?;
+    let mut tables = Vec::with_capacity(alloc, text_len)?;
+    push_tree(alloc, &mut text, &mut tables, tree, MAX_DEPTH)?;
+    let packed = Packed::joined(alloc, &text, &tables)?;
+    Ok(packed)
 }
 
 // The slow path, over a `Json`. It finds why a text is refused. It also reads the few other texts on which the fast path gave up: those

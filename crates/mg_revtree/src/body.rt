@@ -80,9 +80,8 @@ impl Body {
     /// is its own form.
     ///
     /// Errors: `NoMemory` if an allocation fails, if a block would be longer than 4,294,967,295 bytes, or if there are too many
-    /// references to a shared block. Cost: three copies of the body's bytes, the text of the form, and a copy of the text. If the body is
-    /// already in the block of this form, the block is shared and nothing is copied. If the body is in the block of another form, it is
-    /// first copied out as a `Json` and packed.
+    /// references to a shared block. Cost: that of `Packed::with_text`, twice. If the body is already in the block of this form, the block
+    /// is shared and nothing is copied. If the body is in the block of another form, it is first copied out as a `Json` and packed.
     pub fn form(&self, alloc: Global, id: &str, rev: &str) -> Result<Form, NoMemory>
         ensures { IfOk result (λ form. form ≡ as_form (string id.now) (string rev.now) self.now) }
     {
@@ -190,7 +189,7 @@ fn make_form(alloc: Global, body: &Packed, id: &str, rev: &str) -> Result<Form, 
 {
     let revised = body.with_text(alloc, "_rev", rev)?;
     let form = revised.with_text(alloc, "_id", id)?;
-    Form::of(alloc, &form)
+    Form::of(alloc, form)
 }
 
 // Whether the form has a member of this name, and the member is this text.

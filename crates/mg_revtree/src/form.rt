@@ -1,14 +1,14 @@
-use mg_packed::{Packed, Written};
+use mg_packed::Packed;
 use mg_value::NoMemory;
 use std::alloc::Global;
 use std::marker::Model;
 use std::sync::Arc;
 
-/// The form in which a document is served, with its text, in one block of memory. A second, small block counts the owners that share the
-/// form, such as a shard's document and the winner in the document's revision tree. Contracts see the form as a value.
+/// The form in which a document is served, in one block of memory. A second, small block counts the owners that share the form, such as
+/// a shard's document and the winner in the document's revision tree. Contracts see the form as a value.
 #[derive(Drop)]
 pub struct Form {
-    block: Arc<Written>,
+    block: Arc<Packed>,
 }
 
 impl Model for Form {
@@ -26,17 +26,17 @@ impl Model for Form {
 impl Form {
     ghost use Rattle.std.specs.Prelude.{◌≡◌, IfOk};
 
-    // Copies a form into a block that several owners can share, and writes its text there. Errors: `NoMemory` if an allocation fails.
-    pub(crate) fn of(alloc: Global, form: &Packed) -> Result<Form, NoMemory>
-        ensures { IfOk result (λ shared. shared ≡ form.now) }
+    // Lets several owners share the block of a form. Errors: `NoMemory` if an allocation fails.
+    pub(crate) fn of(alloc: Global, form: Packed) -> Result<Form, NoMemory>
+        ensures { IfOk result (λ shared. shared ≡ form) }
     {
         Ok(Form {
-            block: Arc::new(alloc, Written::of(alloc, form)?)?,
+            block: Arc::new(alloc, form)?,
         })
     }
 
-    /// Returns the block, with the form and its text. Takes no memory.
-    pub fn written(&self) -> &Written
+    /// Returns the block. Takes no memory.
+    pub fn written(&self) -> &Packed
         ensures { result.now ≡ self.now }
     {
         &self.block

@@ -7,7 +7,7 @@ ghost use Rattle.mg_scan.specs.Hit.{hit_document, hit_form, hit_row, hit_text};
 use crate::lent_row::LentRow;
 use mg_collate::Row;
 use mg_merge::Ranked;
-use mg_packed::{Part, Written};
+use mg_packed::{Packed, Part};
 use mg_shard::Document;
 use mg_value::{Json, NoMemory};
 use std::alloc::Global;
@@ -18,7 +18,7 @@ use std::cmp::Ordering;
 pub struct Hit<'a> {
     pub(crate) row: LentRow<'a>,
     pub(crate) document: &'a Document,
-    pub(crate) form: &'a Written,
+    pub(crate) form: &'a Packed,
 }
 
 impl<'a> Hit<'a> {

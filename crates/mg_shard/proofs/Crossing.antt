@@ -4,7 +4,6 @@ use Rattle.std.proofs.Crossing.{crosses, send as heap_send, sync as heap_sync}
 use Rattle.std.proofs.MapsCrossing.{crosses as maps}
 use Rattle.mg_index.proofs.definition.IndexDef.TheSendSync as definition
 use Rattle.mg_packed.proofs.packed.Packed.TheSendSync as packed
-use Rattle.mg_packed.proofs.written.Written.TheSendSync as written
 use Rattle.mg_pages.proofs.element.Shared.TheSendSync as element
 use Rattle.mg_pages.proofs.Crossing.{pages_send, pages_sync}
 use Rattle.mg_revtree.specs.contracts.body.Block as Block
@@ -26,10 +25,10 @@ use Rattle.mg_shard.specs.contracts.served.Served as Served
 use Rattle.mg_shard.specs.contracts.shard.Shard as Shard
 
 pub form_send : IsSend Form.the_row
-form_send = search (sendable, crosses, maps, written.the_send, written.the_sync) depth 40
+form_send = search (sendable, crosses, maps, packed.the_send, packed.the_sync) depth 40
 
 pub form_sync : IsSync Form.the_row
-form_sync = search (sendable, crosses, maps, written.the_send, written.the_sync) depth 40
+form_sync = search (sendable, crosses, maps, packed.the_send, packed.the_sync) depth 40
 
 pub block_send : IsSend Block.the_row
 block_send = search (sendable, crosses, maps, packed.the_send, form_send) depth 40

@@ -8,7 +8,7 @@ ghost use Rattle.mg_shard.specs.Own.{form_in, IsServedOwn, IsServedOwn-prop};
 use crate::document_id::DocumentId;
 use crate::served::Served;
 use mg_doc::serve_form;
-use mg_packed::{Part, Written};
+use mg_packed::{Packed, Part};
 use mg_pages::Identified;
 use mg_revtree::RevTree;
 use mg_value::NoMemory;
@@ -106,7 +106,7 @@ impl Document {
 
     /// Returns the block of the form in which the document is served, with the form's text; `None` if the document is deleted. Takes no
     /// memory.
-    pub fn written(&self) -> Option<&Written>
+    pub fn written(&self) -> Option<&Packed>
         ensures { option_map (λ v. v.now) result ≡ form_of self.now }
     {
         self.served.written()

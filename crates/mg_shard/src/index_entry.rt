@@ -4,7 +4,7 @@ ghost use Rattle.std.specs.Prelude.{◌≡◌};
 use crate::index_ref::IndexRef;
 use crate::index_rows::mend_rows;
 use mg_index::IndexDef;
-use mg_packed::Written;
+use mg_packed::Packed;
 use mg_pages::{Element, Keyed, Pages, Probe};
 use mg_rows::{KeyBytes, RowBytes};
 use mg_value::NoMemory;
@@ -120,8 +120,8 @@ impl IndexEntry {
         alloc: Global,
         scratch: &mut KeyBytes,
         id: &str,
-        before: Option<&Written>,
-        after: Option<&Written>,
+        before: Option<&Packed>,
+        after: Option<&Packed>,
     ) -> Result<(), NoMemory>
         ensures definition { OnOk result (self.new.0 ≡ self.old.0) }
         ensures rows { OnOk result ((ds : KeptDocuments) (d : KeptDocument)

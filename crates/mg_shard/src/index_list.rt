@@ -10,7 +10,7 @@ ghost use Rattle.mg_pages.specs.Order.{inserted};
 use crate::document::Document;
 use crate::index_entry::IndexEntry;
 use crate::index_ref::IndexRef;
-use mg_packed::Written;
+use mg_packed::Packed;
 use mg_pages::{Element, Pages, Shared};
 use mg_rows::{KeyBytes, RowBytes};
 use mg_value::NoMemory;
@@ -113,7 +113,7 @@ pub(crate) fn remove_index(
 }
 
 // Returns the form in which the document with this id is served; `None` if there is no such document, or it is deleted.
-fn form_at<'a>(documents: &'a Pages<Shared<Document>>, id: &str) -> Option<&'a Written>
+fn form_at<'a>(documents: &'a Pages<Shared<Document>>, id: &str) -> Option<&'a Packed>
     ensures { option_map (λ v. v.now) result ≡ form_at (kept_documents documents.now) id.now }
 {
     match documents.get(&id) {

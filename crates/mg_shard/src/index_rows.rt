@@ -10,7 +10,7 @@ ghost use Rattle.mg_shard.specs.Mended.{HaveSameRow, own_row, with_row, without_
 ghost use Rattle.mg_shard.specs.Rows.{row_key, row_of, rows_of};
 
 use mg_index::IndexDef;
-use mg_packed::{Kind, Part, Written};
+use mg_packed::{Kind, Packed, Part};
 use mg_pages::Pages;
 use mg_path::Path;
 use mg_rows::{KeyBytes, RowBytes};
@@ -58,7 +58,7 @@ fn row_if(
     scratch: &mut KeyBytes,
     columns: &[Path],
     id: &str,
-    form: Option<&Written>,
+    form: Option<&Packed>,
 ) -> Result<Option<RowBytes>, NoMemory>
     ensures { IfOk result (λ row. row
         ≡ own_row columns.now id.now (option_map (λ v. v.now) form.entry)) }
@@ -107,7 +107,7 @@ fn have_same_key(columns: &[Path], form: &Part<'_>, other: &Part<'_>) -> bool
 
 // Whether a document is known to have equal rows with both forms, or no row with either. A form of `None`: the document is not served.
 // Takes no memory.
-fn have_same_row(columns: &[Path], form: Option<&Written>, other: Option<&Written>) -> bool
+fn have_same_row(columns: &[Path], form: Option<&Packed>, other: Option<&Packed>) -> bool
     ensures { result ≡ true → HaveSameRow columns.now (option_map (λ v. v.now) form.entry)
         (option_map (λ v. v.now) other.entry) }
 {
@@ -192,8 +192,8 @@ pub(crate) fn mend_rows(
     definition: &IndexDef,
     rows: &mut Arc<Pages<RowBytes>>,
     id: &str,
-    before: Option<&Written>,
-    after: Option<&Written>,
+    before: Option<&Packed>,
+    after: Option<&Packed>,
 ) -> Result<(), NoMemory>
     ensures { OnOk result ((ds : KeptDocuments) (d : KeptDocument)
         → option_map (λ v. v.now) before.entry ≡ form_at ds id.now → option_map (λ v. v.now) after.entry ≡ d.1

@@ -2,7 +2,7 @@
 ghost use Rattle.std.specs.Prelude.{◌≡◌, ℕ, List, Some, option_map};
 ghost use Rattle.mg_shard.specs.Own.{form_in, has_own_id, HasOwnId, IsServedOwn};
 
-use mg_packed::Written;
+use mg_packed::Packed;
 use mg_revtree::Form;
 
 /// The form in which a document is served, in one block with its compact text, if the document is not deleted. The variant says whether
@@ -31,7 +31,7 @@ impl Served {
     }
 
     /// Returns the block of the form; `None` if the document is deleted. Takes no memory.
-    pub(crate) fn written(&self) -> Option<&Written>
+    pub(crate) fn written(&self) -> Option<&Packed>
         ensures { option_map (λ form. form.now) result ≡ form_in self.now }
     {
         match self {

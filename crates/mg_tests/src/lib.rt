@@ -25,6 +25,8 @@ mod merge_tests;
 #[cfg(test)]
 mod packed_read_tests;
 #[cfg(test)]
+mod packed_tables_tests;
+#[cfg(test)]
 mod packed_tests;
 #[cfg(test)]
 mod packed_text_tests;

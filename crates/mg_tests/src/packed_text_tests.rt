@@ -1,7 +1,7 @@
-//! The compact text of a packed value, its copy as a `Json`, and its written form.
+//! The compact text of a packed value, its copy as a `Json`, and its copy as a block.
 use crate::given::json;
 use crate::packed_tests::{COMPACT, block, is_part};
-use mg_packed::{Packed, Part, Written};
+use mg_packed::{Packed, Part};
 use mg_value::Json;
 use std::alloc::Global;
 use std::process::Abort;
@@ -33,8 +33,10 @@ fn a_copy_outlives_its_block(rt: HostRuntime) {
 }
 
 #[test]
-fn a_written_value_has_its_text_behind_it(rt: HostRuntime) {
-    let written = Written::of(rt.alloc(), &block(&rt, rt.alloc())).expect(&rt, "memory");
-    assert!(rt; written.compact_text() == COMPACT.as_bytes());
-    assert!(rt; is_part(&rt, rt.alloc(), Some(written.part()), Some(COMPACT)));
+fn a_copy_of_a_block_lends_its_text(rt: HostRuntime) {
+    let copy = block(&rt, rt.alloc())
+        .copy(rt.alloc())
+        .expect(&rt, "memory");
+    assert!(rt; copy.compact_text() == COMPACT.as_bytes());
+    assert!(rt; is_part(&rt, rt.alloc(), Some(copy.part()), Some(COMPACT)));
 }

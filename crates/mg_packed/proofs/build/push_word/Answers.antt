@@ -1,5 +1,5 @@
 use Rattle.std.proofs.Common.{◌++◌, ap, ◌∙◌}
-use Rattle.mg_packed.specs.Packed.{word}
+use Rattle.mg_packed.specs.Tables.{word}
 use Rattle.mg_packed.proofs.build.push_word.Goals as goal
 
 pub returns : goal.returns

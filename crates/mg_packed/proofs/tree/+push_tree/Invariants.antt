@@ -1,8 +1,8 @@
 use Rattle.std.proofs.Common.{◌≡◌, ◌+◌, ◌*◌, List, ◌++◌, take}
 use Rattle.mg_value.specs.Value.{Items, Members}
-use Rattle.mg_packed.specs.Packed.{item_entries, member_entries}
+use Rattle.mg_packed.specs.Tables.{item_pieces, member_pieces}
 use Rattle.mg_packed.specs.Sorted.{TreeMember, ItemsMatch, MembersMatch}
-use Rattle.mg_packed.proofs.Filling.{IsFilled}
+use Rattle.mg_packed.specs.Writing.{IsOpen}
 use Rattle.mg_packed.proofs.tree.+push_tree.Given as goal
 
 abbrev pub decreases-push_tree : goal.decreases-push_tree
@@ -20,14 +20,15 @@ decreases-push_items l = 4 * l.depth + 4
 abbrev pub decreases-push_sorted : goal.decreases-push_sorted
 decreases-push_sorted l = 4 * l.depth + 4
 
-abbrev pub decreases-push_member : goal.decreases-push_member
-decreases-push_member l = 4 * l.depth + 3
-
+-- the items so far are the pieces so far
 abbrev pub invariant-push_items-loop-item : goal.invariant-push_items-loop-item
 invariant-push_items-loop-item l =
-    (vs : Items) × ItemsMatch (take l.item-index l.items) vs × IsFilled l.initial.out.items l.table (item_entries vs) l.out.items l.cell
+    (vs : Items) × ItemsMatch (take l.item-index l.items) vs
+    × IsOpen l.fn.out.items l.fn.inner.items 91 (item_pieces vs) l.out.items l.inner.items l.pieces.text l.pieces.tables l.pieces.marks.items
 
+-- the members so far are the pieces so far
 abbrev pub invariant-push_sorted-loop-name : goal.invariant-push_sorted-loop-name
 invariant-push_sorted-loop-name l =
     (done : List TreeMember) × (l.sorted.entries ≡ done ++ l.name-iterator)
-    × (ms : Members) × MembersMatch done ms × IsFilled l.initial.out.items l.table (member_entries ms) l.out.items l.cell
+    × (ms : Members) × MembersMatch done ms
+    × IsOpen l.fn.out.items l.fn.inner.items 123 (member_pieces ms) l.out.items l.inner.items l.pieces.text l.pieces.tables l.pieces.marks.items

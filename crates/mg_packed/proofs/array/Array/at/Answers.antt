@@ -1,5 +1,5 @@
-use Rattle.mg_packed.proofs.Laws.{array_counted}
+use Rattle.mg_packed.proofs.Laws.{array_headed}
 use Rattle.mg_packed.proofs.array.Array.at.Goals as goal
 
-pub count-count-requires : goal.count-count-requires
-count-count-requires c = array_counted _ _ c.requires.1
+pub head-head-requires : goal.head-head-requires
+head-head-requires c = array_headed _ _ _ c.requires.1
