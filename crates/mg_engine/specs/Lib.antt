@@ -19,6 +19,7 @@ pub mod Outcomes
 pub mod Laws
 pub mod Listing
 pub mod Design
+pub mod More
 pub mod Questions
 pub mod QuestionView
 pub mod Counted

@@ -22,8 +22,8 @@ listing_view l = record {
 -- the question that a question of the code stands for
 abbrev pub question_view : code.Question → Question
 question_view Database = database
-question_view (Leaf id rev path) = leaf (string_bytes id) rev path
-question_view (Winner id conflicts) = winner (string_bytes id) conflicts
+question_view (Leaf id rev latest path) = leaf (string_bytes id) rev latest path
+question_view (Winner id more) = winner (string_bytes id) more
 question_view (Keys ids documents) = keys (map string_bytes ids.items) documents
 question_view (Range listing) = range (listing_view listing)
 question_view (Design ddoc) = design (string_bytes ddoc)

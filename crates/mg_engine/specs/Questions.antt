@@ -4,29 +4,30 @@ use Rattle.std.specs.Prelude.{ℕ, pos, List, Bool, true, false, codes, decimal,
 use Rattle.std.specs.FinMap as finite
 use Rattle.mg_value.specs.Value.{Value, null, flag, whole, text, list, object, member, member_of, no_members}
 use Rattle.mg_value.specs.View.{items_of}
-use Rattle.mg_revtree.specs.History.{Leaf, Paths, leaf_of, winner_of}
+use Rattle.mg_revtree.specs.History.{Leaf, Paths, winner_of}
 use Rattle.mg_revtree.specs.Revision.{Revision}
 use Rattle.mg_doc.specs.Conflicts.{leaf_text}
-use Rattle.mg_doc.specs.Leaf.{leaf_form, with_revisions_of}
+use Rattle.mg_doc.specs.Leaf.{leaf_form}
 use Rattle.mg_doc.specs.Served.{served_form}
 use Rattle.mg_shard.specs.Histories.{Histories, deleted_documents, served_documents}
 use Rattle.mg_query.specs.Page.{Page, answer_of, candidates_of}
 use Rattle.mg_query.specs.Query.{Query, query_of}
 use Rattle.mg_query.specs.declared.error.QueryError.{QueryError}
-use Rattle.mg_engine.specs.Commands.{Answer, ok_answer, refusal_of_query, refused, shown_or_deleted, shown_or_refused, with_conflicts_if}
+use Rattle.mg_engine.specs.Commands.{Answer, ok_answer, refusal_of_query, refused, shown_or_deleted, shown_or_refused}
 use Rattle.mg_engine.specs.Design.{design_answer}
 use Rattle.mg_engine.specs.Listing.{Listing, offset_of, range_query}
+use Rattle.mg_engine.specs.More.{leaf_asked, with_more, with_revisions_if}
 use Rattle.mg_engine.specs.World.{World}
+use Rattle.mg_engine.specs.declared.question.More.{More}
 use Rattle.mg_engine.specs.declared.refusal.Refusal.TheVariants.{Missing}
 
--- a question: what the database is; for `leaf`, the leaf of a document by the document's id and the leaf's revision, with the path of the
--- revision if it is asked for; for `winner`, the served document of an id with the path of its revision, and with its conflicts if they are
--- asked for; for `keys`, the rows of these ids, with the documents if they are asked for; for `range`, the rows of a range of ids; for
+-- a question: what the database is; for `leaf`, the leaf of a document by the document's id and a revision, the latest one and the path of its
+-- revision if they are asked for; for `winner`, the served document of an id with what is asked for beside it; for `keys`, the rows of these ids, with the documents if they are asked for; for `range`, the rows of a range of ids; for
 -- `design`, the design document of this name
 pub data Question : Type 0 where
   database : Question
-  leaf : List ℕ → Revision → Bool → Question
-  winner : List ℕ → Bool → Question
+  leaf : List ℕ → Revision → Bool → Bool → Question
+  winner : List ℕ → More → Question
   keys : List (List ℕ) → Bool → Question
   range : Listing → Question
   design : List ℕ → Question
@@ -72,33 +73,27 @@ database_value w commits = database_of w.name (doc_count w.docs) (doc_del_count 
 
 -- ---- `GET` of a document with `rev`
 
--- a document of this history, with the path of the revision where it is asked for
-abbrev pub with_revisions_if : Bool → Paths → Revision → Value → Value
-with_revisions_if true h r v = with_revisions_of h r v
-with_revisions_if false h r v = v
-
 -- the answer with this document; `missing` if there is none
 abbrev pub shown_or_missing : Option Value → Answer
 shown_or_missing (Some v) = ok_answer v
 shown_or_missing None = refused Missing
 
--- the answer with the leaf of this revision: the winner or another leaf, deleted or not, and no other revision; `missing` if the revision is
--- not a leaf of the document, since no other revision has a body, or if there is no such document
-abbrev pub leaf_answer : List ℕ → Revision → Bool → Option Paths → Answer
-leaf_answer id r path (Some h) = shown_or_missing (option_map (λ l. with_revisions_if path h r (leaf_form id l)) (leaf_of h r))
-leaf_answer id r path None = refused Missing
+-- the answer with the leaf of this revision, or with the latest one: the winner or another leaf, deleted or not, and no other revision; `missing`
+-- if there is no such leaf, since no other revision has a body, or if there is no such document
+abbrev pub leaf_answer : List ℕ → Revision → Bool → Bool → Option Paths → Answer
+leaf_answer id r latest path (Some h) = shown_or_missing (option_map (λ l. with_revisions_if path h l.rev (leaf_form id l)) (leaf_asked latest h r))
+leaf_answer id r latest path None = refused Missing
 
--- ---- `GET` of a document with `revs`
+-- ---- `GET` of a document with `revs`, `revs_info` or `deleted_conflicts`
 
--- the document that is served for a winner, with the path of its revision, and with its conflicts if they are asked for; `None` if the winner is
--- deleted
-abbrev pub winner_shown : Bool → List ℕ → Paths → Leaf → Option Value
-winner_shown conflicts id h l = if l.deleted then None else Some (with_revisions_of h l.rev (with_conflicts_if conflicts h (served_form id l)))
+-- the document that is served for a winner, with what is asked for beside it; `None` if the winner is deleted
+abbrev pub winner_shown : More → List ℕ → Paths → Leaf → Option Value
+winner_shown more id h l = if l.deleted then None else Some (with_more more h l.rev (served_form id l))
 
--- the answer with the winner and its path; `deleted` if the document has a history and is not served, `missing` if it has no history
-abbrev pub winner_answer : List ℕ → Bool → Option Paths → Answer
-winner_answer id conflicts (Some h) = shown_or_deleted (option_and_then (winner_shown conflicts id h) (winner_of h))
-winner_answer id conflicts None = refused Missing
+-- the answer with the winner; `deleted` if the document has a history and is not served, `missing` if it has no history
+abbrev pub winner_answer : List ℕ → More → Option Paths → Answer
+winner_answer id more (Some h) = shown_or_deleted (option_and_then (winner_shown more id h) (winner_of h))
+winner_answer id more None = refused Missing
 
 -- ---- `_all_docs` with `keys`
 
@@ -168,8 +163,8 @@ range_answer w l = range_found w l (query_of (range_query l))
 -- what a question is answered in the world that this many commits leave
 abbrev pub answer_to : World → ℕ → Question → Answer
 answer_to w commits database = ok_answer (database_value w commits)
-answer_to w commits (leaf id r path) = leaf_answer id r path (finite.get w.docs id)
-answer_to w commits (winner id conflicts) = winner_answer id conflicts (finite.get w.docs id)
+answer_to w commits (leaf id r latest path) = leaf_answer id r latest path (finite.get w.docs id)
+answer_to w commits (winner id more) = winner_answer id more (finite.get w.docs id)
 answer_to w commits (keys ids documents) = ok_answer (keys_value w.docs documents ids)
 answer_to w commits (range l) = range_answer w l
 answer_to w commits (design ddoc) = design_answer ddoc w.indexes

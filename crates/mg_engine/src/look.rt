@@ -6,8 +6,7 @@ ghost use Rattle.mg_value.specs.View.{view};
 ghost use Rattle.mg_revtree.specs.History.{Paths, winner_of};
 ghost use Rattle.mg_revtree.specs.Tree.{StandsFor};
 ghost use Rattle.mg_shard.specs.Documents.{StandsAt};
-ghost use Rattle.mg_engine.specs.Commands.{with_conflicts_if};
-ghost use Rattle.mg_engine.specs.Questions.{answer_to, leaf_answer, winner_answer, winner_shown, with_revisions_if};
+ghost use Rattle.mg_engine.specs.Questions.{answer_to, leaf_answer, winner_answer, winner_shown};
 ghost use Rattle.mg_engine.specs.QuestionView.{question_view};
 ghost use Rattle.mg_engine.specs.Stands.{StateStandsFor};
 ghost use Rattle.mg_engine.specs.View.{reply_view};
@@ -15,12 +14,13 @@ ghost use Rattle.mg_engine.specs.World.{World};
 
 use crate::body::line;
 use crate::context::Context;
-use crate::question::Question;
+use crate::more::{leaf_asked, with_more, with_revisions_if};
+use crate::question::{More, Question};
 use crate::read::shard_of;
 use crate::refusal::Refusal;
 use crate::reply::Reply;
 use crate::state::State;
-use mg_doc::{leaf_document, with_conflicts, with_revisions};
+use mg_doc::leaf_document;
 use mg_revtree::{Rev, RevTree};
 use mg_scan::Gate;
 use mg_shard::laws::each_id_has_its_shard;
@@ -45,10 +45,13 @@ impl State {
         let alloc = context.alloc;
         match question {
             Question::Database => Ok(self.describe(alloc, commits)?),
-            Question::Leaf { id, rev, path } => Ok(self.leaf(alloc, placement, id, rev, *path)?),
-            Question::Winner { id, conflicts } => Ok(self.winner(
-                alloc, placement, id, *conflicts,
-            )?),
+            Question::Leaf {
+                id,
+                rev,
+                latest,
+                path,
+            } => Ok(self.leaf(alloc, placement, id, rev, *latest, *path)?),
+            Question::Winner { id, more } => Ok(self.winner(alloc, placement, id, *more)?),
             Question::Keys { ids, documents } => Ok(self.list_keys(
                 alloc, placement, ids, *documents,
             )?),
@@ -64,44 +67,45 @@ impl State {
         placement: &P,
         id: &str,
         rev: &Rev,
+        latest: bool,
         path: bool,
     ) -> Result<Reply, NoMemory>
         ensures { IfOk result (λ r. (w : World) → StateStandsFor (P.place placement.now) self.now w
-            → reply_view r ≡ Some (leaf_answer id.now rev.now path (finite.get w.docs id.now))) }
+            → reply_view r ≡ Some (leaf_answer id.now rev.now latest path (finite.get w.docs id.now))) }
     {
         each_id_has_its_shard();
         let shard = shard_of(placement, &self.shards, id);
-        let reply = leaf_from(alloc, shard, id, rev, path)?;
+        let reply = leaf_from(alloc, shard, id, rev, latest, path)?;
         Ok(reply)
     }
 
-    // Makes the reply that shows the winner of a document with the path of its revision. Errors: `NoMemory` if an allocation fails.
+    // Makes the reply that shows the winner of a document with what is asked for beside it. Errors: `NoMemory` if an allocation fails.
     fn winner<P: Placement>(
         &self,
         alloc: Global,
         placement: &P,
         id: &str,
-        conflicts: bool,
+        more: More,
     ) -> Result<Reply, NoMemory>
         ensures { IfOk result (λ r. (w : World) → StateStandsFor (P.place placement.now) self.now w
-            → reply_view r ≡ Some (winner_answer id.now conflicts (finite.get w.docs id.now))) }
+            → reply_view r ≡ Some (winner_answer id.now more (finite.get w.docs id.now))) }
     {
         each_id_has_its_shard();
         let shard = shard_of(placement, &self.shards, id);
-        let reply = winner_from(alloc, shard, id, conflicts)?;
+        let reply = winner_from(alloc, shard, id, more)?;
         Ok(reply)
     }
 }
 
 // Makes the reply that shows the winner of a document, whose id is placed on this shard. Errors: `NoMemory` if an allocation fails.
-fn winner_from(alloc: Global, shard: &Shard, id: &str, conflicts: bool) -> Result<Reply, NoMemory>
+fn winner_from(alloc: Global, shard: &Shard, id: &str, more: More) -> Result<Reply, NoMemory>
     ensures { IfOk result (λ r. (o : Option Paths) → StandsAt id.now (get shard.now.documents id.now) o
-        → reply_view r ≡ Some (winner_answer id.now conflicts o)) }
+        → reply_view r ≡ Some (winner_answer id.now more o)) }
 {
     let Some(document) = shard.document(id) else {
         return Ok(Reply::refusing(alloc, Refusal::Missing)?);
     };
-    match winner_json(alloc, id, document.tree(), conflicts)? {
+    match winner_json(alloc, id, document.tree(), more)? {
         Some(shown) => {
             let body = line(alloc, &shown)?;
             Ok(Reply::Full { status: 200, body })
@@ -110,16 +114,16 @@ fn winner_from(alloc: Global, shard: &Shard, id: &str, conflicts: bool) -> Resul
     }
 }
 
-// Makes the document that is served, with the path of its revision; `None` if the winner is deleted. Errors: `NoMemory` if an allocation
-// fails.
+// Makes the document that is served, with what is asked for beside it; `None` if the winner is deleted. Errors: `NoMemory` if an
+// allocation fails.
 fn winner_json(
     alloc: Global,
     id: &str,
     tree: &RevTree,
-    conflicts: bool,
+    more: More,
 ) -> Result<Option<Json>, NoMemory>
     ensures { IfOk result (λ o. (h : Paths) → StandsFor tree.now h
-        → option_map view o ≡ option_and_then (winner_shown conflicts id.now h) (winner_of h)) }
+        → option_map view o ≡ option_and_then (winner_shown more id.now h) (winner_of h)) }
 {
     let Some(leaf) = tree.winner() else {
         return Ok(None);
@@ -128,26 +132,8 @@ fn winner_json(
         return Ok(None);
     }
     let document = leaf_document(alloc, id, leaf)?;
-    let shown = with_conflicts_if(alloc, document, tree, conflicts)?;
-    let shown = with_revisions(alloc, shown, tree, &leaf.rev)?;
+    let shown = with_more(alloc, document, tree, &leaf.rev, more)?;
     Ok(Some(shown))
-}
-
-// Adds its conflicts to a document, if they are asked for. Errors: `NoMemory` if an allocation fails.
-fn with_conflicts_if(
-    alloc: Global,
-    document: Json,
-    tree: &RevTree,
-    conflicts: bool,
-) -> Result<Json, NoMemory>
-    ensures { IfOk result (λ v. (h : Paths) → StandsFor tree.now h
-        → view v ≡ with_conflicts_if conflicts h (view document)) }
-{
-    if conflicts {
-        Ok(with_conflicts(alloc, document, tree)?)
-    } else {
-        Ok(document)
-    }
 }
 
 // Makes the reply that shows the leaf of a document, whose id is placed on this shard. Errors: `NoMemory` if an allocation fails.
@@ -156,38 +142,21 @@ fn leaf_from(
     shard: &Shard,
     id: &str,
     rev: &Rev,
+    latest: bool,
     path: bool,
 ) -> Result<Reply, NoMemory>
     ensures { IfOk result (λ r. (o : Option Paths) → StandsAt id.now (get shard.now.documents id.now) o
-        → reply_view r ≡ Some (leaf_answer id.now rev.now path o)) }
+        → reply_view r ≡ Some (leaf_answer id.now rev.now latest path o)) }
 {
     let Some(document) = shard.document(id) else {
         return Ok(Reply::refusing(alloc, Refusal::Missing)?);
     };
     let tree = document.tree();
-    let Some(leaf) = tree.leaf(rev) else {
+    let Some(leaf) = leaf_asked(alloc, tree, rev, latest)? else {
         return Ok(Reply::refusing(alloc, Refusal::Missing)?);
     };
     let shown = leaf_document(alloc, id, leaf)?;
-    let shown = with_revisions_if(alloc, shown, tree, rev, path)?;
+    let shown = with_revisions_if(alloc, shown, tree, &leaf.rev, path)?;
     let body = line(alloc, &shown)?;
     Ok(Reply::Full { status: 200, body })
-}
-
-// Adds the path of a revision to a document, if it is asked for. Errors: `NoMemory` if an allocation fails.
-fn with_revisions_if(
-    alloc: Global,
-    document: Json,
-    tree: &RevTree,
-    rev: &Rev,
-    path: bool,
-) -> Result<Json, NoMemory>
-    ensures { IfOk result (λ v. (h : Paths) → StandsFor tree.now h
-        → view v ≡ with_revisions_if path h rev.now (view document)) }
-{
-    if path {
-        Ok(with_revisions(alloc, document, tree, rev)?)
-    } else {
-        Ok(document)
-    }
 }
