@@ -64,8 +64,9 @@ class Request:
 NUMBERS = "numbers are floating-point"
 OPERATORS = "`$regex`, `$keyMapMatch`, `$text`, `$beginsWith`"
 SINGLE = "`PUT`, `POST` and `DELETE` of one document, 409 for a conflict"
-ENDPOINTS = "views, `_all_docs`, `_changes`, `_revs_diff`, `_purge`, `_local`, attachments, the replicator, bulk deletion of indexes"
-OPTIONS = "`GET` with `rev`, `revs`, `open_revs`, `revs_info`"
+ALL_DOCS = "`_all_docs`"
+ENDPOINTS = "views, `_changes`, `_revs_diff`, `_purge`, `_local`, attachments, the replicator, bulk deletion of indexes"
+OPTIONS = "`GET` with `rev`, `latest`, `revs`, `revs_info`, `conflicts`, `deleted_conflicts`, `meta`"
 TEXTS = "texts are ordered by ICU"
 DATABASES = "many databases, made by `PUT /{db}`"
 DESIGN = "design documents are documents"
@@ -173,7 +174,7 @@ def differences() -> list[Request]:
         find({"kind": "fruit"}, Named(HINT, {"ids": ["apple", "pear", "plum"]}), use_index="none"),
         find({"_id": "apple"}, Named(FRONT, {"status": 400, "error": "invalid_bookmark"}, {"status": 200}), bookmark=""),
         Request("PUT", "apple", {"price": 1}, Named(SINGLE, {"status": 405}, {"status": 409, "error": "conflict"})),
-        get("_all_docs", Named(ENDPOINTS, {"status": 404}, {"status": 200})),
+        get("_all_docs", Named(ALL_DOCS, {"status": 404}, {"status": 200})),
         get("_changes", Named(ENDPOINTS, {"status": 404}, {"status": 200})),
         get("apple?revs=true", Named(OPTIONS, {"status": 200}, {"status": 200})),
         get("", Named(DATABASES, {"status": 404}, {"status": 200})),

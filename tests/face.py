@@ -5,15 +5,17 @@ usage: face.py --program PATH
 
 PATH is mango_server. The form of the conversations is described in tests/common/conversation.py, that of the examples in
 tests/common/reference.py; each has a file of its own, which is empty at the start. The fields of replies are compared here: `ETag`, `Location`,
-`Allow` and `Cache-Control`, what a client that has a document gets, and ids, of which no two are the same. The last line is
+`Allow` and `Cache-Control`, what a client that has a document gets, ids, of which no two are the same, and ranges of `_all_docs`. The last line is
 'N passed, M failed'.
 """
 import contextlib
 import http.client
 import json
+import random
 import re
 import sys
 import tempfile
+import urllib.parse
 from pathlib import Path
 
 from common.arguments import arguments
@@ -89,6 +91,11 @@ def fields(program, tally):
             tally.expect(f"a client that has {given}", client.ask("GET", "/db/a%20b", fields={"If-None-Match": given}), Reply(304, b""))
         tally.expect("a client that has another", client.ask("GET", "/db/a%20b", fields={"If-None-Match": '"1-x"'}).status, 200)
         tally.expect("HEAD", (client.ask("HEAD", "/db/a%20b"), client.fields.get("etag")), (Reply(200, b""), tag))
+        tally.expect("HEAD of the database", client.ask("HEAD", "/db"), Reply(200, b""))
+        tally.expect("the tag of a revision that is asked for", (client.ask("GET", f"/db/a%20b?rev={made}").status, client.fields.get("etag")), (200, tag))
+        for more in ("conflicts=true", "revs=true", f"rev={made}&revs=true"):
+            asked = client.ask("GET", f"/db/a%20b?{more}", fields={"If-None-Match": tag})
+            tally.expect(f"with {more} there is no tag, since more may change", (asked.status, client.fields.get("etag")), (200, None))
         tally.expect("a write by If-Match", client.ask("PUT", "/db/a%20b", '{"n":2}', {"If-Match": tag}).status, 201)
         tally.expect("a method that is not there", (client.ask("POST", "/_up").status, client.fields.get("allow")), (405, "GET, HEAD"))
 
@@ -107,9 +114,43 @@ def ids(program, tally):
     tally.expect("how many there are", len(set(found)), 2 * 1011)
 
 
+def rows_of(revisions, options):
+    """Returns what `_all_docs` shows: the documents that are not deleted are given by their ids and revisions, the options as in a body."""
+    start, last = (options.get("key", options.get(name)) for name in ("startkey", "endkey"))
+    down, ids = options.get("descending", False), sorted(revisions)
+    ids = ids[::-1] if down else ids
+    before = [name for name in ids if start is not None and (name > start if down else name < start)]
+    found = [name for name in ids[len(before):] if last is None or (name >= last if down else name <= last)]
+    found = [name for name in found if options.get("inclusive_end", True) or name != last]
+    skip, limit = options.get("skip", 0), options.get("limit", len(ids))
+    rows = [{"id": name, "key": name, "value": {"rev": revisions[name]}} for name in found[skip:skip + limit]]
+    return {"offset": min(len(ids), len(before) + skip), "rows": rows, "total_rows": len(ids)}
+
+
+def ranges(program, tally):
+    """Random ranges of ids, by a query and by a body, against `rows_of`."""
+    draw = random.Random(7)
+    names = sorted({"".join(draw.choices("ab\u00e9\U0001f600", k=draw.randint(1, 4))) for _ in range(150)})
+    with database(program) as client:
+        documents = [{"_id": name, "_rev": "1-a", "_deleted": draw.random() < 0.3} for name in names]
+        client.ask("POST", "/db/_bulk_docs", json.dumps({"docs": documents, "new_edits": False}))
+        kept = {one["_id"]: one["_rev"] for one in documents if not one["_deleted"]}
+        choices = {
+            "startkey": names, "endkey": names, "key": names, "inclusive_end": [True, False], "descending": [True, False], "skip": range(9), "limit": range(40),
+        }
+        faults = []
+        for _ in range(300):
+            options = {name: draw.choice(values) for name, values in choices.items() if draw.random() < (0.1 if name == "key" else 0.5)}
+            query = urllib.parse.urlencode({name: json.dumps(value) for name, value in options.items()})
+            for reply in (client.ask("GET", f"/db/_all_docs?{query}"), client.ask("POST", "/db/_all_docs", json.dumps(options))):
+                if json.loads(reply.body) != rows_of(kept, options):
+                    faults.append(f"{options}: replied {reply}")
+        tally.count("random ranges", faults[:1])
+
+
 def main():
     args, tally = arguments(__doc__), Tally()
-    for check in (conversations, examples, fields, ids):
+    for check in (conversations, examples, fields, ids, ranges):
         check(args.program, tally)
     return tally.end()
 

@@ -14,12 +14,9 @@ use Rattle.mg_face.proofs.Crossing.{face_send}
 use Rattle.mg_face.specs.contracts.face.Face as Face
 use Rattle.mg_http.proofs.Crossing.{service_send}
 use Rattle.mg_live.proofs.Crossing.{waiting_send}
-use Rattle.mg_live.specs.contracts.publication.SnapshotAbsorbUnit.TheImpl as absorb_of
 use Rattle.mg_live.specs.declared.database.Database as database
 use Rattle.mg_live.specs.declared.database.Keeper as keeper
 use Rattle.mg_log.proofs.log.Log.TheSendSync as log
-use Rattle.mg_shard.specs.contracts.placement.Md5Placement as Md5Placement
-use Rattle.mg_shard.specs.contracts.placement.Md5PlacementPlacement.TheImpl as md5
 use Rattle.mango_server.specs.contracts.keeper.FileKeeper as FileKeeper
 use Rattle.mango_server.specs.contracts.service.StoredService as StoredService
 
@@ -33,9 +30,9 @@ keeper_send H s = declared_send (FileKeeper.the_type H) (
 )
 
 module _ (D C : RattleType) (d : database.Ghosts D.Denot) (l : ledger.Ghosts D.Denot) (k : keeper.Ghosts C.Denot) where
-  pub stored_send : IsSend C → IsSend (StoredService.the_row D C Md5Placement.the_row k (absorb_of.ghosts Md5Placement.the_row) d l md5.ghosts)
-  stored_send c = declared_send (StoredService.the_type D C Md5Placement.the_row k (absorb_of.ghosts Md5Placement.the_row) d l md5.ghosts) (service_send D C d l k c, (search (sendable, crosses) depth 10, tt))
+  pub stored_send : IsSend C → IsSend (StoredService.the_row D C k d l)
+  stored_send c = declared_send (StoredService.the_type D C k d l) (service_send D C d l k c, (search (sendable, crosses) depth 10, tt))
 
   -- the services of the program
-  pub stored_face_send : IsSend C → IsSend (Face.the_row D (StoredService.the_row D C Md5Placement.the_row k (absorb_of.ghosts Md5Placement.the_row) d l md5.ghosts) d l)
+  pub stored_face_send : IsSend C → IsSend (Face.the_row D (StoredService.the_row D C k d l) d l)
   stored_face_send c = face_send D _ d l (stored_send c)

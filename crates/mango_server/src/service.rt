@@ -2,12 +2,11 @@
 ghost use Rattle.mg_engine.specs.View.{reply_view};
 ghost use Rattle.mango_server.specs.Stored.{IsPassedOn};
 
-use left_right::Absorb;
-use mg_engine::{Command, Reply};
+use mg_engine::{Command, Question, Reply};
+use mg_face::Store;
 use mg_http::{SeatService, Service};
-use mg_live::{Database, Keeper, Seen, Snapshot};
+use mg_live::{Database, Keeper, Seen};
 use mg_server::{Handover, Learner};
-use mg_shard::{Md5Placement, Placement};
 use std::alloc::Global;
 use std::sync::atomic::{AtomicBool, Ordering};
 use std::sync::{Arc, Wait};
@@ -19,11 +18,8 @@ const STORAGE: &str =
 
 /// A seat, and whether the file is lost.
 #[derive(Drop)]
-pub(crate) struct StoredService<D: Database, C: Keeper, P: Placement + Drop = Md5Placement>
-where
-    Snapshot<P>: Absorb<(), State = ()>,
-{
-    pub(crate) service: SeatService<D, C, P>,
+pub(crate) struct StoredService<D: Database, C: Keeper> {
+    pub(crate) service: SeatService<D, C>,
     pub(crate) lost: Arc<AtomicBool>,
 }
 
@@ -40,10 +36,7 @@ fn storage_reply(alloc: Global, reply: Reply) -> Reply
     }
 }
 
-impl<D: Database, C: Keeper, P: Placement + Drop> Service for StoredService<D, C, P>
-where
-    Snapshot<P>: Absorb<(), State = ()>,
-{
+impl<D: Database, C: Keeper> Service for StoredService<D, C> {
     ghost use Rattle.mango_server.specs.Stored.{StoredAnswer};
 
     ghost answers = { λ old command answer new.
@@ -60,10 +53,27 @@ where
     }
 }
 
-impl<D: Database, C: Keeper, P: Placement + Drop> Handover for StoredService<D, C, P>
-where
-    Snapshot<P>: Absorb<(), State = ()>,
-{
+impl<D: Database, C: Keeper> Store for StoredService<D, C> {
+    ghost use Rattle.mg_live.specs.SeatView.{SeatLooks};
+
+    // The seat gives the answer, from the commits that it has then seen.
+    ghost sees = { λ old question answer new. SeatLooks D.db old.service.seat question answer new.service.seat };
+
+    fn look<H: Wait + Threads + Sync>(
+        &mut self,
+        rt: &H,
+        _alloc: Global,
+        question: &Question,
+    ) -> Reply {
+        self.service.look(rt, question)
+    }
+
+    fn is_lost(&self) -> bool {
+        self.lost.load(Ordering::SeqCst)
+    }
+}
+
+impl<D: Database, C: Keeper> Handover for StoredService<D, C> {
     ghost use Rattle.mg_machine.specs.Laws.{IsPrefix};
     ghost use Rattle.mg_machine.proofs.Beginnings.{itself, in_turn};
 
@@ -75,10 +85,7 @@ where
     ghost onward = { λ a b c p q. in_turn a.service.seat.seen b.service.seat.seen c.service.seat.seen p q };
 }
 
-impl<D: Database, C: Keeper, P: Placement + Drop> Learner for StoredService<D, C, P>
-where
-    Snapshot<P>: Absorb<(), State = ()>,
-{
+impl<D: Database, C: Keeper> Learner for StoredService<D, C> {
     ghost use Rattle.std.specs.Prelude.{◌≡◌};
 
     // A client carries the commits that its last seat had seen.

@@ -12,7 +12,7 @@ use mg_face::Face;
 use mg_http::SeatService;
 use mg_live::{CommitLog, Database, Keeper, Live, Seat};
 use mg_server::{Edge, Learner};
-use mg_shard::{Md5Placement, Shard};
+use mg_shard::Md5Placement;
 use mg_value::NoMemory;
 use mg_wire::{Bounds, Connection, Service};
 use std::alloc::Global;
@@ -119,24 +119,6 @@ fn stored<D: Database, H: Wait + Threads + Sync + Copy + Drop + AllocGlobal + Ep
     }
 }
 
-/// Counts the documents of a shard, without the deleted ones. Cost: a step a document.
-fn count_documents(shard: &Shard) -> usize {
-    let mut count: usize = 0;
-    for _ in shard.docs() {
-        count = count.saturating_add(1);
-    }
-    count
-}
-
-/// Counts the documents of all shards, without the deleted ones.
-fn count_all(shards: &[Arc<Shard>]) -> usize {
-    let mut count: usize = 0;
-    for shard in shards {
-        count = count.saturating_add(count_documents(shard));
-    }
-    count
-}
-
 /// Says what a file has, unless there are too many references to the database. Returns the seat.
 fn announced<D: Database, C: Keeper, H: Eprint>(
     rt: &H,
@@ -145,7 +127,7 @@ fn announced<D: Database, C: Keeper, H: Eprint>(
     commits: u32,
 ) -> Seat<D, C> {
     if let Ok(snapshot) = seat.snapshot() {
-        let documents = count_all(snapshot.shards());
+        let documents = snapshot.count().unwrap_or(usize::MAX);
         let indexes = snapshot.catalog().list().len();
         let _ = eprintln!(rt;
             "mango_server: {file} has {commits} commits, {documents} documents and {indexes} indexes"

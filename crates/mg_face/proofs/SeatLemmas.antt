@@ -3,15 +3,16 @@ use Rattle.std.proofs.Common.{◌≡◌, ◌⊎◌, inl, inr, ℕ, List, Bool, t
 use Rattle.http1.specs.Fields.{Header}
 use Rattle.std.specs.Prelude.{MatchBool}
 use Rattle.mg_engine.specs.Commands as engine
-use Rattle.mg_engine.specs.Commands.{Asked, get, is_write, reply_of}
-use Rattle.mg_live.specs.SeatView.{SeatView, SeatReads, SeatWrites, Answered}
+use Rattle.mg_engine.specs.Commands.{Asked, get, is_write}
+use Rattle.mg_engine.specs.Questions.{Question}
+use Rattle.mg_live.specs.SeatView.{SeatView, SeatLooks, SeatReads, SeatWrites, Answered}
 use Rattle.mg_wire.specs.declared.response.Response.{Response}
 use Rattle.mg_face.specs.declared.plan.Way.{Way}
-use Rattle.mg_face.specs.Plan.{Plan, says, asks, finds}
+use Rattle.mg_face.specs.Plan.{Plan, says, asks, finds, looks}
 use Rattle.mg_face.specs.Answer.{IsAnswered, IsLack, passed}
 use Rattle.mg_face.specs.Shown.{shown}
 use Rattle.mg_face.specs.Face.{is_found, Shows, IsShown, GoesOn, Carries}
-use Rattle.mg_face.specs.Seats.{IsExecuted, IsLookedFor, IsCarriedOut}
+use Rattle.mg_face.specs.Seats.{IsExecuted, IsLookedAt, IsLookedFor, IsCarriedOut}
 
 module _ (db : List ℕ) (fields : List Header) where
   -- a read is answered at the world that the seat has then seen
@@ -61,7 +62,7 @@ module _ (db : List ℕ) (fields : List Header) where
   -- the document that was looked for is found, or not
   found : (id : List ℕ) (c : Asked) (way : Way) (old mid : SeatView) (a : engine.Answer) (r : Response) (new : SeatView) (b : Bool) → is_found a ≡ b
       → SeatReads db old (get id false) (Some a) mid
-      → MatchBool b (IsShown (Answered db) db fields c way mid r new) (IsAnswered (passed a) r × (new ≡ mid))
+      → MatchBool b (IsShown db fields (Answered db mid c) way r new) (IsAnswered (passed a) r × (new ≡ mid))
       → IsLookedFor db fields old id c way r new ⊎ IsLack r
   found id c way old mid a r new true is reads done = elim (shows mid c way done.answer r new done.answered done.shows) [
     | inl executed ↦ inl (looked id c way old mid a r new true is reads executed)
@@ -75,12 +76,21 @@ module _ (db : List ℕ) (fields : List Header) where
   goes_on id c way old mid None r new reads on = inr on.0
   goes_on id c way old mid (Some a) r new reads on = found id c way old mid a r new (is_found a) refl reads on
 
+  -- a question is answered at the world that the seat has then seen
+  pub sees : (old : SeatView) (q : Question) (way : Way) (o : Option engine.Answer) (r : Response) (new : SeatView)
+      → SeatLooks db old q o new → Shows db fields way o r → IsLookedAt db fields old q way r new ⊎ IsLack r
+  sees old q way None r new seen lack = inr lack
+  sees old q way (Some a) r new (later, is) (inl answered) = inl (record { later = later; answer = rw (← is) answered })
+  sees old q way (Some a) r new (later, is) (inr lack) = inr lack.1
+
   -- a plan is carried out at a world, or memory ran out
   pub carried : (old : SeatView) (plan : Plan) (r : Response) (new : SeatView)
-      → Carries (Answered db) db fields plan old r new → IsCarriedOut db fields old plan r new ⊎ IsLack r
+      → Carries (Answered db) (SeatLooks db) db fields plan old r new → IsCarriedOut db fields old plan r new ⊎ IsLack r
   carried old (says said) r new (inl answered, same) = inl (answered, same)
   carried old (says said) r new (inr lack, same) = inr lack
   carried old (asks c way) r new (inl shown) = shows old c way shown.answer r new shown.answered shown.shows
   carried old (asks c way) r new (inr lack) = inr lack.0
   carried old (finds id c way) r new (inl f) = goes_on id c way old f.mid f.answer r new f.read f.goes_on
   carried old (finds id c way) r new (inr lack) = inr lack.0
+  carried old (looks q way) r new (inl shown) = sees old q way shown.answer r new shown.answered shown.shows
+  carried old (looks q way) r new (inr lack) = inr lack.0

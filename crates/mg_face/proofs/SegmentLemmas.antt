@@ -3,7 +3,7 @@ use Rattle.std.proofs.Common.{◌≡◌, ℕ, ◌<◌, ◌≤◌, List, [], ◌�
 use Rattle.std.specs.Prelude.{codes}
 use Rattle.mg_face.specs.declared.route.Resource.{Resource}
 use Rattle.mg_face.specs.Routes.{resource_of, three_resource, index_resource, design_resource}
-use Rattle.mg_face.specs.Plan.{text_in, index_of, drop_design_plan}
+use Rattle.mg_face.specs.Plan.{text_in, index_of, drop_design_plan, design_of, read_design}
 
 pub three_segments : {A : Type 0} (f : A → List ℕ) (xs : List A) (d : A) (r : Resource) → r ≡ three_resource (f (get_or xs 1 d)) → 3 ≤ length xs → length xs < 4
     → r ≡ resource_of (map f xs)
@@ -51,3 +51,12 @@ pub design_index : {A : Type 0} (f : A → List ℕ) (xs : List A) (d e : A) (dd
 design_index f xs d e ddoc name is named least most =
     ap (λ o. index_of (codes "_design/") o name) is ∙ ap (index_of (codes "_design/") (text_in (f (get_or xs 3 d)))) named
     ∙ named_by f xs d e least most
+
+-- the design document that the third of three segments names
+pub design_named : {A : Type 0} (f : A → List ℕ) (xs : List A) (d : A) (name : Option (List ℕ)) → name ≡ text_in (f (get_or xs 2 d)) → 3 ≤ length xs → length xs < 4
+    → design_of name ≡ read_design (map f xs)
+design_named f [] d name is least most = absurd (omega arith)
+design_named f (x0 ∷ []) d name is least most = absurd (omega arith)
+design_named f (x0 ∷ x1 ∷ []) d name is least most = absurd (omega arith)
+design_named f (x0 ∷ x1 ∷ x2 ∷ []) d name is least most = ap design_of is
+design_named f (x0 ∷ x1 ∷ x2 ∷ x3 ∷ xs) d name is least most = absurd (omega arith)

@@ -46,10 +46,6 @@ json status body = record { status = status; fields = json_field ∷ []; body = 
 abbrev pub databases : List ℕ → List ℕ
 databases db = line_of (list (item (text db) no_items))
 
--- what the database is: its name
-abbrev pub database : List ℕ → List ℕ
-database db = line_of (object (member (codes "db_name") (text db) (member (codes "instance_start_time") (text (codes "0")) no_members)))
-
 -- so many ids, the first of which has this number
 abbrev pub ids_body : ℕ → ℕ → List ℕ
 ids_body first count = line_of (object (member (codes "uuids") (list (items_of (map text (id_list first count)))) no_members))
@@ -68,6 +64,15 @@ wrong_body Of.Limit = codes "{\"error\":\"bad_request\",\"reason\":\"limit: a wh
 wrong_body Of.Skip = codes "{\"error\":\"bad_request\",\"reason\":\"skip: a whole number from 0 to 2147483647\"}\n"
 wrong_body Of.Bookmark = codes "{\"error\":\"bad_request\",\"reason\":\"bookmark: a string\"}\n"
 wrong_body Of.Conflicts = codes "{\"error\":\"bad_request\",\"reason\":\"conflicts: true or false\"}\n"
+wrong_body Of.Options = codes "{\"error\":\"bad_request\",\"reason\":\"options: a JSON object\"}\n"
+wrong_body Of.Key = codes "{\"error\":\"bad_request\",\"reason\":\"key: a string\"}\n"
+wrong_body Of.Keys = codes "{\"error\":\"bad_request\",\"reason\":\"keys: an array of strings\"}\n"
+wrong_body Of.KeysAlone = codes "{\"error\":\"bad_request\",\"reason\":\"keys: with no other option than include_docs and inclusive_end\"}\n"
+wrong_body Of.StartKey = codes "{\"error\":\"bad_request\",\"reason\":\"startkey: a string\"}\n"
+wrong_body Of.EndKey = codes "{\"error\":\"bad_request\",\"reason\":\"endkey: a string\"}\n"
+wrong_body Of.InclusiveEnd = codes "{\"error\":\"bad_request\",\"reason\":\"inclusive_end: true or false\"}\n"
+wrong_body Of.Descending = codes "{\"error\":\"bad_request\",\"reason\":\"descending: true or false\"}\n"
+wrong_body Of.IncludeDocuments = codes "{\"error\":\"bad_request\",\"reason\":\"include_docs: true or false\"}\n"
 
 -- the refusal of a parameter, with its name
 abbrev pub unanswered_body : Parameter → List ℕ
@@ -97,7 +102,6 @@ answer_of_said db Said.Databases = json Is.Ok (databases db)
 answer_of_said db (Said.Ids first count) =
     record { status = Is.Ok; fields = json_field ∷ (codes "cache-control", codes "no-cache") ∷ []; body = ids_body first count }
 answer_of_said db (Said.BadCount fault) = json Is.BadRequest (count_body fault)
-answer_of_said db Said.Database = json Is.Ok (database db)
 answer_of_said db Said.DatabaseExists =
     json Is.PreconditionFailed (codes "{\"error\":\"file_exists\",\"reason\":\"The database could not be created, the file already exists.\"}\n")
 answer_of_said db Said.OneDatabase = json Is.Forbidden (codes "{\"error\":\"forbidden\",\"reason\":\"This server keeps one database.\"}\n")
@@ -112,6 +116,7 @@ answer_of_said db (Said.Clashes Clash.Ids) =
     json Is.BadRequest (codes "{\"error\":\"bad_request\",\"reason\":\"_id: the document has another one than the path.\"}\n")
 answer_of_said db (Said.Clashes Clash.Revisions) =
     json Is.BadRequest (codes "{\"error\":\"bad_request\",\"reason\":\"_rev: the document, rev and If-Match have different ones.\"}\n")
+answer_of_said db Said.BadRevision = json Is.BadRequest (codes "{\"error\":\"bad_request\",\"reason\":\"Invalid rev format\"}\n")
 answer_of_said db (Said.Wrong fault) = json Is.BadRequest (wrong_body fault)
 answer_of_said db Said.NotWhole =
     json Is.BadRequest (codes "{\"error\":\"bad_request\",\"reason\":\"numbers are whole here: a number has a point, an exponent or more than 64 bits.\"}\n")
@@ -174,6 +179,6 @@ pub record IsAnswered (a : Answer) (r : Response) : Type 0 where
 pub record IsBegun (r : Response) : Type 0 where
   pub fields : listed r.fields ≡ json_field ∷ []
 
--- memory ran out: a 503
+-- memory ran out, or the store is lost: a 503
 abbrev pub IsLack : Response → Type 0
 IsLack r = r.status ≡ Is.ServiceUnavailable

@@ -5,6 +5,7 @@ pub mod Edit
 pub mod Ids
 pub mod Count
 pub mod Fault
+pub mod Listing
 pub mod Tag
 pub mod Plan
 pub mod Answer

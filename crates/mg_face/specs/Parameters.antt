@@ -1,11 +1,25 @@
--- The parameters of a query (the URL Standard, section 5) that change a meaning in CouchDB and that this server does not answer.
-use Rattle.std.specs.Prelude.{ℕ, Bool, true, false, List, [], ◌∷◌, bytes_eq, codes, Option, Some, None, if◌then◌else◌}
+-- The parameters of a query (the URL Standard, section 5) that change a meaning in CouchDB: those that ask for more of a document, and those that
+-- this server does not answer.
+use Rattle.std.specs.Prelude.{ℕ, Bool, true, false, ◌&&◌, List, [], ◌∷◌, bytes_eq, codes, Option, Some, None, if◌then◌else◌}
+use Rattle.std.specs.List.{list_any}
 use Rattle.std.specs.Str.Lossy.{utf8_lossy}
 use Rattle.form_urlencoded.specs.Form.{decode, raw_pairs}
 use Rattle.mg_face.specs.declared.action.Action.{Action}
 use Rattle.mg_face.specs.declared.action.Action.TheVariants as Does
 use Rattle.mg_face.specs.declared.parameter.Parameter.{Parameter}
 use Rattle.mg_face.specs.declared.parameter.Parameter.TheVariants as Is
+
+-- ---- those that ask for more
+
+-- a name and a value decode to this name and `true`
+abbrev pub sets : List ℕ → List ℕ × List ℕ → Bool
+sets name pair = bytes_eq (utf8_lossy (decode pair.0)) name && bytes_eq (utf8_lossy (decode pair.1)) (codes "true")
+
+-- some parameter of the query has this name and the value `true`; with any other value it asks for nothing, as in CouchDB
+abbrev pub asks_flag : List ℕ → List ℕ → Bool
+asks_flag name query = list_any (sets name) (raw_pairs query)
+
+-- ---- those that are not answered
 
 -- the table of their names
 abbrev pub name_of : Parameter → List ℕ
@@ -22,6 +36,7 @@ name_of Is.OpenRevisions = codes "open_revs"
 name_of Is.Revision = codes "rev"
 name_of Is.Revisions = codes "revs"
 name_of Is.RevisionsInfo = codes "revs_info"
+name_of Is.UpdateSequence = codes "update_seq"
 
 -- the parameter, if a name is its name
 abbrev pub if_named : List ℕ → Parameter → Option Parameter → Option Parameter
@@ -42,16 +57,28 @@ parameter_of name =
     (if_named name Is.OpenRevisions
     (if_named name Is.Revision
     (if_named name Is.Revisions
-    (if_named name Is.RevisionsInfo None))))))))))))
+    (if_named name Is.RevisionsInfo
+    (if_named name Is.UpdateSequence None)))))))))))))
 
 abbrev pub is_revision : Parameter → Bool
 is_revision Is.Revision = true
 is_revision parameter = false
 
--- an action takes a parameter: a write of a document takes the revision that it is to replace
+-- which revision is shown, or what is shown beside it
+abbrev pub is_of_read : Parameter → Bool
+is_of_read Is.Revision = true
+is_of_read Is.Latest = true
+is_of_read Is.Revisions = true
+is_of_read Is.RevisionsInfo = true
+is_of_read Is.DeletedConflicts = true
+is_of_read Is.Meta = true
+is_of_read parameter = false
+
+-- an action takes a parameter: a write of a document the revision that it is to replace, a read what is shown
 abbrev pub takes : Action → Parameter → Bool
 takes Does.PutDocument parameter = is_revision parameter
 takes Does.DeleteDocument parameter = is_revision parameter
+takes Does.ReadDocument parameter = is_of_read parameter
 takes action parameter = false
 
 -- the parameter, unless the action takes it

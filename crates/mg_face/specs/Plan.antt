@@ -3,11 +3,15 @@ use Rattle.std.specs.Prelude.{ℕ, Bool, ◌||◌, List, [], ◌∷◌, ◌++◌
 use Rattle.std.specs.Str.{is_utf8}
 use Rattle.std.specs.String.{string_bytes}
 use Rattle.percent_encoding.specs.Percent.{percent_decode}
-use Rattle.mg_value.specs.Value.{Value, member_of}
+use Rattle.mg_revtree.specs.Revision.{Revision, revision_of}
+use Rattle.mg_value.specs.Value.{Value, object, no_members, member_of}
 use Rattle.mg_engine.specs.Commands.{Asked, bulk, create_index, drop_index, list_indexes, find, explain, get, reshard}
+use Rattle.mg_engine.specs.Questions.{Question, database, leaf, winner, design}
+use Rattle.mg_engine.specs.QuestionView.{question_view}
 use Rattle.mg_engine.specs.View.{command_view}
+use Rattle.mg_engine.specs.declared.question.More.{More}
 use Rattle.mg_engine.specs.declared.refusal.Refusal.TheVariants.{Missing, NoDatabase, InvalidJson}
-use Rattle.mg_http.specs.Target.{path_in, query_in, asks_conflicts}
+use Rattle.mg_http.specs.Target.{path_in, query_in}
 use Rattle.http1.specs.Fields.{Header}
 use Rattle.mg_wire.specs.declared.request.Request.{Request}
 use Rattle.mg_wire.specs.Request.{fields_in}
@@ -20,7 +24,7 @@ use Rattle.mg_face.specs.declared.action.Action.{Action}
 use Rattle.mg_face.specs.declared.action.Action.TheVariants as Does
 use Rattle.mg_face.specs.declared.parameter.Parameter.{Parameter}
 use Rattle.mg_face.specs.declared.plan.Plan as code
-use Rattle.mg_face.specs.declared.plan.Plan.TheVariants.{Says, Asks, Finds}
+use Rattle.mg_face.specs.declared.plan.Plan.TheVariants.{Says, Asks, Finds, Looks}
 use Rattle.mg_face.specs.declared.plan.Way.{Way}
 use Rattle.mg_face.specs.declared.plan.Way.TheVariants as Shown
 use Rattle.mg_face.specs.declared.route.Resource.{Resource}
@@ -28,25 +32,29 @@ use Rattle.mg_face.specs.declared.route.Resource.TheVariants.{Database}
 use Rattle.mg_face.specs.declared.said.Clash.TheVariants as Clash
 use Rattle.mg_face.specs.declared.said.Said.{Said}
 use Rattle.mg_face.specs.Count.{count_given}
-use Rattle.mg_face.specs.Fault.{query_fault, bulk_fault}
+use Rattle.mg_face.specs.Fault.{is_object, query_fault, bulk_fault}
+use Rattle.mg_face.specs.declared.fault.Fault.TheVariants as Of
 use Rattle.mg_face.specs.Ids.{with_id, bulk_with_ids}
 use Rattle.mg_face.specs.Json.{json_of, is_json}
+use Rattle.mg_face.specs.Listing.{listing_asked, listing_fault, with_options}
 use Rattle.mg_face.specs.Edit.{with_given, with_revisions, value_in_query, revision_in_query, revision_in_fields, bulk_with, deletion}
 use Rattle.mg_face.specs.Routes.{segments_of, resource_of, is_nowhere, is_of_server, names, verb_of, action_of}
-use Rattle.mg_face.specs.Parameters.{unanswered_in}
+use Rattle.mg_face.specs.Parameters.{asks_flag, unanswered_in}
 
 -- What is said at once; or the command that is executed, and how its answer is shown; or such a command that is executed only if a document
--- with this id is found, else the answer to its `get` is shown.
+-- with this id is found, else the answer to its `get` is shown; or the question that is asked, and how its answer is shown.
 pub data Plan : Type 0 where
   says : Said → Plan
   asks : Asked → Way → Plan
   finds : List ℕ → Asked → Way → Plan
+  looks : Question → Way → Plan
 
 -- what a plan of the code stands for
 abbrev pub plan_view : code.Plan → Plan
 plan_view (Says said) = says said
 plan_view (Asks command way) = asks (command_view command) way
 plan_view (Finds id command way) = finds (string_bytes id) (command_view command) way
+plan_view (Looks question way) = looks (question_view question) way
 
 -- why no value was read from a body: it is a JSON text, but not one whose numbers are whole, or none at all
 abbrev pub unread : List ℕ → Plan
@@ -93,15 +101,44 @@ text_of bytes = if is_utf8 bytes then Some bytes else None
 abbrev pub text_in : List ℕ → Option (List ℕ)
 text_in segment = text_of (percent_decode segment)
 
--- the document of this id
-abbrev pub document_of : Option (List ℕ) → Bool → Plan
-document_of (Some id) conflicts = asks (get id conflicts) Shown.Document
-document_of None conflicts = says (Said.Refuses Missing)
+-- a document that is shown with more than its revision and its body has no tag: what is added may change while the revision stays
+abbrev pub way_of : Bool → Way
+way_of more = if more then Shown.Plain else Shown.Document
+
+-- the leaf of this id at a revision, or the latest one, with the path of its revision if it is asked for
+abbrev pub leaf_of : List ℕ → Bool → Bool → Option Revision → Plan
+leaf_of id latest path (Some r) = looks (leaf id r latest path) (way_of path)
+leaf_of id latest path None = says Said.BadRevision
+
+-- what a query asks for beside the document: `meta` is `revs_info`, `conflicts` and `deleted_conflicts`
+abbrev pub more_of : List ℕ → More
+more_of query = record {
+  revisions = asks_flag (codes "revs") query;
+  revisions_info = asks_flag (codes "meta") query || asks_flag (codes "revs_info") query;
+  conflicts = asks_flag (codes "meta") query || asks_flag (codes "conflicts") query;
+  deleted_conflicts = asks_flag (codes "meta") query || asks_flag (codes "deleted_conflicts") query;
+}
+
+-- the served document of this id, with what is asked for beside it
+abbrev pub served_of : List ℕ → More → Plan
+served_of id more =
+    if more.revisions || (more.revisions_info || more.deleted_conflicts) then looks (winner id more) Shown.Plain
+    else asks (get id more.conflicts) (way_of more.conflicts)
+
+-- the document of this id at the revision that a text names, if there is one; there only the path is shown beside it
+abbrev pub document_at : List ℕ → Bool → More → Option (List ℕ) → Plan
+document_at id latest more (Some rev) = leaf_of id latest more.revisions (revision_of rev)
+document_at id latest more None = served_of id more
+
+-- the document of this id, as the parameters of a query ask for it
+abbrev pub document_of : Option (List ℕ) → List ℕ → Plan
+document_of (Some id) query = document_at id (asks_flag (codes "latest") query) (more_of query) (revision_in_query query)
+document_of None query = says (Said.Refuses Missing)
 
 -- the document whose id the second segment is
-abbrev pub read_document : List (List ℕ) → Bool → Plan
-read_document (db ∷ id ∷ []) conflicts = document_of (text_in id) conflicts
-read_document segments conflicts = says (Said.Refuses Missing)
+abbrev pub read_document : List (List ℕ) → List ℕ → Plan
+read_document (db ∷ id ∷ []) query = document_of (text_in id) query
+read_document segments query = says (Said.Refuses Missing)
 
 -- the index of this design document, after the prefix, and of this name
 abbrev pub index_of : List ℕ → Option (List ℕ) → Option (List ℕ) → Plan
@@ -115,8 +152,18 @@ drop_plan segments = says (Said.Refuses Missing)
 
 -- the index of `/{db}/_index/_design/{ddoc}/json/{name}`
 abbrev pub drop_design_plan : List (List ℕ) → Plan
-drop_design_plan (db ∷ indexes ∷ design ∷ ddoc ∷ json ∷ name ∷ []) = index_of (codes "_design/") (text_in ddoc) (text_in name)
+drop_design_plan (db ∷ indexes ∷ word ∷ ddoc ∷ json ∷ name ∷ []) = index_of (codes "_design/") (text_in ddoc) (text_in name)
 drop_design_plan segments = says (Said.Refuses Missing)
+
+-- the design document of this name, after `_design/`
+abbrev pub design_of : Option (List ℕ) → Plan
+design_of (Some name) = looks (design (codes "_design/" ++ name)) Shown.Plain
+design_of None = says (Said.Refuses Missing)
+
+-- the design document whose name the third segment is
+abbrev pub read_design : List (List ℕ) → Plan
+read_design (db ∷ word ∷ name ∷ []) = design_of (text_in name)
+read_design segments = says (Said.Refuses Missing)
 
 -- ---- one edit
 
@@ -163,6 +210,26 @@ abbrev pub delete_document : List (List ℕ) → List ℕ → List Header → Pl
 delete_document (db ∷ id ∷ []) query fields = delete_at (text_in id) query fields
 delete_document segments query fields = says (Said.Refuses Missing)
 
+-- ---- `_all_docs`
+
+-- the question, unless an option has the wrong shape
+abbrev pub unless_wrong : Option Fault → Question → Plan
+unless_wrong None question = looks question Shown.Plain
+unless_wrong (Some fault) question = says (Said.Wrong fault)
+
+-- the rows that options ask for, unless one has the wrong shape
+abbrev pub listed : Value → Plan
+listed v = unless_wrong (listing_fault v) (listing_asked v)
+
+-- the options of a value, an object, with those of a query
+abbrev pub listed_with : List ℕ → Value → Plan
+listed_with query v = if is_object (Some v) then listed (with_options query v) else says (Said.Wrong Of.Options)
+
+-- the options of a body with those of a query; `None`: no value was read from the body
+abbrev pub listed_by : List ℕ → List ℕ → Option Value → Plan
+listed_by query body None = unread body
+listed_by query body (Some v) = listed_with query v
+
 -- ---- all actions
 
 -- what an action asks for, with the number that was drawn, these segments, this query, these fields and this body
@@ -171,19 +238,22 @@ asked_for drawn Does.Welcome segments query fields body = says Said.Welcome
 asked_for drawn Does.Up segments query fields body = says Said.Up
 asked_for drawn Does.ListDatabases segments query fields body = says Said.Databases
 asked_for drawn Does.MakeIds segments query fields body = ids_of drawn (count_given (value_in_query (codes "count") query))
-asked_for drawn Does.ReadDatabase segments query fields body = says Said.Database
+asked_for drawn Does.ReadDatabase segments query fields body = looks database Shown.Plain
 asked_for drawn Does.CreateDatabase segments query fields body = says Said.DatabaseExists
 asked_for drawn Does.DeleteDatabase segments query fields body = says Said.OneDatabase
+asked_for drawn Does.ListDocuments segments query fields body = listed (with_options query (object no_members))
+asked_for drawn Does.ListDocumentsBy segments query fields body = listed_by query body (json_of body)
 asked_for drawn Does.Commit segments query fields body = says Said.Committed
 asked_for drawn Does.WriteBulk segments query fields body = bulk_docs drawn body (json_of body)
 asked_for drawn (Does.Takes endpoint) segments query fields body = taken endpoint body (json_of body)
 asked_for drawn Does.ListIndexes segments query fields body = asks list_indexes Shown.Plain
 asked_for drawn Does.DropIndex segments query fields body = drop_plan segments
 asked_for drawn Does.DropDesignIndex segments query fields body = drop_design_plan segments
-asked_for drawn Does.ReadDocument segments query fields body = read_document segments (asks_conflicts query)
+asked_for drawn Does.ReadDocument segments query fields body = read_document segments query
 asked_for drawn Does.PostDocument segments query fields body = post_document drawn body (json_of body) query fields
 asked_for drawn Does.PutDocument segments query fields body = put_document segments body (json_of body) query fields
 asked_for drawn Does.DeleteDocument segments query fields body = delete_document segments query fields
+asked_for drawn Does.ReadDesign segments query fields body = read_design segments
 asked_for drawn Does.PutDesign segments query fields body = says Said.NoDesign
 
 -- a request of another database: this server makes none

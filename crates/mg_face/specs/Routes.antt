@@ -3,7 +3,7 @@ use Rattle.std.specs.Prelude.{ℕ, Bool, true, false, ◌&&◌, ◌||◌, ◌==�
 use Rattle.std.specs.List.{slice_split}
 use Rattle.percent_encoding.specs.Percent.{percent_decode}
 use Rattle.mg_face.specs.declared.route.Resource.{Resource}
-use Rattle.mg_face.specs.declared.route.Resource.TheVariants.{Root, Up, AllDatabases, Ids, Database, FullCommit, BulkDocs, Find, Explain, Indexes, Index, DesignIndex, Placement, Design, Document, Nowhere}
+use Rattle.mg_face.specs.declared.route.Resource.TheVariants.{Root, Up, AllDatabases, Ids, Database, AllDocuments, FullCommit, BulkDocs, Find, Explain, Indexes, Index, DesignIndex, Placement, Design, Document, Nowhere}
 use Rattle.mg_face.specs.declared.action.Verb.{Verb}
 use Rattle.mg_face.specs.declared.action.Endpoint.TheVariants as Takes
 use Rattle.mg_face.specs.declared.action.Action.{Action}
@@ -30,17 +30,18 @@ server_resource segment =
     else (if bytes_eq segment (codes "_uuids") then Ids
     else (if is_reserved segment then Nowhere else Database))))
 
--- `/{db}/`, which is `/{db}`, `/{db}/_bulk_docs` and the others, `/{db}/{id}`
+-- `/{db}/`, which is `/{db}`, `/{db}/_all_docs` and the others, `/{db}/{id}`
 abbrev pub database_resource : List ℕ → Resource
 database_resource segment =
     if length segment == 0 then Database
+    else (if bytes_eq segment (codes "_all_docs") then AllDocuments
     else (if bytes_eq segment (codes "_bulk_docs") then BulkDocs
     else (if bytes_eq segment (codes "_find") then Find
     else (if bytes_eq segment (codes "_explain") then Explain
     else (if bytes_eq segment (codes "_index") then Indexes
     else (if bytes_eq segment (codes "_ensure_full_commit") then FullCommit
     else (if bytes_eq segment (codes "_placement") then Placement
-    else (if is_reserved segment then Nowhere else Document)))))))
+    else (if is_reserved segment then Nowhere else Document))))))))
 
 -- `/{db}/_design/{name}`
 abbrev pub three_resource : List ℕ → Resource
@@ -101,12 +102,15 @@ read_action AllDatabases = Some Does.ListDatabases
 read_action Ids = Some Does.MakeIds
 read_action Indexes = Some Does.ListIndexes
 read_action Database = Some Does.ReadDatabase
+read_action AllDocuments = Some Does.ListDocuments
 read_action Document = Some Does.ReadDocument
+read_action Design = Some Does.ReadDesign
 read_action resource = None
 
 -- the table of what `POST` asks
 abbrev pub post_action : Resource → Option Action
 post_action Database = Some Does.PostDocument
+post_action AllDocuments = Some Does.ListDocumentsBy
 post_action FullCommit = Some Does.Commit
 post_action BulkDocs = Some Does.WriteBulk
 post_action Find = Some (Does.Takes Takes.Find)

@@ -1,7 +1,8 @@
 -- What a face over a seat answers: the answer of the definition, at the world after a list of commits that begins with what the seat had seen.
-use Rattle.std.specs.Prelude.{◌≡◌, ℕ, ◌<◌, ◌^◌, List, false, MatchBool, if◌then◌else◌}
+use Rattle.std.specs.Prelude.{◌≡◌, ℕ, ◌<◌, ◌^◌, List, false, length, MatchBool, if◌then◌else◌}
 use Rattle.http1.specs.Fields.{Header}
 use Rattle.mg_engine.specs.Commands.{Asked, get, is_write, reply_of}
+use Rattle.mg_engine.specs.Questions.{Question, answer_to}
 use Rattle.mg_live.specs.SeatView.{SeatView, IsLater}
 use Rattle.mg_machine.specs.Laws.{IsPrefix}
 use Rattle.mg_machine.specs.Machine.{Commit, world_of, after_write, are_full}
@@ -11,7 +12,7 @@ use Rattle.mg_wire.specs.Request.{fields_in}
 use Rattle.mg_face.specs.declared.plan.Way.{Way}
 use Rattle.mg_face.specs.Answer.{IsAnswered, answer_of_said, passed}
 use Rattle.mg_face.specs.Face.{is_found}
-use Rattle.mg_face.specs.Plan.{Plan, says, asks, finds, plan_of}
+use Rattle.mg_face.specs.Plan.{Plan, says, asks, finds, looks, plan_of}
 use Rattle.mg_face.specs.Shown.{shown}
 
 -- the commits after a command that the seat of this number executed after these commits
@@ -36,11 +37,18 @@ pub record IsLookedFor
       (IsExecuted db fields mid command way response new)
       (IsAnswered (passed (reply_of (world_of db mid.seen) (get id false))) response × (new ≡ mid))
 
--- a plan is carried out: what is said at once is said, and the seat is as it was; a command is executed
+-- The response shows the answer to the question at the world that the commits leave which the seat has then seen: those that it had seen, or
+-- more.
+pub record IsLookedAt (db : List ℕ) (fields : List Header) (old : SeatView) (question : Question) (way : Way) (response : Response) (new : SeatView) : Type 0 where
+  pub later : IsLater old new
+  pub answer : IsAnswered (shown db fields way (answer_to (world_of db new.seen) (length new.seen) question)) response
+
+-- a plan is carried out: what is said at once is said, and the seat is as it was; a command is executed; a question is looked at
 abbrev pub IsCarriedOut : List ℕ → List Header → SeatView → Plan → Response → SeatView → Type 0
 IsCarriedOut db fields old (says said) response new = IsAnswered (answer_of_said db said) response × (new ≡ old)
 IsCarriedOut db fields old (asks command way) response new = IsExecuted db fields old command way response new
 IsCarriedOut db fields old (finds id command way) response new = IsLookedFor db fields old id command way response new
+IsCarriedOut db fields old (looks question way) response new = IsLookedAt db fields old question way response new
 
 -- the response is the answer to the request at such a world, for a number that was drawn for it
 pub record IsAnsweredAfter (db : List ℕ) (old : SeatView) (request : Request) (response : Response) (new : SeatView) : Type 0 where

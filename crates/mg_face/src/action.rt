@@ -45,6 +45,10 @@ pub enum Action {
     CreateDatabase,
     /// To delete the database.
     DeleteDatabase,
+    /// The rows of documents, by the options of the query.
+    ListDocuments,
+    /// The rows of documents, by the options of the body too.
+    ListDocumentsBy,
     /// That each commit is kept.
     Commit,
     /// To write the documents of a bulk.
@@ -62,6 +66,8 @@ pub enum Action {
     PutDocument,
     /// To delete the document of an id.
     DeleteDocument,
+    /// A design document.
+    ReadDesign,
     /// To write a design document.
     PutDesign,
 }
@@ -93,7 +99,9 @@ fn read_action(resource: Resource) -> Option<Action>
         Resource::Ids => Some(Action::MakeIds),
         Resource::Indexes => Some(Action::ListIndexes),
         Resource::Database => Some(Action::ReadDatabase),
+        Resource::AllDocuments => Some(Action::ListDocuments),
         Resource::Document => Some(Action::ReadDocument),
+        Resource::Design => Some(Action::ReadDesign),
         _ => None,
     }
 }
@@ -103,6 +111,7 @@ fn post_action(resource: Resource) -> Option<Action>
 {
     match resource {
         Resource::Database => Some(Action::PostDocument),
+        Resource::AllDocuments => Some(Action::ListDocumentsBy),
         Resource::FullCommit => Some(Action::Commit),
         Resource::BulkDocs => Some(Action::WriteBulk),
         Resource::Find => Some(Action::Takes(Endpoint::Find)),
@@ -159,6 +168,7 @@ pub(crate) fn allowed(resource: Resource) -> &'static [u8]
         Resource::AllDatabases => b"GET, HEAD",
         Resource::Ids => b"GET, HEAD",
         Resource::Database => b"DELETE, GET, HEAD, POST, PUT",
+        Resource::AllDocuments => b"GET, HEAD, POST",
         Resource::FullCommit => b"POST",
         Resource::BulkDocs => b"POST",
         Resource::Find => b"POST",
@@ -167,7 +177,7 @@ pub(crate) fn allowed(resource: Resource) -> &'static [u8]
         Resource::Index => b"DELETE",
         Resource::DesignIndex => b"DELETE",
         Resource::Placement => b"POST",
-        Resource::Design => b"PUT",
+        Resource::Design => b"GET, HEAD, PUT",
         Resource::Document => b"DELETE, GET, HEAD, PUT",
         Resource::Nowhere => b"",
     }

@@ -3,7 +3,7 @@ ghost use Rattle.std.specs.Prelude.{Ok, Err, MatchResult, ◌≡◌, ◌++◌, �
 ghost use Rattle.std.specs.Option.{option_map};
 ghost use Rattle.std.specs.String.{string_bytes};
 ghost use Rattle.mg_wire.specs.Response.{listed, IsBlank};
-ghost use Rattle.mg_face.specs.Answer.{Answer, json, databases, database, ids_body, count_body, wrong_body, unanswered_body, status_of, answer_of_said, quoted, tag_of, passed, IsAnswered, IsBegun, IsLack};
+ghost use Rattle.mg_face.specs.Answer.{Answer, json, databases, ids_body, count_body, wrong_body, unanswered_body, status_of, answer_of_said, quoted, tag_of, passed, IsAnswered, IsBegun, IsLack};
 
 use crate::action::allowed;
 use crate::count::CountFault;
@@ -26,7 +26,12 @@ const DATABASE_EXISTS: &str =
 const ONE_DATABASE: &str =
     "{\"error\":\"forbidden\",\"reason\":\"This server keeps one database.\"}\n";
 
+const LOST: &str =
+    "{\"error\":\"storage\",\"reason\":\"The last writes may or may not be stored.\"}\n";
+
 const COMMITTED: &str = "{\"instance_start_time\":\"0\",\"ok\":true}\n";
+
+const BAD_REVISION: &str = "{\"error\":\"bad_request\",\"reason\":\"Invalid rev format\"}\n";
 
 const NOT_WHOLE: &str =
     "{\"error\":\"bad_request\",\"reason\":\"numbers are whole here: a number has a point, an exponent or more than 64 bits.\"}\n";
@@ -120,24 +125,6 @@ fn databases(alloc: Global, db: &str) -> Result<Vec<u8>, NoMemory>
     Ok(body)
 }
 
-/// Says what the database is.
-///
-/// Errors: out of memory.
-fn database(alloc: Global, db: &str) -> Result<Vec<u8>, NoMemory>
-    ensures { IfOk result (λ v. v.items ≡ database db.now) }
-{
-    let mut value = Json::empty_object(alloc);
-    value.insert(alloc, "db_name", Json::Text(String::from_str(alloc, db)?))?;
-    value.insert(
-        alloc,
-        "instance_start_time",
-        Json::Text(String::from_str(alloc, "0")?),
-    )?;
-    let mut body = write(alloc, &value)?;
-    body.push(b'\n')?;
-    Ok(body)
-}
-
 /// Lists so many ids, the first of which has this number.
 ///
 /// Errors: out of memory.
@@ -182,6 +169,19 @@ fn wrong_body(fault: Fault) -> &'static str
         }
         Fault::Bookmark => "{\"error\":\"bad_request\",\"reason\":\"bookmark: a string\"}\n",
         Fault::Conflicts => "{\"error\":\"bad_request\",\"reason\":\"conflicts: true or false\"}\n",
+        Fault::Options => "{\"error\":\"bad_request\",\"reason\":\"options: a JSON object\"}\n",
+        Fault::Key => "{\"error\":\"bad_request\",\"reason\":\"key: a string\"}\n",
+        Fault::Keys => "{\"error\":\"bad_request\",\"reason\":\"keys: an array of strings\"}\n",
+        Fault::KeysAlone =>
+            "{\"error\":\"bad_request\",\"reason\":\"keys: with no other option than include_docs and inclusive_end\"}\n",
+        Fault::StartKey => "{\"error\":\"bad_request\",\"reason\":\"startkey: a string\"}\n",
+        Fault::EndKey => "{\"error\":\"bad_request\",\"reason\":\"endkey: a string\"}\n",
+        Fault::InclusiveEnd =>
+            "{\"error\":\"bad_request\",\"reason\":\"inclusive_end: true or false\"}\n",
+        Fault::Descending =>
+            "{\"error\":\"bad_request\",\"reason\":\"descending: true or false\"}\n",
+        Fault::IncludeDocuments =>
+            "{\"error\":\"bad_request\",\"reason\":\"include_docs: true or false\"}\n",
     }
 }
 
@@ -294,7 +294,6 @@ pub(crate) fn say(
         Said::Databases => fill_made(response, Status::Ok, databases(alloc, db)),
         Said::Ids(first, count) => say_ids(alloc, response, first, count),
         Said::BadCount(fault) => fill_text(alloc, response, Status::BadRequest, count_body(fault)),
-        Said::Database => fill_made(response, Status::Ok, database(alloc, db)),
         Said::DatabaseExists => fill_text(
             alloc,
             response,
@@ -310,6 +309,7 @@ pub(crate) fn say(
             unanswered_body(alloc, parameter),
         ),
         Said::Clashes(clash) => say_clash(alloc, response, clash),
+        Said::BadRevision => fill_text(alloc, response, Status::BadRequest, BAD_REVISION),
         Said::Wrong(fault) => fill_text(alloc, response, Status::BadRequest, wrong_body(fault)),
         Said::NotWhole => fill_text(alloc, response, Status::BadRequest, NOT_WHOLE),
         Said::Attached => fill_text(alloc, response, Status::BadRequest, ATTACHED),
@@ -320,15 +320,29 @@ pub(crate) fn say(
     }
 }
 
-/// Says that memory ran out, as far as there is memory for it, whatever the response held.
-pub(crate) fn lack(alloc: Global, response: &mut Response)
+/// Says why the server cannot answer, as far as there is memory for it, whatever the response held.
+fn fail(alloc: Global, response: &mut Response, text: &str)
     ensures { IsLack response.new }
 {
     response.status = Status::ServiceUnavailable;
-    match Vec::from_slice(alloc, Refusal::OutOfMemory.body().as_bytes()) {
+    match Vec::from_slice(alloc, text.as_bytes()) {
         Ok(body) => response.body = body,
         Err(_) => response.body = Vec::new(alloc),
     }
+}
+
+/// Says that memory ran out.
+pub(crate) fn lack(alloc: Global, response: &mut Response)
+    ensures { IsLack response.new }
+{
+    fail(alloc, response, Refusal::OutOfMemory.body());
+}
+
+/// Says that the store is lost.
+pub(crate) fn say_lost(alloc: Global, response: &mut Response)
+    ensures { IsLack response.new }
+{
+    fail(alloc, response, LOST);
 }
 
 /// Writes a text in double quotes.

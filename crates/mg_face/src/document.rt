@@ -6,27 +6,125 @@ ghost use Rattle.mg_value.specs.View.{view};
 ghost use Rattle.mg_wire.specs.Request.{field_parts};
 ghost use Rattle.mg_face.specs.Json.{json_of};
 ghost use Rattle.mg_face.specs.Edit.{with_given, with_revisions, revision_in_query, revision_in_fields};
-ghost use Rattle.mg_face.specs.Plan.{plan_view, document_of, read_document, edit_of, edit_at, post_document, put_at, put_document, if_found, delete_at, delete_document};
+ghost use Rattle.mg_revtree.specs.Revision.{revision_of};
+ghost use Rattle.mg_face.specs.Plan.{plan_view, way_of, leaf_of, more_of, served_of, document_at, document_of, read_document, edit_of, edit_at, post_document, put_at, put_document, if_found, delete_at, delete_document};
 
-use crate::edit::{bulk_with, deletion, with_given, with_revisions};
+use crate::edit::{bulk_with, deletion, value_in_query, with_given, with_revisions};
 use crate::endpoint::unread;
 use crate::ids::with_id;
+use crate::parameter::asks_flag;
 use crate::plan::{Plan, Way};
 use crate::read::read_tree;
 use crate::said::{Clash, Said};
 use crate::text::text_in;
-use mg_engine::{Command, Refusal};
+use mg_engine::{Command, More, Question, Refusal};
+use mg_revtree::{Rev, RevError};
 use mg_value::{Json, NoMemory};
 use mg_wire::Field;
 use std::alloc::Global;
 
-fn document_of(id: Option<String>, conflicts: bool) -> Plan
-    ensures { plan_view result ≡ document_of (option_map string_bytes id) conflicts }
+/// Reads a revision; `None`: the text is none.
+///
+/// Errors: out of memory.
+fn read_revision(alloc: Global, text: &str) -> Result<Option<Rev>, NoMemory>
+    ensures { IfOk result (λ o. o ≡ revision_of text.now) }
 {
-    match id {
-        Some(id) => Plan::Asks(Command::Get { id, conflicts }, Way::Document),
-        None => Plan::Says(Said::Refuses(Refusal::Missing)),
+    match Rev::parse(alloc, text) {
+        Ok(rev) => Ok(Some(rev)),
+        Err(RevError::Bad) => Ok(None),
+        Err(RevError::NoMemory) => Err(NoMemory),
     }
+}
+
+/// Returns how a document is shown: with a tag, unless more is shown than its revision and its body.
+fn way_of(more: bool) -> Way
+    ensures { result ≡ way_of more }
+{
+    if more { Way::Plain } else { Way::Document }
+}
+
+fn leaf_of(id: String, latest: bool, path: bool, rev: Option<Rev>) -> Plan
+    ensures { plan_view result ≡ leaf_of (string_bytes id) latest path rev }
+{
+    match rev {
+        Some(rev) => {
+            let question = Question::Leaf {
+                id,
+                rev,
+                latest,
+                path,
+            };
+            Plan::Looks(question, way_of(path))
+        }
+        None => Plan::Says(Said::BadRevision),
+    }
+}
+
+/// Returns what a query asks for beside the document.
+///
+/// Errors: out of memory.
+fn more_of(alloc: Global, query: &[u8]) -> Result<More, NoMemory>
+    ensures { IfOk result (λ more. more ≡ more_of query.now) }
+{
+    let meta = asks_flag(alloc, query, "meta")?;
+    let revisions = asks_flag(alloc, query, "revs")?;
+    let revisions_info = asks_flag(alloc, query, "revs_info")?;
+    let conflicts = asks_flag(alloc, query, "conflicts")?;
+    let deleted_conflicts = asks_flag(alloc, query, "deleted_conflicts")?;
+    Ok(More {
+        revisions,
+        revisions_info: meta || revisions_info,
+        conflicts: meta || conflicts,
+        deleted_conflicts: meta || deleted_conflicts,
+    })
+}
+
+fn served_of(id: String, more: More) -> Plan
+    ensures { plan_view result ≡ served_of (string_bytes id) more }
+{
+    if more.revisions || more.revisions_info || more.deleted_conflicts {
+        Plan::Looks(Question::Winner { id, more }, Way::Plain)
+    } else {
+        let conflicts = more.conflicts;
+        Plan::Asks(Command::Get { id, conflicts }, way_of(conflicts))
+    }
+}
+
+/// Returns what is asked of the document of an id, at the revision of a text if there is one.
+///
+/// Errors: out of memory.
+fn document_at(
+    alloc: Global,
+    id: String,
+    latest: bool,
+    more: More,
+    rev: Option<String>,
+) -> Result<Plan, NoMemory>
+    ensures { IfOk result (λ p. plan_view p
+        ≡ document_at (string_bytes id) latest more (option_map string_bytes rev)) }
+{
+    match rev {
+        Some(rev) => {
+            let rev = read_revision(alloc, rev.as_str())?;
+            Ok(leaf_of(id, latest, more.revisions, rev))
+        }
+        None => Ok(served_of(id, more)),
+    }
+}
+
+/// Returns what a query asks of the document of an id.
+///
+/// Errors: out of memory.
+fn document_of(alloc: Global, id: Option<String>, query: &[u8]) -> Result<Plan, NoMemory>
+    ensures { IfOk result (λ p. plan_view p ≡ document_of (option_map string_bytes id) query.now) }
+{
+    let Some(id) = id else {
+        return Ok(Plan::Says(Said::Refuses(Refusal::Missing)));
+    };
+    let latest = asks_flag(alloc, query, "latest")?;
+    let more = more_of(alloc, query)?;
+    let rev = value_in_query(alloc, query, "rev")?;
+    document_at(alloc, id, latest, more, rev)
 }
 
 /// Returns what `/{db}/{id}` asks to read.
@@ -35,12 +133,12 @@ fn document_of(id: Option<String>, conflicts: bool) -> Plan
 pub(crate) fn read_document(
     alloc: Global,
     segments: &[&[u8]],
-    conflicts: bool,
+    query: &[u8],
 ) -> Result<Plan, NoMemory>
-    ensures { IfOk result (λ p. plan_view p ≡ read_document (map (λ s. s.now) segments.now) conflicts) }
+    ensures { IfOk result (λ p. plan_view p ≡ read_document (map (λ s. s.now) segments.now) query.now) }
 {
     match segments {
-        [_, id] => Ok(document_of(text_in(alloc, *id)?, conflicts)),
+        [_, id] => document_of(alloc, text_in(alloc, *id)?, query),
         _ => Ok(Plan::Says(Said::Refuses(Refusal::Missing))),
     }
 }

@@ -1,20 +1,22 @@
 //! The service.
 ghost use denote.Param.Send.{IsSync};
-ghost use Rattle.std.specs.Prelude.{◌≡◌, map};
+ghost use Rattle.std.specs.Prelude.{◌≡◌, ◌⊎◌, map};
 ghost use Rattle.std.specs.String.{string_bytes};
 ghost use Rattle.mg_wire.specs.Request.{field_parts, fields_in};
 ghost use Rattle.mg_wire.specs.Response.{IsBlank};
-ghost use Rattle.mg_face.specs.Answer.{IsBegun};
+ghost use Rattle.mg_face.specs.Answer.{IsAnswered, IsBegun, IsLack, answer_of_said};
+ghost use Rattle.mg_engine.specs.QuestionView.{question_view};
 ghost use Rattle.mg_engine.specs.View.{command_view, reply_view};
 ghost use Rattle.mg_face.specs.Face.{Carries, GoesOn, IsFound, IsShown, Serves};
 ghost use Rattle.mg_face.specs.Plan.{plan_of, plan_view};
 
-use crate::answer::{begin, fill, lack, say, status_of};
+use crate::answer::{begin, fill, lack, say, say_lost, status_of};
 use crate::ids::draw;
 use crate::plan::{Plan, Way, plan_of};
+use crate::said::Said;
 use crate::show::show;
-use mg_engine::{Command, Reply};
-use mg_http::Service as Store;
+use crate::store::Store;
+use mg_engine::{Command, Question, Reply};
 use mg_live::Database;
 use mg_server::{Handover, Learner};
 use mg_wire::{Field, Request, Response, Service};
@@ -25,7 +27,7 @@ use std::marker::{Model, PhantomData};
 use std::sync::Wait;
 use std::thread::Threads;
 
-/// A store that answers commands, as an HTTP service for one database. Contracts see the store.
+/// A store, as an HTTP service for one database. Contracts see the store.
 #[derive(Drop)]
 pub struct Face<D: Database, S: Drop> {
     alloc: Global,
@@ -76,7 +78,7 @@ impl<D: Database, S: Store + Drop> Face<D, S> {
     )
         requires sync { IsSync H.row }
         requires begun { IsBegun response.old }
-        ensures { IsShown S.answers D.db (map field_parts fields.now) (command_view command) way self.old response.new self.new }
+        ensures { IsShown D.db (map field_parts fields.now) (S.answers self.old (command_view command)) way response.new self.new }
     {
         let reply = self.store.ask(rt, self.alloc, command);
         show(self.alloc, self.db.as_str(), fields, response, way, reply);
@@ -136,6 +138,37 @@ impl<D: Database, S: Store + Drop> Face<D, S> {
         self.go_on(rt, fields, reply, command, way, response);
     }
 
+    /// Asks a question, and shows its answer in a response that has begun.
+    fn look<H: Wait + Threads + Sync>(
+        &mut self,
+        rt: &H,
+        fields: &[Field],
+        question: &Question,
+        way: Way,
+        response: &mut Response,
+    )
+        requires sync { IsSync H.row }
+        requires begun { IsBegun response.old }
+        ensures { IsShown D.db (map field_parts fields.now) (S.sees self.old (question_view question.now)) way response.new self.new }
+    {
+        let reply = self.store.look(rt, self.alloc, question);
+        show(self.alloc, self.db.as_str(), fields, response, way, reply);
+    }
+
+    /// Says what is said at once, in a response that has begun; not that writes are kept, once the store is lost.
+    fn speak(&self, response: &mut Response, said: Said)
+        requires { IsBegun response.old }
+        ensures { IsAnswered (answer_of_said D.db said) response.new ⊎ IsLack response.new }
+    {
+        if said.is_of_store() && self.store.is_lost() {
+            say_lost(self.alloc, response);
+            return;
+        }
+        if say(self.alloc, self.db.as_str(), response, said).is_err() {
+            lack(self.alloc, response);
+        }
+    }
+
     /// Carries out the plan of a request with these fields, in a response that has begun.
     fn carry_out<H: Wait + Threads + Sync>(
         &mut self,
@@ -146,16 +179,14 @@ impl<D: Database, S: Store + Drop> Face<D, S> {
     )
         requires sync { IsSync H.row }
         requires begun { IsBegun response.old }
-        ensures { Carries S.answers D.db (map field_parts fields.now) (plan_view plan) self.old response.new self.new }
+        ensures { Carries S.answers S.sees D.db (map field_parts fields.now) (plan_view plan)
+            self.old response.new self.new }
     {
         match plan {
-            Plan::Says(said) => {
-                if say(self.alloc, self.db.as_str(), response, said).is_err() {
-                    lack(self.alloc, response);
-                }
-            }
+            Plan::Says(said) => self.speak(response, said),
             Plan::Asks(command, way) => self.execute(rt, fields, command, way, response),
             Plan::Finds(id, command, way) => self.find(rt, fields, id, command, way, response),
+            Plan::Looks(question, way) => self.look(rt, fields, &question, way, response),
         }
     }
 
@@ -169,7 +200,7 @@ impl<D: Database, S: Store + Drop> Face<D, S> {
     )
         requires sync { IsSync H.row }
         requires blank { IsBlank response.old }
-        ensures { Carries S.answers D.db (fields_in request.now) (plan_of D.db drawn request.now)
+        ensures { Carries S.answers S.sees D.db (fields_in request.now) (plan_of D.db drawn request.now)
             self.old response.new self.new }
     {
         if begin(response).is_err() {
@@ -185,7 +216,7 @@ impl<D: Database, S: Store + Drop> Face<D, S> {
 
 impl<D: Database, S: Store + Drop> Service for Face<D, S> {
     // The response is the face's to the request, from the store's first state to its second.
-    ghost answers = { λ old request response new. Serves S.answers D.db old request response new };
+    ghost answers = { λ old request response new. Serves S.answers S.sees D.db old request response new };
 
     fn call<H: Wait + Threads + Sync>(
         &mut self,

@@ -1,4 +1,4 @@
-//! Members of a body that have the wrong shape.
+//! Members of a body, or options of a query, that have the wrong shape.
 ghost use Rattle.std.specs.Prelude.{◌≡◌};
 ghost use Rattle.std.specs.Option.{option_map};
 ghost use Rattle.mg_value.specs.View.{view};
@@ -25,11 +25,23 @@ pub enum Fault {
     Skip,
     /// `bookmark` of a query.
     Bookmark,
-    /// `conflicts` of a query.
+    /// `conflicts` of a query, or of `_all_docs`.
     Conflicts,
+    /// The body of `_all_docs`.
+    Options,
+    /// `key` of `_all_docs`; the next ones too are of it.
+    Key,
+    Keys,
+    /// Another option beside `keys`.
+    KeysAlone,
+    StartKey,
+    EndKey,
+    InclusiveEnd,
+    Descending,
+    IncludeDocuments,
 }
 
-fn is_object(value: Option<&Json>) -> bool
+pub(crate) fn is_object(value: Option<&Json>) -> bool
     ensures { result ≡ is_object (option_map (λ v. view v.now) value.entry) }
 {
     match value {
@@ -38,7 +50,7 @@ fn is_object(value: Option<&Json>) -> bool
     }
 }
 
-fn is_count(value: Option<&Json>) -> bool
+pub(crate) fn is_count(value: Option<&Json>) -> bool
     ensures { result ≡ is_count (option_map (λ v. view v.now) value.entry) }
 {
     match value {
@@ -59,7 +71,7 @@ fn is_bookmark(value: Option<&Json>) -> bool
     }
 }
 
-fn is_flag(value: Option<&Json>) -> bool
+pub(crate) fn is_flag(value: Option<&Json>) -> bool
     ensures { result ≡ is_flag (option_map (λ v. view v.now) value.entry) }
 {
     match value {

@@ -9,7 +9,7 @@ ghost use Rattle.mg_engine.specs.Bodies.{line_of};
 ghost use Rattle.mg_engine.specs.Bulk.{done_entry, refused_entry};
 ghost use Rattle.mg_engine.specs.Commands.{ok_answer};
 ghost use Rattle.mg_engine.specs.Refusals.{refusal_line};
-ghost use Rattle.mg_live.specs.SeatView.{SeatView, Answered};
+ghost use Rattle.mg_live.specs.SeatView.{SeatView, Answered, SeatLooks};
 ghost use Rattle.mg_wire.specs.declared.request.Request.{Request};
 ghost use Rattle.mg_wire.specs.declared.response.Response.{Response};
 ghost use Rattle.mg_wire.specs.declared.status.Status.TheVariants as Status;
@@ -26,7 +26,7 @@ ghost use Rattle.mg_face.specs.Shown.{shown};
 /// want of memory it answers 503, and nothing else.
 pub fn a_seat_answers_as_defined()
     ensures { (db : List ℕ) (old : SeatView) (request : Request) (response : Response) (new : SeatView)
-        → Serves (Answered db) db old request response new
+        → Serves (Answered db) (SeatLooks db) db old request response new
         → IsAnsweredAfter db old request response new ⊎ IsLack response }
 {}
 

@@ -3,8 +3,8 @@
 //! What is answered is a table: specs/Routes.antt has the paths and the methods, specs/Plan.antt what each asks for, specs/Answer.antt and
 //! specs/Edited.antt what is answered. A parameter of a query that changes a meaning in CouchDB and is not of the table is refused by its name.
 //!
-//! Promises. `Face` is a service of `mg_wire` over a store that answers commands. `answer_of` (specs/Face.antt) defines the answer to each
-//! request in each world, and `commands_of` the commands that it executes, of which at most one writes. What a `Face` responds is that answer,
+//! Promises. `Face` is a service of `mg_wire` over a `Store`, which answers commands, and questions beside them. `answer_of` (specs/Face.antt)
+//! defines the answer to each request in each world, and `commands_of` the commands that it executes, of which at most one writes. What a `Face` responds is that answer,
 //! or a 503 for want of memory; a 503 after the store was asked is possible only where the answer has fields of its own (`MayLack`). A number is
 //! drawn for each request, from a source that the program seeds; ids are counted from it (`id_text`), and both definitions take it. Where a
 //! document is looked for before it is deleted, the definition has one world; on a seat the deletion is executed after the commits of the look,
@@ -23,12 +23,15 @@ mod fault;
 mod ids;
 mod index;
 pub mod laws;
+mod listing;
+mod options;
 mod parameter;
 mod plan;
 mod read;
 mod route;
 mod said;
 mod show;
+mod store;
 mod tag;
 mod text;
 
@@ -41,3 +44,4 @@ pub use crate::parameter::Parameter;
 pub use crate::plan::{Plan, Way};
 pub use crate::route::Resource;
 pub use crate::said::{Clash, Said};
+pub use crate::store::Store;

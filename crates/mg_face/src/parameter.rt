@@ -1,7 +1,6 @@
-//! The parameters of a query that are not answered.
+//! The parameters of a query that ask for more of a document, and those that are not answered.
 ghost use Rattle.std.specs.Prelude.{◌≡◌, IfOk};
-ghost use Rattle.mg_http.specs.Target.{is_conflicts, asks_conflicts};
-ghost use Rattle.mg_face.specs.Parameters.{name_of, is_revision, if_named, parameter_of, takes, unless_taken, unanswered, unanswered_in};
+ghost use Rattle.mg_face.specs.Parameters.{asks_flag, name_of, is_of_read, is_revision, sets, if_named, parameter_of, takes, unless_taken, unanswered, unanswered_in};
 
 use crate::action::Action;
 use form_urlencoded::{decode, raw_pairs};
@@ -23,6 +22,7 @@ pub enum Parameter {
     Revision,
     Revisions,
     RevisionsInfo,
+    UpdateSequence,
 }
 
 impl Parameter {
@@ -31,6 +31,20 @@ impl Parameter {
     {
         match self {
             Parameter::Revision => true,
+            _ => false,
+        }
+    }
+
+    fn is_of_read(self) -> bool
+        ensures { result ≡ is_of_read self }
+    {
+        match self {
+            Parameter::Revision
+            | Parameter::Latest
+            | Parameter::Revisions
+            | Parameter::RevisionsInfo
+            | Parameter::DeletedConflicts
+            | Parameter::Meta => true,
             _ => false,
         }
     }
@@ -53,6 +67,7 @@ impl Parameter {
             Parameter::Revision => "rev",
             Parameter::Revisions => "revs",
             Parameter::RevisionsInfo => "revs_info",
+            Parameter::UpdateSequence => "update_seq",
         }
     }
 }
@@ -72,7 +87,8 @@ fn if_named(name: &str, parameter: Parameter, other: Option<Parameter>) -> Optio
 fn parameter_of(name: &str) -> Option<Parameter>
     ensures { result ≡ parameter_of name.now }
 {
-    let found = if_named(name, Parameter::RevisionsInfo, None);
+    let found = if_named(name, Parameter::UpdateSequence, None);
+    let found = if_named(name, Parameter::RevisionsInfo, found);
     let found = if_named(name, Parameter::Revisions, found);
     let found = if_named(name, Parameter::Revision, found);
     let found = if_named(name, Parameter::OpenRevisions, found);
@@ -93,6 +109,7 @@ fn takes(action: Action, parameter: Parameter) -> bool
 {
     match action {
         Action::PutDocument | Action::DeleteDocument => parameter.is_revision(),
+        Action::ReadDocument => parameter.is_of_read(),
         _ => false,
     }
 }
@@ -152,25 +169,25 @@ pub(crate) fn unanswered_in(
     Ok(None)
 }
 
-/// Whether the name and value of a parameter decode to `conflicts=true`.
+/// Whether a name and a value, still encoded, give this name the value `true`.
 ///
 /// Errors: out of memory.
-fn is_conflicts(alloc: Global, name: &[u8], value: &[u8]) -> Result<bool, AllocError>
-    ensures { IfOk result (λ b. b ≡ is_conflicts (name.now, value.now)) }
+fn sets(alloc: Global, name: &str, encoded: &[u8], value: &[u8]) -> Result<bool, AllocError>
+    ensures { IfOk result (λ b. b ≡ sets name.now (encoded.now, value.now)) }
 {
-    let name = decode(alloc, name)?;
+    let decoded = decode(alloc, encoded)?;
     let value = decode(alloc, value)?;
-    Ok(name.as_str() == "conflicts" && value.as_str() == "true")
+    Ok(decoded.as_str() == name && value.as_str() == "true")
 }
 
-/// Whether some parameter of the query decodes to `conflicts=true`.
+/// Whether some parameter of the query has this name and the value `true`.
 ///
 /// Errors: out of memory.
-pub(crate) fn asks_conflicts(alloc: Global, query: &[u8]) -> Result<bool, AllocError>
-    ensures { IfOk result (λ b. b ≡ asks_conflicts query.now) }
+pub(crate) fn asks_flag(alloc: Global, query: &[u8], name: &str) -> Result<bool, AllocError>
+    ensures { IfOk result (λ b. b ≡ asks_flag name.now query.now) }
 {
-    for (name, value) in raw_pairs(query) {
-        if is_conflicts(alloc, name, value)? {
+    for (encoded, value) in raw_pairs(query) {
+        if sets(alloc, name, encoded, value)? {
             return Ok(true);
         }
     }

@@ -12,12 +12,13 @@ use crate::count::{CountFault, count_in};
 use crate::document::{delete_document, post_document, put_document, read_document};
 use crate::edit::value_in_query;
 use crate::endpoint::{bulk_docs, taken};
-use crate::index::{drop_design_plan, drop_plan};
-use crate::parameter::{asks_conflicts, unanswered_in};
+use crate::index::{drop_design_plan, drop_plan, read_design};
+use crate::listing::{list_by_body, list_by_query};
+use crate::parameter::unanswered_in;
 use crate::route::{Resource, is_here, is_nowhere, resource_of, segments_of};
 use crate::said::Said;
 use crate::text::split_query;
-use mg_engine::{Command, Refusal};
+use mg_engine::{Command, Question, Refusal};
 use mg_value::NoMemory;
 use mg_wire::{Field, Request};
 use std::alloc::Global;
@@ -44,6 +45,8 @@ pub enum Plan {
     Asks(Command, Way),
     /// The same, if a document with this id is found; else the answer of its `Get` is shown.
     Finds(String, Command, Way),
+    /// The question is asked, and its answer is shown in this way.
+    Looks(Question, Way),
 }
 
 /// Returns the ids that a query asks for, counted from the number that was drawn.
@@ -90,22 +93,22 @@ fn asked_for(
         Action::Up => Ok(Plan::Says(Said::Up)),
         Action::ListDatabases => Ok(Plan::Says(Said::Databases)),
         Action::MakeIds => ids_of(alloc, drawn, query),
-        Action::ReadDatabase => Ok(Plan::Says(Said::Database)),
+        Action::ReadDatabase => Ok(Plan::Looks(Question::Database, Way::Plain)),
         Action::CreateDatabase => Ok(Plan::Says(Said::DatabaseExists)),
         Action::DeleteDatabase => Ok(Plan::Says(Said::OneDatabase)),
+        Action::ListDocuments => list_by_query(alloc, query),
+        Action::ListDocumentsBy => list_by_body(alloc, query, body),
         Action::Commit => Ok(Plan::Says(Said::Committed)),
         Action::WriteBulk => bulk_docs(alloc, drawn, body),
         Action::Takes(endpoint) => taken(alloc, endpoint, body),
         Action::ListIndexes => Ok(Plan::Asks(Command::ListIndexes, Way::Plain)),
         Action::DropIndex => drop_plan(alloc, segments),
         Action::DropDesignIndex => drop_design_plan(alloc, segments),
-        Action::ReadDocument => {
-            let conflicts = asks_conflicts(alloc, query)?;
-            read_document(alloc, segments, conflicts)
-        }
+        Action::ReadDocument => read_document(alloc, segments, query),
         Action::PostDocument => post_document(alloc, drawn, query, fields, body),
         Action::PutDocument => put_document(alloc, segments, query, fields, body),
         Action::DeleteDocument => delete_document(alloc, segments, query, fields),
+        Action::ReadDesign => read_design(alloc, segments),
         Action::PutDesign => Ok(Plan::Says(Said::NoDesign)),
     }
 }

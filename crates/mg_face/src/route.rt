@@ -21,6 +21,8 @@ pub enum Resource {
     Ids,
     /// `/{db}`
     Database,
+    /// `/{db}/_all_docs`
+    AllDocuments,
     /// `/{db}/_ensure_full_commit`
     FullCommit,
     /// `/{db}/_bulk_docs`
@@ -96,6 +98,8 @@ fn database_resource(segment: &[u8]) -> Resource
 {
     if segment.is_empty() {
         Resource::Database
+    } else if segment == b"_all_docs".as_slice() {
+        Resource::AllDocuments
     } else if segment == b"_bulk_docs".as_slice() {
         Resource::BulkDocs
     } else if segment == b"_find".as_slice() {

@@ -25,8 +25,6 @@ pub enum Said {
     Ids(u128, usize),
     /// The number of ids is refused.
     BadCount(CountFault),
-    /// What the database is.
-    Database,
     /// The database cannot be made: it is there.
     DatabaseExists,
     /// The server makes and deletes no database.
@@ -39,6 +37,8 @@ pub enum Said {
     Unanswered(Parameter),
     /// The document has another id or revision than the request.
     Clashes(Clash),
+    /// The text that the query gives as a revision is none.
+    BadRevision,
     /// A member of the body has the wrong shape.
     Wrong(Fault),
     /// The body is a JSON text with a number that is not whole.
@@ -48,4 +48,11 @@ pub enum Said {
     /// A design document is not written: an index is made by `_index`.
     NoDesign,
     Refuses(Refusal),
+}
+
+impl Said {
+    /// Whether it says that the store keeps writes.
+    pub(crate) fn is_of_store(&self) -> bool {
+        matches!(self, Said::Up | Said::Committed)
+    }
 }
