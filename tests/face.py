@@ -5,16 +5,18 @@ usage: face.py --program PATH
 
 PATH is mango_server. The form of the conversations is described in tests/common/conversation.py, that of the examples in
 tests/common/reference.py; each has a file of its own, which is empty at the start. The fields of replies are compared here: `ETag`, `Location`,
-`Allow` and `Cache-Control`, what a client that has a document gets, ids, of which no two are the same, and ranges of `_all_docs`. The last line is
+`Allow`, `Cache-Control` and `Date`, what a client that has a document gets, ids, of which no two are the same, and ranges of `_all_docs`. The last line is
 'N passed, M failed'.
 """
 import contextlib
+import email.utils
 import http.client
 import json
 import random
 import re
 import sys
 import tempfile
+import time
 import urllib.parse
 from pathlib import Path
 
@@ -96,7 +98,13 @@ def fields(program, tally):
         for more in ("conflicts=true", "revs=true", f"rev={made}&revs=true"):
             asked = client.ask("GET", f"/db/a%20b?{more}", fields={"If-None-Match": tag})
             tally.expect(f"with {more} there is no tag, since more may change", (asked.status, client.fields.get("etag")), (200, None))
+        client.ask("PUT", "/db/c%20d?new_edits=false", '{"_revisions":{"ids":["b","a"],"start":2}}')
+        tally.expect("the fields of a replica's write", (client.fields.get("etag"), client.fields.get("location")), ('"2-b"', "/db/c%20d"))
         tally.expect("a write by If-Match", client.ask("PUT", "/db/a%20b", '{"n":2}', {"If-Match": tag}).status, 201)
+        for method, target, body in (("GET", "/", None), ("GET", "/db/a%20b", None), ("PUT", "/other", None), ("POST", "/db", "{"), ("POST", "/_up", None)):
+            client.ask(method, target, body)
+            made = email.utils.parsedate_to_datetime(client.fields.get("date", "Thu, 01 Jan 1970 00:00:00 GMT")).timestamp()
+            tally.expect(f"the date of {method} {target}", abs(time.time() - made) < 5, True)
         tally.expect("a method that is not there", (client.ask("POST", "/_up").status, client.fields.get("allow")), (405, "GET, HEAD"))
 
 

@@ -10,6 +10,7 @@ from dataclasses import dataclass
 
 BULK = 1000
 PAGE = 25
+LONG_PAGE = 1000
 DEPTH = 1000
 IN_GROUP = 20
 KINDS = 7
@@ -64,11 +65,22 @@ class Answer:
 
 @dataclass(frozen=True)
 class Request:
-    """A request: its kind, its arguments, and the right answer; None: a document is written."""
+    """A request: its kind, its arguments, and the right answer; None: there are no documents in it."""
 
     kind: str
     about: tuple
     answer: Answer | None
+
+    @property
+    def status(self):
+        return 201 if self.kind == "commit" else 200
+
+    @property
+    def mark(self):
+        """Returns what stands in each right reply."""
+        if self.answer:
+            return f'"_id":"{self.answer.last}"'.encode()
+        return b'"ok":true' if self.kind == "commit" else b'"couchdb":"Welcome"'
 
 
 def compact(value):
@@ -163,6 +175,19 @@ class Corpus:
     def ask_scan(self, dice):
         i = dice.randrange(self.count)
         return Request("scan", (self.text(i),), Answer(1, self.name(i), self.name(i)))
+
+    def ask_first(self, dice):
+        """Returns the request for the first documents of all, by a query."""
+        last = min(LONG_PAGE, self.count) - 1
+        return Request("first", (), Answer(last + 1, self.name(0), self.name(last)))
+
+    def ask_listing(self, dice):
+        """Returns the request for the same documents, by `_all_docs`."""
+        return Request("listing", (), self.ask_first(dice).answer)
+
+    def ask_root(self, dice):
+        """Returns the request for the name of the server."""
+        return Request("root", (), None)
 
     def ask_commit(self, dice):
         """Returns the request to make a document whose id follows a random one."""

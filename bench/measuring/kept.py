@@ -16,6 +16,8 @@ from .sqlite import SQLite
 
 READS = ("get", "equality")
 CELLS = [*cells(READS, 1), *cells(("commit",), 1, 4, 16)]
+# what mango_server alone answers, and a page that is as long as one of these
+LISTED = cells(("root", "listing", "first"), 1)
 PAIR = (1, 4)
 
 
@@ -32,6 +34,7 @@ class MangoServer(Program):
     """The program that keeps its data, on a file of its own."""
 
     called = "mango_server"
+    kinds = (*Program.kinds, "root", "listing", "first")
 
     def words(self, pair, sessions):
         self.file = os.path.join(tempfile.mkdtemp(dir=folder().name), "db")
@@ -92,7 +95,7 @@ def by_python(corpus, share):
 def systems(args):
     """Yields each system that is installed, and the cells that are measured of it."""
     if os.path.exists(args.server):
-        yield lambda corpus: MangoServer(args.server, corpus, PAIR), CELLS
+        yield lambda corpus: MangoServer(args.server, corpus, PAIR), [*CELLS, *LISTED]
     yield lambda corpus: Program(args.program, corpus, PAIR), CELLS
     if os.path.exists("/usr/include/sqlite3.h"):
         yield SQLiteOnDisk, cells(("commit",), 1, 16)

@@ -209,13 +209,17 @@ def settings(measurement):
 
 
 def kept(measurement):
-    """Returns a table of what is kept on a disk."""
+    """Yields a table of what is kept on a disk, and what only the program that keeps it answers."""
     columns = {"commits a second: 1 client": (Cell("commit"), "rate"), "4 clients": (Cell("commit", 4), "rate"), "16 clients": (Cell("commit", 16), "rate"),
                "documents a second: loaded": ("load", "rate"), "read at a start": ("start", "rate"), "`GET`, µs": (Cell("get"), "processor"),
                "20 documents by an index, µs": (Cell("equality"), "processor")}
     names = ["mango_server 1/4", "mangod 1/4", "SQLite on the disk", "Python's sqlite3", "PostgreSQL on the disk"]
     rows = [(name, [measurement.values(f"{name}, {measurement.usual}", *place) for place in columns.values()]) for name in names]
-    return table(f"{measurement.found['usual']:,} documents", columns, rows)
+    yield from table(f"{measurement.found['usual']:,} documents", columns, rows)
+    listed = [f"{KINDS[kind][0]} {spread(values)}" for kind in ("root", "listing", "first")
+              if (values := measurement.values(f"{names[0]}, {measurement.usual}", Cell(kind)))]
+    if listed:
+        yield from ("", f"`mango_server`, µs of processor time: {'; '.join(listed)}.")
 
 
 TABLES = {"source": source, "requests": requests, "people": people, "room": room, "pairs": pairs, "kept": kept, "others": others, "settings": settings}

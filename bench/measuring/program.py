@@ -5,7 +5,7 @@ import re
 import socket
 import subprocess
 
-from .documents import PAGE, compact
+from .documents import LONG_PAGE, PAGE, compact
 from .receive import receive
 from .server import Server
 
@@ -21,9 +21,9 @@ def free_port():
         return server.getsockname()[1]
 
 
-def message(method, target, body=None):
+def message(method, target, body=None, above="/db/"):
     data = b"" if body is None else (body if isinstance(body, str) else compact(body)).encode()
-    return f"{method} /db/{target} HTTP/1.1\r\nHost: localhost\r\nContent-Length: {len(data)}\r\n\r\n".encode() + data
+    return f"{method} {above}{target} HTTP/1.1\r\nHost: localhost\r\nContent-Length: {len(data)}\r\n\r\n".encode() + data
 
 
 def prepared(corpus, request):
@@ -36,9 +36,14 @@ def prepared(corpus, request):
         "two": lambda: {"selector": {kind: about[0], price: {"$gte": about[1]}}, "sort": [kind, price], "limit": PAGE},
         "deep": lambda: {"selector": {price: {"$gte": 0}}, "sort": [price], "limit": PAGE, "bookmark": corpus.bookmark(*about)},
         "scan": lambda: {"selector": {text: about[0]}},
+        "first": lambda: {"selector": {}, "limit": LONG_PAGE},
     }
     if request.kind == "get":
         return message("GET", about[0])
+    if request.kind == "listing":
+        return message("GET", f"_all_docs?limit={LONG_PAGE}&include_docs=true")
+    if request.kind == "root":
+        return message("GET", "", above="/")
     if request.kind == "commit":
         return message("POST", "_bulk_docs", {"docs": [{"_id": about[0], **corpus.new_body(about[1])}]})
     return message("POST", "_find", find[request.kind]())
@@ -77,9 +82,10 @@ class Connection:
         status, body = self.exchange(text)
         value = json.loads(body)
         if answer is None:
-            right = status == b"201" and value[0].get("ok") is True
+            right = status == b"200" and "couchdb" in value or status == b"201" and value[0].get("ok") is True
         else:
-            right = status == b"200" and answer.fits([one["_id"] for one in value.get("docs", [value])])
+            found = [row["doc"] for row in value["rows"]] if "rows" in value else value.get("docs", [value])
+            right = status == b"200" and answer.fits([one["_id"] for one in found])
         if not right:
             raise SystemExit(f"{text[:300]!r} was answered by {status!r} {body[:300]!r}, wanted {answer}")
 
@@ -131,11 +137,7 @@ class Program(Server):
         return reply
 
     def records(self, requests):
-        found = []
-        for one in requests:
-            mark = f'"_id":"{one.answer.last}"'.encode() if one.answer else b'"ok":true'
-            found.append((200 if one.answer else 201, mark, prepared(self.corpus, one)))
-        return found
+        return [(one.status, one.mark, prepared(self.corpus, one)) for one in requests]
 
     def updates(self, number):
         """Returns records of edits, each of another loaded document; each can be sent once."""

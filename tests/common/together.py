@@ -27,6 +27,10 @@ class Function:
         self.lines = range(text.count("\n", 0, head) + 2, text.count("\n", 0, end) + 2)
         self.module = [] if file in ("src/lib.rt", "src/main.rt") else file.removeprefix("src/").removesuffix(".rt").split("/")
 
+    def path(self):
+        """Returns a path below the crate that a check takes for the function: its own, or that of the module which has it and other methods."""
+        return "::".join(self.module if self.owner else [*self.module, self.name])
+
     def fits(self, words):
         """Whether this is the path of the function as a check writes it: a method's has its type, and its trait behind that."""
         here, last = words[:len(self.module)], words[-1]

@@ -6,11 +6,11 @@ use Rattle.mg_engine.specs.Commands as engine
 use Rattle.mg_engine.specs.Commands.{Asked, get}
 use Rattle.mg_live.specs.SeatView.{SeatView, SeatLooks, SeatReads, Answered}
 use Rattle.mg_wire.specs.declared.response.Response.{Response}
-use Rattle.mg_face.specs.declared.plan.Way.{Way}
-use Rattle.mg_face.specs.declared.plan.Way.TheVariants as Shown
 use Rattle.mg_face.specs.Plan.{Plan, says, asks, finds, looks}
 use Rattle.mg_face.specs.Answer.{IsAnswered, IsLack, passed}
 use Rattle.mg_face.specs.Shown.{shown}
+use Rattle.mg_face.specs.Way as Shown
+use Rattle.mg_face.specs.Way.{Way}
 use Rattle.mg_face.specs.Face.{is_found, Shows, IsShown, GoesOn, Carries}
 use Rattle.mg_face.specs.Seats.{IsExecuted, IsLookedFor, IsCarriedOut}
 use Rattle.mg_face.proofs.SeatLemmas as seat
@@ -19,10 +19,10 @@ use Rattle.mango_server.specs.Stored.{IsPassedOn, StoredAnswer, storage_refusal}
 module _ (db : List ℕ) (fields : List Header) where
   -- the refusal of a write that may or may not be stored is a 503, however it is shown
   refuses : (way : Way) (r : Response) → IsAnswered (shown db fields way storage_refusal) r → IsLack r
-  refuses Shown.Plain r is = is.status
-  refuses Shown.Document r is = is.status
-  refuses Shown.Written r is = is.status
-  refuses Shown.Deleted r is = is.status
+  refuses Shown.plain r is = is.status
+  refuses Shown.document r is = is.status
+  refuses (Shown.edit change entry) r is = is.status
+  refuses (Shown.bulk refusals) r is = is.status
 
   shows : (old : SeatView) (c : Asked) (way : Way) (a given : Option engine.Answer) (r : Response) (new : SeatView)
       → IsPassedOn a given → Answered db old c a new → Shows db fields way given r → IsExecuted db fields old c way r new ⊎ IsLack r

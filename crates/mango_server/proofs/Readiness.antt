@@ -78,3 +78,9 @@ nothing_left rows is = let none : length rows ≡ 0 = grind (arith, nat_tests) i
 pub parted : (n : ℕ) (rows group more : List Commit) → group ≡ take n rows → more ≡ drop n rows → rows ≡ group ++ more
 parted n rows group more front back =
     sym (take-append-drop n rows) ∙ ap (λ (xs : List Commit). xs ++ drop n rows) (sym front) ∙ ap (λ (xs : List Commit). group ++ xs) (sym back)
+
+-- a seat that has executed the writes that were left has seen those of all rows
+pub all_rows : (A : Type 0) (seen : A → List Asked) (given : Result A Stopped) (es : List Entry) (now : List Asked)
+    → IfOk given (λ s. seen s ≡ now) → AreRowsOf es now → IfOk given (λ s. AreRowsOf es (seen s))
+all_rows A seen (Err e) es now is are = tt
+all_rows A seen (Ok s) es now is are = subst (λ (cs : List Asked). AreRowsOf es cs) (sym is) are

@@ -14,9 +14,9 @@ use rayon::prelude::*;
 use sqlite::Unknown;
 use std::alloc::Global;
 use std::sync::Wait;
-use std::thread::Threads;
+use std::thread::{Threads, join};
 
-/// How many bytes the bodies of rows have that are read and prepared side by side, before they are executed one after another.
+/// How many bytes the bodies of rows have that are read and prepared side by side, while those before them are executed one after another.
 const GROUP_BYTES: usize = 8_388_608;
 
 /// The rows of a file, in their order.
@@ -134,8 +134,37 @@ fn executed<D: Database, H: Wait + Threads + Sync + Drop>(
     Ok(seat)
 }
 
-/// Executes the writes of rows at a seat that has seen nothing, in their order, and returns the seat. Groups of rows are read and prepared
-/// side by side.
+/// Executes writes at a seat, in their order, while the writes of the next rows are read and prepared on other threads. Returns the seat and
+/// those writes.
+///
+/// Errors: `Stopped` if a row is not one of a write, or a write is not accepted, or an allocation fails.
+fn executed_beside<D: Database, H: Wait + Threads + Sync + Drop>(
+    rt: &H,
+    alloc: Global,
+    seat: Seat<D, FileKeeper<H>>,
+    writes: Vec<Ready>,
+    next: &[Commit],
+    workers: usize,
+) -> Result<(Seat<D, FileKeeper<H>>, Vec<Ready>), Stopped>
+    requires { (1 ≤ workers) × (workers ≤ 32) }
+    ensures seen { IfOk result (λ r. commands_of r.0.seen ≡ commands_of seat.seen ++ writes_of writes.items) }
+    ensures ready { IfOk result (λ r. AreRowsOf (entries_of next.now) (writes_of r.1.items)) }
+{
+    let (ready, seat) = join(
+        rt,
+        move || -> Result<Vec<Ready>, Stopped>
+            ensures { IfOk result (λ v. AreRowsOf (entries_of next.entry.now) (writes_of v.items)) }
+        { all_ready(rt, alloc, next) },
+        move || -> Result<Seat<D, FileKeeper<H>>, Stopped>
+            requires { (1 ≤ workers) × (workers ≤ 32) }
+            ensures { IfOk result (λ s. commands_of s.seen ≡ commands_of seat.seen ++ writes_of writes.items) }
+        { executed(rt, seat, writes, workers) },
+    );
+    Ok((seat?, ready?))
+}
+
+/// Executes the writes of rows at a seat that has seen nothing, in their order, and returns the seat. A group of rows is read and prepared
+/// while the group before it is executed.
 ///
 /// Errors: `Stopped` if a row is not one of a write, or one is not accepted, or an allocation fails.
 fn executed_rows<D: Database, H: Wait + Threads + Sync + Drop>(
@@ -149,13 +178,14 @@ fn executed_rows<D: Database, H: Wait + Threads + Sync + Drop>(
     requires workers { (1 ≤ workers) × (workers ≤ 32) }
     ensures { IfOk result (λ s. AreRowsOf (entries_of rows.now) (commands_of s.seen)) }
 {
+    let mut ready: Vec<Ready> = Vec::new(alloc);
     let mut rest = rows;
     while !rest.is_empty() {
         let (group, more) = rest.split_at(group_len(rest));
-        seat = executed(rt, seat, all_ready(rt, alloc, group)?, workers)?;
+        (seat, ready) = executed_beside(rt, alloc, seat, ready, group, workers)?;
         rest = more;
     }
-    Ok(seat)
+    executed(rt, seat, ready, workers)
 }
 
 /// Opens the file of a database, and executes its commits at a seat that has seen nothing. Returns its log and the seat. Until all are

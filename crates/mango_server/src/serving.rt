@@ -52,6 +52,7 @@ fn drawn_seed<H: RandomSource>(rt: &H) -> Result<[u8; 32], Exit> {
 /// Makes the service of a seat. Errors: `NoMemory` if an allocation fails; then the seat is dropped.
 fn service_of<D: Database, C: Keeper>(
     alloc: Global,
+    host: HostRuntime,
     db: &str,
     seed: [u8; 32],
     seat: Seat<D, C>,
@@ -65,11 +66,13 @@ fn service_of<D: Database, C: Keeper>(
         service: SeatService { seat, workers },
         lost: Arc::try_clone(lost)?,
     };
-    Ok(Face::new(alloc, String::from_str(alloc, db)?, seed, store))
+    let db = String::from_str(alloc, db)?;
+    Ok(Face::new(alloc, host, db, seed, store))
 }
 
-/// Makes a service for each seat. Errors: how the program ends; then all seats are dropped.
+/// Makes a service for each seat; `host` says the time. Errors: how the program ends; then all seats are dropped.
 fn services<D: Database, C: Keeper, H: AllocGlobal + RandomSource>(
+    host: HostRuntime,
     rt: &H,
     db: &str,
     seats: Vec<Seat<D, C>>,
@@ -82,7 +85,7 @@ fn services<D: Database, C: Keeper, H: AllocGlobal + RandomSource>(
     let mut services = Vec::new(rt.alloc());
     for seat in seats {
         let seed = drawn_seed(rt)?;
-        let Ok(service) = service_of(rt.alloc(), db, seed, seat, workers, lost) else {
+        let Ok(service) = service_of(rt.alloc(), host, db, seed, seat, workers, lost) else {
             return Err(Exit::NO_MEMORY);
         };
         if services.push(service).is_err() {
@@ -207,7 +210,7 @@ fn with_file<
     if seats.push(seat).is_err() {
         return Err(Exit::NO_MEMORY);
     }
-    services(&rt, settings.db, seats, settings.workers, lost)
+    services(host, &rt, settings.db, seats, settings.workers, lost)
 }
 
 /// Listens, and serves the clients that connect with these services.

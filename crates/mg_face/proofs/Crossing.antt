@@ -5,6 +5,7 @@ use denote.RattleType.{RattleType}
 use denote.Struct.Field.{row_field}
 use Rattle.std.proofs.Crossing.{crosses}
 use Rattle.std.specs.declared.sync.ledger.Ledger as ledger
+use Rattle.mg_value.proofs.borrowed.ReadBuffer.TheSendSync as buffer
 use Rattle.mg_live.specs.declared.database.Database as database
 use Rattle.mg_face.specs.contracts.face.Face as Face
 use Rattle.mg_face.specs.contracts.face.Face.TheInside as face
@@ -14,6 +15,6 @@ face_send D S d l s = view_send _ _ _ _ _ (declared_send (face.the_type D S d l)
   search (sendable, crosses) depth 20,
   (
     search (sendable, crosses) depth 20,
-    (as_row_send (row_field S) s, (search (sendable, crosses) depth 20, (search (sendable, crosses) depth 20, tt))),
+    (as_row_send (row_field S) s, (search (sendable, crosses) depth 20, (buffer.the_send, (search (sendable, crosses) depth 20, (search (sendable, crosses) depth 20, tt))))),
   ),
 ))

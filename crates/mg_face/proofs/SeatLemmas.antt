@@ -7,11 +7,11 @@ use Rattle.mg_engine.specs.Commands.{Asked, get, is_write}
 use Rattle.mg_engine.specs.Questions.{Question}
 use Rattle.mg_live.specs.SeatView.{SeatView, SeatLooks, SeatReads, SeatWrites, Answered}
 use Rattle.mg_wire.specs.declared.response.Response.{Response}
-use Rattle.mg_face.specs.declared.plan.Way.{Way}
 use Rattle.mg_face.specs.Plan.{Plan, says, asks, finds, looks}
 use Rattle.mg_face.specs.Answer.{IsAnswered, IsLack, passed}
 use Rattle.mg_face.specs.Shown.{shown}
 use Rattle.mg_face.specs.Face.{is_found, Shows, IsShown, GoesOn, Carries}
+use Rattle.mg_face.specs.Way.{Way}
 use Rattle.mg_face.specs.Seats.{IsExecuted, IsLookedAt, IsLookedFor, IsCarriedOut}
 
 module _ (db : List ℕ) (fields : List Header) where

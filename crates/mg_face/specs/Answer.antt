@@ -1,5 +1,5 @@
 -- What is answered: the response for each thing that is said, and for each answer of the database.
-use Rattle.std.specs.Prelude.{◌≡◌, ℕ, Bool, false, ◌==◌, List, [], ◌∷◌, ◌++◌, length, map, nat_le, codes, Option, Some, None, option_and_then, if◌then◌else◌}
+use Rattle.std.specs.Prelude.{◌≡◌, ℕ, Bool, false, ◌==◌, List, [], ◌∷◌, ◌++◌, length, map, nat_le, codes, decimal, Option, Some, None, option_and_then, if◌then◌else◌}
 use Rattle.http1.specs.Fields.{Header}
 use Rattle.mg_value.specs.Value.{text, list, item, no_items, object, member, no_members}
 use Rattle.mg_value.specs.View.{items_of}
@@ -23,6 +23,7 @@ use Rattle.mg_face.specs.Edit.{field_of}
 use Rattle.mg_face.specs.Ids.{id_list}
 use Rattle.mg_face.specs.Json.{value_of_line, string_at}
 use Rattle.mg_face.specs.Parameters.{name_of}
+use Rattle.mg_face.specs.Place.{Fraction}
 use Rattle.mg_face.specs.Routes.{allowed}
 use Rattle.mg_face.specs.Tag.{is_in_tags}
 
@@ -79,6 +80,13 @@ abbrev pub unanswered_body : Parameter → List ℕ
 unanswered_body parameter =
     codes "{\"error\":\"bad_request\",\"reason\":\"" ++ name_of parameter ++ codes ": this server does not answer this parameter.\"}\n"
 
+-- the refusal of a number that is not whole, with its place
+abbrev pub not_whole_body : Option Fraction → List ℕ
+not_whole_body None = codes "{\"error\":\"bad_request\",\"reason\":\"numbers are whole here: a number has a fraction, or more than 64 bits.\"}\n"
+not_whole_body (Some f) =
+    codes "{\"error\":\"bad_request\",\"reason\":\"numbers are whole here: " ++ f.number
+    ++ codes " at line " ++ decimal f.line ++ codes " column " ++ decimal f.column ++ codes "\"}\n"
+
 -- the status of an answer of the database; 500 for one that it does not give
 abbrev pub status_of : ℕ → Status
 status_of code =
@@ -118,8 +126,7 @@ answer_of_said db (Said.Clashes Clash.Revisions) =
     json Is.BadRequest (codes "{\"error\":\"bad_request\",\"reason\":\"_rev: the document, rev and If-Match have different ones.\"}\n")
 answer_of_said db Said.BadRevision = json Is.BadRequest (codes "{\"error\":\"bad_request\",\"reason\":\"Invalid rev format\"}\n")
 answer_of_said db (Said.Wrong fault) = json Is.BadRequest (wrong_body fault)
-answer_of_said db Said.NotWhole =
-    json Is.BadRequest (codes "{\"error\":\"bad_request\",\"reason\":\"numbers are whole here: a number has a point, an exponent or more than 64 bits.\"}\n")
+answer_of_said db (Said.NotWhole found) = json Is.BadRequest (not_whole_body found)
 answer_of_said db Said.Attached =
     json Is.BadRequest (codes "{\"error\":\"doc_validation\",\"reason\":\"_attachments: this server keeps no attachments.\"}\n")
 answer_of_said db Said.NoDesign =

@@ -5,7 +5,7 @@ use Rattle.std.specs.Str.Lossy.{utf8_lossy}
 use Rattle.form_urlencoded.specs.Form.{decode, raw_pairs}
 use Rattle.http1.specs.Fields.{Header}
 use Rattle.http1.specs.Text.{eq_ignore_case}
-use Rattle.mg_value.specs.Value.{Value, flag, text, list, object, item, no_items, no_members, member, member_of, with_member}
+use Rattle.mg_value.specs.Value.{Value, flag, text, object, no_members, member, member_of, with_member}
 
 -- ---- the revision that a request names
 
@@ -53,10 +53,6 @@ with_given name (Some s) v = if agrees s (member_of name v) then Some (with_memb
 -- the document with the revisions that a query and `If-Match` name; `None`: two revisions disagree
 abbrev pub with_revisions : Option (List ℕ) → Option (List ℕ) → Value → Option Value
 with_revisions query tag v = option_and_then (with_given (codes "_rev") tag) (with_given (codes "_rev") query v)
-
--- a bulk of this one document
-abbrev pub bulk_with : Value → Value
-bulk_with v = object (member (codes "docs") (list (item v no_items)) no_members)
 
 -- the document of a deletion
 abbrev pub deletion : Value

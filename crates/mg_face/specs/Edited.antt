@@ -12,10 +12,11 @@ use Rattle.mg_face.specs.declared.edited.TheConstants.{SEGMENT}
 use Rattle.mg_face.specs.Json.{value_of_line, string_at}
 use Rattle.mg_face.specs.Answer.{Answer, json_field, json, passed, tag_of, if_short}
 
--- the only item of a list
-abbrev pub only_item : Value → Option Value
-only_item (list (item v no_items)) = Some v
-only_item v = None
+-- the only item of a list; of one without items, this value
+abbrev pub only_item : Option Value → Value → Option Value
+only_item otherwise (list no_items) = otherwise
+only_item otherwise (list (item v no_items)) = Some v
+only_item otherwise v = None
 
 -- a list of one value
 abbrev pub list_with : Value → Value
@@ -25,9 +26,13 @@ list_with v = list (item v no_items)
 abbrev pub one_entry : Value → engine.Answer
 one_entry v = record { status = 201; body = line_of (list_with v) }
 
--- the entry of the only edit of a bulk that was executed
-abbrev pub entry_in : engine.Answer → Option Value
-entry_in a = if a.status == 201 then option_and_then only_item (value_of_line a.body) else None
+-- the answer to a bulk of one edit that has no entry: a replica's edit that was made
+abbrev pub no_entry : engine.Answer
+no_entry = record { status = 201; body = line_of (list no_items) }
+
+-- the entry of the only edit of a bulk that was executed; this one, if the answer lists none
+abbrev pub entry_in : Option Value → engine.Answer → Option Value
+entry_in otherwise a = if a.status == 201 then option_and_then (only_item otherwise) (value_of_line a.body) else None
 
 -- the path of a document
 abbrev pub path_of : List ℕ → List ℕ → List ℕ
@@ -65,6 +70,6 @@ abbrev pub answer_with : List ℕ → Change → engine.Answer → Option Value 
 answer_with db change a (Some entry) = entry_answer db change entry
 answer_with db change a None = passed a
 
--- the answer to one edit of the database `db`, from that to its bulk
-abbrev pub edited : List ℕ → Change → engine.Answer → Answer
-edited db change a = answer_with db change a (entry_in a)
+-- the answer to one edit of the database `db`, from that to its bulk, and the entry that it has where its bulk lists none
+abbrev pub edited : List ℕ → Change → Option Value → engine.Answer → Answer
+edited db change otherwise a = answer_with db change a (entry_in otherwise a)

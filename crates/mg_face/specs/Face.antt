@@ -9,11 +9,11 @@ use Rattle.mg_engine.specs.World.{World}
 use Rattle.mg_wire.specs.declared.request.Request.{Request}
 use Rattle.mg_wire.specs.declared.response.Response.{Response}
 use Rattle.mg_wire.specs.Request.{fields_in}
-use Rattle.mg_face.specs.declared.plan.Way.{Way}
-use Rattle.mg_face.specs.declared.plan.Way.TheVariants as Shown
 use Rattle.mg_face.specs.Plan.{Plan, says, asks, finds, looks, plan_of}
 use Rattle.mg_face.specs.Answer.{Answer, answer_of_said, passed, IsAnswered, IsLack}
 use Rattle.mg_face.specs.Shown.{shown}
+use Rattle.mg_face.specs.Way as Shown
+use Rattle.mg_face.specs.Way.{Way}
 
 -- the answer to the `get` of a document says that it is found
 abbrev pub is_found : engine.Answer → Bool
@@ -47,7 +47,7 @@ commands_of db drawn r w = commands_in w (plan_of db drawn r)
 
 -- memory may run out for the fields of an answer that the store gave; not where the answer is shown as it is
 abbrev pub MayLack : Way → Type 0
-MayLack Shown.Plain = ⊥
+MayLack Shown.plain = ⊥
 MayLack way = Unit {0}
 
 -- the response shows an answer of the store

@@ -1,13 +1,13 @@
--- The value of a JSON text (RFC 8259), as `mg_value` reads it.
+-- The value of a JSON text (RFC 8259), as `serde_json` reads it, where a number whose value is whole is whole.
 use Rattle.std.specs.Prelude.{ℕ, ◌-◌, Bool, false, List, length, take, Option, Some, None, is_some, option_and_then, if◌then◌else◌}
 use Rattle.std.specs.Str.{is_utf8}
 use Rattle.serde_json.specs.Read.{read}
 use Rattle.mg_value.specs.Value.{Value, text, member_of}
-use Rattle.mg_value.specs.Text.{whole_of}
+use Rattle.mg_face.specs.Numbers.{value_of}
 
 -- the value that a text gives; `None`: it is no JSON text, or a number of it is not whole
 abbrev pub json_of : List ℕ → Option Value
-json_of bytes = if is_utf8 bytes then option_and_then whole_of (read bytes) else None
+json_of bytes = if is_utf8 bytes then option_and_then value_of (read bytes) else None
 
 -- the bytes are a JSON text, whatever its numbers
 abbrev pub is_json : List ℕ → Bool

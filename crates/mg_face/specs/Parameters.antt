@@ -1,6 +1,6 @@
 -- The parameters of a query (the URL Standard, section 5) that change a meaning in CouchDB: those that ask for more of a document, and those that
 -- this server does not answer.
-use Rattle.std.specs.Prelude.{ℕ, Bool, true, false, ◌&&◌, List, [], ◌∷◌, bytes_eq, codes, Option, Some, None, if◌then◌else◌}
+use Rattle.std.specs.Prelude.{ℕ, Bool, true, false, ◌&&◌, ◌||◌, List, [], ◌∷◌, bytes_eq, codes, Option, Some, None, if◌then◌else◌}
 use Rattle.std.specs.List.{list_any}
 use Rattle.std.specs.Str.Lossy.{utf8_lossy}
 use Rattle.form_urlencoded.specs.Form.{decode, raw_pairs}
@@ -11,13 +11,21 @@ use Rattle.mg_face.specs.declared.parameter.Parameter.TheVariants as Is
 
 -- ---- those that ask for more
 
--- a name and a value decode to this name and `true`
-abbrev pub sets : List ℕ → List ℕ × List ℕ → Bool
-sets name pair = bytes_eq (utf8_lossy (decode pair.0)) name && bytes_eq (utf8_lossy (decode pair.1)) (codes "true")
+-- a name and a value decode to this name and this value
+abbrev pub gives : List ℕ → List ℕ → List ℕ × List ℕ → Bool
+gives name value pair = bytes_eq (utf8_lossy (decode pair.0)) name && bytes_eq (utf8_lossy (decode pair.1)) value
+
+-- some parameter of the query has this name and this value
+abbrev pub has_pair : List ℕ → List ℕ → List ℕ → Bool
+has_pair name value query = list_any (gives name value) (raw_pairs query)
 
 -- some parameter of the query has this name and the value `true`; with any other value it asks for nothing, as in CouchDB
 abbrev pub asks_flag : List ℕ → List ℕ → Bool
-asks_flag name query = list_any (sets name) (raw_pairs query)
+asks_flag name query = has_pair name (codes "true") query
+
+-- the edits were made elsewhere: `new_edits=false`; with any other value they are new, as in CouchDB
+abbrev pub is_replica : List ℕ → Bool
+is_replica query = has_pair (codes "new_edits") (codes "false") query
 
 -- ---- those that are not answered
 
@@ -60,9 +68,15 @@ parameter_of name =
     (if_named name Is.RevisionsInfo
     (if_named name Is.UpdateSequence None)))))))))))))
 
+-- which revision is replaced
 abbrev pub is_revision : Parameter → Bool
 is_revision Is.Revision = true
 is_revision parameter = false
+
+-- whether the edit was made elsewhere
+abbrev pub is_new_edits : Parameter → Bool
+is_new_edits Is.NewEdits = true
+is_new_edits parameter = false
 
 -- which revision is shown, or what is shown beside it
 abbrev pub is_of_read : Parameter → Bool
@@ -74,23 +88,28 @@ is_of_read Is.DeletedConflicts = true
 is_of_read Is.Meta = true
 is_of_read parameter = false
 
--- an action takes a parameter: a write of a document the revision that it is to replace, a read what is shown
+-- an action takes a parameter: a write of a document the revision that it is to replace and whether it was made elsewhere, a read what is shown
 abbrev pub takes : Action → Parameter → Bool
-takes Does.PutDocument parameter = is_revision parameter
+takes Does.PostDocument parameter = is_new_edits parameter
+takes Does.PutDocument parameter = is_revision parameter || is_new_edits parameter
 takes Does.DeleteDocument parameter = is_revision parameter
 takes Does.ReadDocument parameter = is_of_read parameter
 takes action parameter = false
 
--- the parameter, unless the action takes it
-abbrev pub unless_taken : Action → Option Parameter → Option Parameter
-unless_taken action None = None
-unless_taken action (Some parameter) = if takes action parameter then None else Some parameter
+-- the value with which a parameter changes nothing
+abbrev pub default_of : Parameter → List ℕ
+default_of Is.NewEdits = codes "true"
+default_of parameter = codes "false"
 
--- the parameter that a name and a value give, unless the action takes it; one whose value is `false` changes nothing
+-- the parameter with this value, unless it changes nothing or the action takes it
+abbrev pub unless_taken : Action → List ℕ → Option Parameter → Option Parameter
+unless_taken action value None = None
+unless_taken action value (Some parameter) =
+    if bytes_eq value (default_of parameter) || takes action parameter then None else Some parameter
+
+-- the parameter that a name and a value give, unless it changes nothing or the action takes it
 abbrev pub unanswered : Action → List ℕ × List ℕ → Option Parameter
-unanswered action pair =
-    if bytes_eq (utf8_lossy (decode pair.1)) (codes "false") then None
-    else unless_taken action (parameter_of (utf8_lossy (decode pair.0)))
+unanswered action pair = unless_taken action (utf8_lossy (decode pair.1)) (parameter_of (utf8_lossy (decode pair.0)))
 
 -- the first of two
 abbrev pub or_else : Option Parameter → Option Parameter → Option Parameter

@@ -25,21 +25,26 @@ use Rattle.mg_face.specs.declared.action.Action.TheVariants as Does
 use Rattle.mg_face.specs.declared.parameter.Parameter.{Parameter}
 use Rattle.mg_face.specs.declared.plan.Plan as code
 use Rattle.mg_face.specs.declared.plan.Plan.TheVariants.{Says, Asks, Finds, Looks}
-use Rattle.mg_face.specs.declared.plan.Way.{Way}
-use Rattle.mg_face.specs.declared.plan.Way.TheVariants as Shown
+use Rattle.mg_face.specs.declared.edited.Change.{Change}
+use Rattle.mg_face.specs.declared.edited.Change.TheVariants as Is
 use Rattle.mg_face.specs.declared.route.Resource.{Resource}
 use Rattle.mg_face.specs.declared.route.Resource.TheVariants.{Database}
 use Rattle.mg_face.specs.declared.said.Clash.TheVariants as Clash
 use Rattle.mg_face.specs.declared.said.Said.{Said}
+use Rattle.mg_face.specs.Bulk.{partial_in}
 use Rattle.mg_face.specs.Count.{count_given}
 use Rattle.mg_face.specs.Fault.{is_object, query_fault, bulk_fault}
 use Rattle.mg_face.specs.declared.fault.Fault.TheVariants as Of
 use Rattle.mg_face.specs.Ids.{with_id, bulk_with_ids}
 use Rattle.mg_face.specs.Json.{json_of, is_json}
+use Rattle.mg_face.specs.Place.{first_fraction}
 use Rattle.mg_face.specs.Listing.{listing_asked, listing_fault, with_options}
-use Rattle.mg_face.specs.Edit.{with_given, with_revisions, value_in_query, revision_in_query, revision_in_fields, bulk_with, deletion}
+use Rattle.mg_face.specs.Edit.{with_given, with_revisions, value_in_query, revision_in_query, revision_in_fields, deletion}
 use Rattle.mg_face.specs.Routes.{segments_of, resource_of, is_nowhere, is_of_server, names, verb_of, action_of}
-use Rattle.mg_face.specs.Parameters.{asks_flag, unanswered_in}
+use Rattle.mg_face.specs.Parameters.{asks_flag, is_replica, unanswered_in}
+use Rattle.mg_face.specs.Replica.{bulk_with, replica_entry}
+use Rattle.mg_face.specs.Way as Shown
+use Rattle.mg_face.specs.Way.{Way, way_view}
 
 -- What is said at once; or the command that is executed, and how its answer is shown; or such a command that is executed only if a document
 -- with this id is found, else the answer to its `get` is shown; or the question that is asked, and how its answer is shown.
@@ -52,13 +57,13 @@ pub data Plan : Type 0 where
 -- what a plan of the code stands for
 abbrev pub plan_view : code.Plan → Plan
 plan_view (Says said) = says said
-plan_view (Asks command way) = asks (command_view command) way
-plan_view (Finds id command way) = finds (string_bytes id) (command_view command) way
-plan_view (Looks question way) = looks (question_view question) way
+plan_view (Asks command way) = asks (command_view command) (way_view way)
+plan_view (Finds id command way) = finds (string_bytes id) (command_view command) (way_view way)
+plan_view (Looks question way) = looks (question_view question) (way_view way)
 
--- why no value was read from a body: it is a JSON text, but not one whose numbers are whole, or none at all
+-- why no value was read from a body: it is a JSON text with a number that is not whole, or none at all
 abbrev pub unread : List ℕ → Plan
-unread body = if is_json body then says Said.NotWhole else says (Said.Refuses InvalidJson)
+unread body = if is_json body then says (Said.NotWhole (first_fraction body)) else says (Said.Refuses InvalidJson)
 
 -- the command of an endpoint whose body is this value
 abbrev pub command_of : Endpoint → Value → Asked
@@ -74,19 +79,28 @@ fault_of Takes.Explain v = query_fault v
 fault_of endpoint v = None
 
 -- the command, unless a member has the wrong shape
-abbrev pub unless_faulty : Option Fault → Asked → Plan
-unless_faulty None command = asks command Shown.Plain
-unless_faulty (Some fault) command = says (Said.Wrong fault)
+abbrev pub unless_faulty : Option Fault → Asked → Way → Plan
+unless_faulty None command way = asks command way
+unless_faulty (Some fault) command way = says (Said.Wrong fault)
 
 -- what an endpoint does with a body, whose value is given; `None`: none was read
 abbrev pub taken : Endpoint → List ℕ → Option Value → Plan
-taken endpoint body (Some v) = unless_faulty (fault_of endpoint v) (command_of endpoint v)
+taken endpoint body (Some v) = unless_faulty (fault_of endpoint v) (command_of endpoint v) Shown.plain
 taken endpoint body None = unread body
 
 -- a bulk of documents: those that have no id get one, counted from the number that was drawn
+abbrev pub bulk_asked : ℕ → Value → Way → Plan
+bulk_asked drawn v way = unless_faulty (bulk_fault v) (bulk (bulk_with_ids drawn v)) way
+
+-- the bulk of the documents that are executed, if others are refused by themselves; `None`: the whole body is refused
+abbrev pub partial_docs : ℕ → List ℕ → Option (Value × List (Option Value)) → Plan
+partial_docs drawn body (Some (v, refusals)) = bulk_asked drawn v (Shown.bulk refusals)
+partial_docs drawn body None = unread body
+
+-- the bulk in a body, whose value is given; `None`: none was read
 abbrev pub bulk_docs : ℕ → List ℕ → Option Value → Plan
-bulk_docs drawn body (Some v) = unless_faulty (bulk_fault v) (bulk (bulk_with_ids drawn v))
-bulk_docs drawn body None = unread body
+bulk_docs drawn body (Some v) = bulk_asked drawn v Shown.plain
+bulk_docs drawn body None = partial_docs drawn body (partial_in body)
 
 -- ids that are asked for
 abbrev pub ids_of : ℕ → Result ℕ CountFault → Plan
@@ -103,7 +117,7 @@ text_in segment = text_of (percent_decode segment)
 
 -- a document that is shown with more than its revision and its body has no tag: what is added may change while the revision stays
 abbrev pub way_of : Bool → Way
-way_of more = if more then Shown.Plain else Shown.Document
+way_of more = if more then Shown.plain else Shown.document
 
 -- the leaf of this id at a revision, or the latest one, with the path of its revision if it is asked for
 abbrev pub leaf_of : List ℕ → Bool → Bool → Option Revision → Plan
@@ -122,7 +136,7 @@ more_of query = record {
 -- the served document of this id, with what is asked for beside it
 abbrev pub served_of : List ℕ → More → Plan
 served_of id more =
-    if more.revisions || (more.revisions_info || more.deleted_conflicts) then looks (winner id more) Shown.Plain
+    if more.revisions || (more.revisions_info || more.deleted_conflicts) then looks (winner id more) Shown.plain
     else asks (get id more.conflicts) (way_of more.conflicts)
 
 -- the document of this id at the revision that a text names, if there is one; there only the path is shown beside it
@@ -142,7 +156,7 @@ read_document segments query = says (Said.Refuses Missing)
 
 -- the index of this design document, after the prefix, and of this name
 abbrev pub index_of : List ℕ → Option (List ℕ) → Option (List ℕ) → Plan
-index_of prefix (Some ddoc) (Some name) = asks (drop_index (prefix ++ ddoc) name) Shown.Plain
+index_of prefix (Some ddoc) (Some name) = asks (drop_index (prefix ++ ddoc) name) Shown.plain
 index_of prefix ddoc name = says (Said.Refuses Missing)
 
 -- the index of `/{db}/_index/{ddoc}/json/{name}`
@@ -157,7 +171,7 @@ drop_design_plan segments = says (Said.Refuses Missing)
 
 -- the design document of this name, after `_design/`
 abbrev pub design_of : Option (List ℕ) → Plan
-design_of (Some name) = looks (design (codes "_design/" ++ name)) Shown.Plain
+design_of (Some name) = looks (design (codes "_design/" ++ name)) Shown.plain
 design_of None = says (Said.Refuses Missing)
 
 -- the design document whose name the third segment is
@@ -167,28 +181,33 @@ read_design segments = says (Said.Refuses Missing)
 
 -- ---- one edit
 
+-- the entry that is shown where the answer lists none: that of a replica's edit
+abbrev pub entry_of : Bool → Value → Option Value
+entry_of replica document = if replica then replica_entry document else None
+
 -- the edit of a document that has its id and its revision; `None`: two revisions disagree
-abbrev pub edit_of : Option Value → Way → Plan
-edit_of (Some document) way =
-    if is_some (member_of (codes "_attachments") document) then says Said.Attached else asks (bulk (bulk_with document)) way
-edit_of None way = says (Said.Clashes Clash.Revisions)
+abbrev pub edit_of : Bool → Option Value → Change → Plan
+edit_of replica (Some document) change =
+    if is_some (member_of (codes "_attachments") document) then says Said.Attached
+    else asks (bulk (bulk_with replica document)) (Shown.edit change (entry_of replica document))
+edit_of replica None change = says (Said.Clashes Clash.Revisions)
 
 -- the edit of a document that has its id, at the revisions that the query and the fields name; `None`: two ids disagree
-abbrev pub edit_at : Option Value → List ℕ → List Header → Way → Plan
-edit_at (Some document) query fields way =
-    edit_of (with_revisions (revision_in_query query) (revision_in_fields fields) document) way
-edit_at None query fields way = says (Said.Clashes Clash.Ids)
+abbrev pub edit_at : Option Value → List ℕ → List Header → Change → Plan
+edit_at (Some document) query fields change =
+    edit_of (is_replica query) (with_revisions (revision_in_query query) (revision_in_fields fields) document) change
+edit_at None query fields change = says (Said.Clashes Clash.Ids)
 
 -- the edit of the document in a body, which gets an id if it has none; `None`: no value was read from the body
 abbrev pub post_document : ℕ → List ℕ → Option Value → List ℕ → List Header → Plan
-post_document drawn body (Some document) query fields = edit_at (Some (with_id drawn document)) query fields Shown.Written
+post_document drawn body (Some document) query fields = edit_at (Some (with_id drawn document)) query fields Is.Written
 post_document drawn body None query fields = unread body
 
 -- the edit of the document in a body, at this id
 abbrev pub put_at : Option (List ℕ) → List ℕ → Option Value → List ℕ → List Header → Plan
 put_at None body v query fields = says (Said.Refuses Missing)
 put_at (Some id) body None query fields = unread body
-put_at (Some id) body (Some document) query fields = edit_at (with_given (codes "_id") (Some id) document) query fields Shown.Written
+put_at (Some id) body (Some document) query fields = edit_at (with_given (codes "_id") (Some id) document) query fields Is.Written
 
 -- the edit of the document in a body, whose id the second segment is
 abbrev pub put_document : List (List ℕ) → List ℕ → Option Value → List ℕ → List Header → Plan
@@ -202,7 +221,7 @@ if_found id plan = plan
 
 -- the deletion of the document of this id, which has to be there
 abbrev pub delete_at : Option (List ℕ) → List ℕ → List Header → Plan
-delete_at (Some id) query fields = if_found id (edit_at (with_given (codes "_id") (Some id) deletion) query fields Shown.Deleted)
+delete_at (Some id) query fields = if_found id (edit_at (with_given (codes "_id") (Some id) deletion) query fields Is.Deleted)
 delete_at None query fields = says (Said.Refuses Missing)
 
 -- the deletion of the document whose id the second segment is
@@ -214,7 +233,7 @@ delete_document segments query fields = says (Said.Refuses Missing)
 
 -- the question, unless an option has the wrong shape
 abbrev pub unless_wrong : Option Fault → Question → Plan
-unless_wrong None question = looks question Shown.Plain
+unless_wrong None question = looks question Shown.plain
 unless_wrong (Some fault) question = says (Said.Wrong fault)
 
 -- the rows that options ask for, unless one has the wrong shape
@@ -238,7 +257,7 @@ asked_for drawn Does.Welcome segments query fields body = says Said.Welcome
 asked_for drawn Does.Up segments query fields body = says Said.Up
 asked_for drawn Does.ListDatabases segments query fields body = says Said.Databases
 asked_for drawn Does.MakeIds segments query fields body = ids_of drawn (count_given (value_in_query (codes "count") query))
-asked_for drawn Does.ReadDatabase segments query fields body = looks database Shown.Plain
+asked_for drawn Does.ReadDatabase segments query fields body = looks database Shown.plain
 asked_for drawn Does.CreateDatabase segments query fields body = says Said.DatabaseExists
 asked_for drawn Does.DeleteDatabase segments query fields body = says Said.OneDatabase
 asked_for drawn Does.ListDocuments segments query fields body = listed (with_options query (object no_members))
@@ -246,7 +265,7 @@ asked_for drawn Does.ListDocumentsBy segments query fields body = listed_by quer
 asked_for drawn Does.Commit segments query fields body = says Said.Committed
 asked_for drawn Does.WriteBulk segments query fields body = bulk_docs drawn body (json_of body)
 asked_for drawn (Does.Takes endpoint) segments query fields body = taken endpoint body (json_of body)
-asked_for drawn Does.ListIndexes segments query fields body = asks list_indexes Shown.Plain
+asked_for drawn Does.ListIndexes segments query fields body = asks list_indexes Shown.plain
 asked_for drawn Does.DropIndex segments query fields body = drop_plan segments
 asked_for drawn Does.DropDesignIndex segments query fields body = drop_design_plan segments
 asked_for drawn Does.ReadDocument segments query fields body = read_document segments query

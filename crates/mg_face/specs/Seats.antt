@@ -9,11 +9,11 @@ use Rattle.mg_machine.specs.Machine.{Commit, world_of, after_write, are_full}
 use Rattle.mg_wire.specs.declared.request.Request.{Request}
 use Rattle.mg_wire.specs.declared.response.Response.{Response}
 use Rattle.mg_wire.specs.Request.{fields_in}
-use Rattle.mg_face.specs.declared.plan.Way.{Way}
 use Rattle.mg_face.specs.Answer.{IsAnswered, answer_of_said, passed}
 use Rattle.mg_face.specs.Face.{is_found}
 use Rattle.mg_face.specs.Plan.{Plan, says, asks, finds, looks, plan_of}
 use Rattle.mg_face.specs.Shown.{shown}
+use Rattle.mg_face.specs.Way.{Way}
 
 -- the commits after a command that the seat of this number executed after these commits
 abbrev pub commits_after : List ℕ → List Commit → ℕ → Asked → List Commit

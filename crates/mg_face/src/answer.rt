@@ -10,8 +10,10 @@ use crate::count::CountFault;
 use crate::fault::Fault;
 use crate::ids::id_list;
 use crate::parameter::Parameter;
+use crate::place::not_whole_body;
 use crate::route::Resource;
 use crate::said::{Clash, Said};
+use httpdate::HttpDate;
 use mg_engine::Refusal;
 use mg_value::{Json, NoMemory, write};
 use mg_wire::{Response, Status};
@@ -32,9 +34,6 @@ const LOST: &str =
 const COMMITTED: &str = "{\"instance_start_time\":\"0\",\"ok\":true}\n";
 
 const BAD_REVISION: &str = "{\"error\":\"bad_request\",\"reason\":\"Invalid rev format\"}\n";
-
-const NOT_WHOLE: &str =
-    "{\"error\":\"bad_request\",\"reason\":\"numbers are whole here: a number has a point, an exponent or more than 64 bits.\"}\n";
 
 const ATTACHED: &str =
     "{\"error\":\"doc_validation\",\"reason\":\"_attachments: this server keeps no attachments.\"}\n";
@@ -60,13 +59,14 @@ pub(crate) fn add_field(response: &mut Response, name: &[u8], value: &[u8]) -> R
     }
 }
 
-/// Gives a blank response the type of its body.
+/// Gives a blank response its date and the type of its body.
 ///
 /// Errors: out of memory.
-pub(crate) fn begin(response: &mut Response) -> Result<(), NoMemory>
+pub(crate) fn begin(response: &mut Response, date: Option<HttpDate>) -> Result<(), NoMemory>
     requires { IsBlank response.old }
     ensures { OnOk result (IsBegun response.new) }
 {
+    response.date = date;
     add_field(response, b"content-type", b"application/json")
 }
 
@@ -311,7 +311,11 @@ pub(crate) fn say(
         Said::Clashes(clash) => say_clash(alloc, response, clash),
         Said::BadRevision => fill_text(alloc, response, Status::BadRequest, BAD_REVISION),
         Said::Wrong(fault) => fill_text(alloc, response, Status::BadRequest, wrong_body(fault)),
-        Said::NotWhole => fill_text(alloc, response, Status::BadRequest, NOT_WHOLE),
+        Said::NotWhole(found) => fill_made(
+            response,
+            Status::BadRequest,
+            not_whole_body(alloc, &found),
+        ),
         Said::Attached => fill_text(alloc, response, Status::BadRequest, ATTACHED),
         Said::NoDesign => fill_text(alloc, response, Status::Forbidden, NO_DESIGN),
         Said::Refuses(refusal) => {

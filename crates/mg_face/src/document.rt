@@ -7,19 +7,22 @@ ghost use Rattle.mg_wire.specs.Request.{field_parts};
 ghost use Rattle.mg_face.specs.Json.{json_of};
 ghost use Rattle.mg_face.specs.Edit.{with_given, with_revisions, revision_in_query, revision_in_fields};
 ghost use Rattle.mg_revtree.specs.Revision.{revision_of};
-ghost use Rattle.mg_face.specs.Plan.{plan_view, way_of, leaf_of, more_of, served_of, document_at, document_of, read_document, edit_of, edit_at, post_document, put_at, put_document, if_found, delete_at, delete_document};
+ghost use Rattle.mg_face.specs.Plan.{plan_view, way_of, leaf_of, more_of, served_of, document_at, document_of, read_document, entry_of, edit_of, edit_at, post_document, put_at, put_document, if_found, delete_at, delete_document};
+ghost use Rattle.mg_face.specs.Way.{way_view};
 
-use crate::edit::{bulk_with, deletion, value_in_query, with_given, with_revisions};
+use crate::edit::{deletion, value_in_query, with_given, with_revisions};
+use crate::edited::Change;
 use crate::endpoint::unread;
 use crate::ids::with_id;
-use crate::parameter::asks_flag;
+use crate::parameter::{asks_flag, is_replica};
 use crate::plan::{Plan, Way};
 use crate::read::read_tree;
+use crate::replica::{bulk_with, replica_entry};
 use crate::said::{Clash, Said};
 use crate::text::text_in;
 use mg_engine::{Command, More, Question, Refusal};
 use mg_revtree::{Rev, RevError};
-use mg_value::{Json, NoMemory};
+use mg_value::{Json, NoMemory, ReadBuffer};
 use mg_wire::Field;
 use std::alloc::Global;
 
@@ -38,7 +41,7 @@ fn read_revision(alloc: Global, text: &str) -> Result<Option<Rev>, NoMemory>
 
 /// Returns how a document is shown: with a tag, unless more is shown than its revision and its body.
 fn way_of(more: bool) -> Way
-    ensures { result ≡ way_of more }
+    ensures { way_view result ≡ way_of more }
 {
     if more { Way::Plain } else { Way::Document }
 }
@@ -143,19 +146,38 @@ pub(crate) fn read_document(
     }
 }
 
+/// Returns the entry that is shown where the answer lists none: that of a replica's edit.
+///
+/// Errors: out of memory.
+fn entry_of(alloc: Global, replica: bool, document: &Json) -> Result<Option<Json>, NoMemory>
+    ensures { IfOk result (λ o. option_map view o ≡ entry_of replica (view document.now)) }
+{
+    if replica {
+        replica_entry(alloc, document)
+    } else {
+        Ok(None)
+    }
+}
+
 /// Returns the edit of a document that has its id and its revision.
 ///
 /// Errors: out of memory.
-fn edit_of(alloc: Global, document: Option<Json>, way: Way) -> Result<Plan, NoMemory>
-    ensures { IfOk result (λ p. plan_view p ≡ edit_of (option_map view document) way) }
+fn edit_of(
+    alloc: Global,
+    replica: bool,
+    document: Option<Json>,
+    change: Change,
+) -> Result<Plan, NoMemory>
+    ensures { IfOk result (λ p. plan_view p ≡ edit_of replica (option_map view document) change) }
 {
     match document {
         Some(document) => {
             if document.member("_attachments").is_some() {
                 return Ok(Plan::Says(Said::Attached));
             }
-            let bulk = bulk_with(alloc, document)?;
-            Ok(Plan::Asks(Command::Bulk(bulk), way))
+            let entry = entry_of(alloc, replica, &document)?;
+            let bulk = bulk_with(alloc, replica, document)?;
+            Ok(Plan::Asks(Command::Bulk(bulk), Way::Edit(change, entry)))
         }
         None => Ok(Plan::Says(Said::Clashes(Clash::Revisions))),
     }
@@ -169,15 +191,16 @@ fn edit_at(
     document: Option<Json>,
     query: &[u8],
     fields: &[Field],
-    way: Way,
+    change: Change,
 ) -> Result<Plan, NoMemory>
     ensures { IfOk result (λ p. plan_view p
-        ≡ edit_at (option_map view document) query.now (map field_parts fields.now) way) }
+        ≡ edit_at (option_map view document) query.now (map field_parts fields.now) change) }
 {
     match document {
         Some(document) => {
+            let replica = is_replica(alloc, query)?;
             let document = with_revisions(alloc, query, fields, document)?;
-            edit_of(alloc, document, way)
+            edit_of(alloc, replica, document, change)
         }
         None => Ok(Plan::Says(Said::Clashes(Clash::Ids))),
     }
@@ -192,16 +215,17 @@ pub(crate) fn post_document(
     query: &[u8],
     fields: &[Field],
     body: &[u8],
+    buffer: &mut ReadBuffer,
 ) -> Result<Plan, NoMemory>
     ensures { IfOk result (λ p. plan_view p
         ≡ post_document drawn body.now (json_of body.now) query.now (map field_parts fields.now)) }
 {
-    match read_tree(alloc, body)? {
+    match read_tree(alloc, body, buffer)? {
         Some(document) => {
             let document = with_id(alloc, drawn, document)?;
-            edit_at(alloc, Some(document), query, fields, Way::Written)
+            edit_at(alloc, Some(document), query, fields, Change::Written)
         }
-        None => unread(alloc, body),
+        None => unread(alloc, body, buffer),
     }
 }
 
@@ -214,6 +238,7 @@ fn put_at(
     query: &[u8],
     fields: &[Field],
     body: &[u8],
+    buffer: &mut ReadBuffer,
 ) -> Result<Plan, NoMemory>
     ensures { IfOk result
         (λ p. plan_view p
@@ -223,12 +248,12 @@ fn put_at(
     let Some(id) = id else {
         return Ok(Plan::Says(Said::Refuses(Refusal::Missing)));
     };
-    match read_tree(alloc, body)? {
+    match read_tree(alloc, body, buffer)? {
         Some(document) => {
             let document = with_given(alloc, "_id", Some(id), document)?;
-            edit_at(alloc, document, query, fields, Way::Written)
+            edit_at(alloc, document, query, fields, Change::Written)
         }
-        None => unread(alloc, body),
+        None => unread(alloc, body, buffer),
     }
 }
 
@@ -241,6 +266,7 @@ pub(crate) fn put_document(
     query: &[u8],
     fields: &[Field],
     body: &[u8],
+    buffer: &mut ReadBuffer,
 ) -> Result<Plan, NoMemory>
     ensures { IfOk result
         (λ p. plan_view p
@@ -250,7 +276,7 @@ pub(crate) fn put_document(
     match segments {
         [_, id] => {
             let id = text_in(alloc, *id)?;
-            put_at(alloc, id, query, fields, body)
+            put_at(alloc, id, query, fields, body, buffer)
         }
         _ => Ok(Plan::Says(Said::Refuses(Refusal::Missing))),
     }
@@ -284,7 +310,7 @@ fn delete_at(
     let named = String::from_str(alloc, id.as_str())?;
     let document = deletion(alloc)?;
     let document = with_given(alloc, "_id", Some(named), document)?;
-    let plan = edit_at(alloc, document, query, fields, Way::Deleted)?;
+    let plan = edit_at(alloc, document, query, fields, Change::Deleted)?;
     Ok(if_found(id, plan))
 }
 

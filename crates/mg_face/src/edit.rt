@@ -6,11 +6,10 @@ ghost use Rattle.std.specs.Str.Lossy.{utf8_lossy};
 ghost use Rattle.form_urlencoded.specs.Form.{decode};
 ghost use Rattle.mg_value.specs.View.{view};
 ghost use Rattle.mg_wire.specs.Request.{field_parts};
-ghost use Rattle.mg_face.specs.Edit.{value_in_query, revision_in_query, unquoted, field_of, revision_in_fields, agrees, with_given, with_revisions, bulk_with, deletion};
+ghost use Rattle.mg_face.specs.Edit.{value_in_query, revision_in_query, unquoted, field_of, revision_in_fields, agrees, with_given, with_revisions, deletion};
 
 use form_urlencoded::{decode, raw_pairs};
 use http1::text::eq_ignore_case;
-use mg_packed::Packed;
 use mg_value::{Json, NoMemory};
 use mg_wire::Field;
 use std::alloc::{AllocError, Global};
@@ -141,19 +140,6 @@ pub(crate) fn with_revisions(
         Some(document) => with_given(alloc, "_rev", tag, document),
         None => Ok(None),
     }
-}
-
-/// Makes a bulk of one document.
-///
-/// Errors: out of memory.
-pub(crate) fn bulk_with(alloc: Global, document: Json) -> Result<Packed, NoMemory>
-    ensures { IfOk result (λ packed. packed ≡ bulk_with (view document)) }
-{
-    let mut documents = Vec::new(alloc);
-    documents.push(document)?;
-    let mut body = Json::empty_object(alloc);
-    body.insert(alloc, "docs", Json::List(documents))?;
-    Packed::of(alloc, &body)
 }
 
 /// Makes the document of a deletion.

@@ -13,7 +13,7 @@ ghost use Rattle.mg_face.specs.Answer.{IsAnswered, IsBegun, tag_of, if_short};
 
 use crate::answer::{MAX_VALUE, add_field, add_tag, fill, status_of};
 use crate::read::{read_tree, text_of_line};
-use mg_value::{Json, NoMemory, write};
+use mg_value::{Json, NoMemory, ReadBuffer, write};
 use mg_wire::{Response, Status};
 use percent_encoding::{AsciiSet, NON_ALPHANUMERIC, ascii_set, percent_encode};
 use std::alloc::Global;
@@ -44,39 +44,48 @@ fn text_at<'v>(value: &'v Json, name: &str) -> Option<&'v str>
     }
 }
 
-/// Returns the only one of these values.
-fn only_of(values: Vec<Json>) -> Option<Json>
-    ensures { option_map view result ≡ only_item (list (items_view values.items)) }
+/// Returns the only one of these values; if there is none, the other one.
+fn only_of(otherwise: Option<Json>, values: Vec<Json>) -> Option<Json>
+    ensures { option_map view result ≡ only_item (option_map view otherwise) (list (items_view values.items)) }
 {
     let mut values = values;
-    if values.len() == 1 {
+    if values.len() == 0 {
+        otherwise
+    } else if values.len() == 1 {
         Some(values.remove(0))
     } else {
         None
     }
 }
 
-/// Returns the only item of a list.
-fn only_item(value: Json) -> Option<Json>
-    ensures { option_map view result ≡ only_item (view value) }
+/// Returns the only item of a list; of one without items, the other value.
+fn only_item(otherwise: Option<Json>, value: Json) -> Option<Json>
+    ensures { option_map view result ≡ only_item (option_map view otherwise) (view value) }
 {
     match value {
-        Json::List(values) => only_of(values),
+        Json::List(values) => only_of(otherwise, values),
         _ => None,
     }
 }
 
-/// Returns the entry of the only edit of a bulk that was executed.
+/// Returns the entry of the only edit of a bulk that was executed; the other one, if the answer lists none.
 ///
 /// Errors: out of memory.
-fn entry_in(alloc: Global, status: u16, body: &[u8]) -> Result<Option<Json>, NoMemory>
-    ensures { IfOk result (λ o. option_map view o ≡ entry_in (record { status = status; body = body.now })) }
+fn entry_in(
+    alloc: Global,
+    otherwise: Option<Json>,
+    status: u16,
+    body: &[u8],
+    buffer: &mut ReadBuffer,
+) -> Result<Option<Json>, NoMemory>
+    ensures { IfOk result (λ o. option_map view o
+        ≡ entry_in (option_map view otherwise) (record { status = status; body = body.now })) }
 {
     if status != 201 {
         return Ok(None);
     }
-    match read_tree(alloc, text_of_line(body))? {
-        Some(value) => Ok(only_item(value)),
+    match read_tree(alloc, text_of_line(body), buffer)? {
+        Some(value) => Ok(only_item(otherwise, value)),
         None => Ok(None),
     }
 }
@@ -84,7 +93,7 @@ fn entry_in(alloc: Global, status: u16, body: &[u8]) -> Result<Option<Json>, NoM
 /// Returns the compact text of a value and a line feed.
 ///
 /// Errors: out of memory.
-fn line_of(alloc: Global, value: &Json) -> Result<Vec<u8>, NoMemory>
+pub(crate) fn line_of(alloc: Global, value: &Json) -> Result<Vec<u8>, NoMemory>
     ensures { IfOk result (λ v. v.items ≡ line_of (view value.now)) }
 {
     let mut body = write(alloc, value)?;
@@ -132,7 +141,7 @@ fn add_location(
 /// Copies the text that an object has at a name.
 ///
 /// Errors: out of memory.
-fn copy_at(alloc: Global, value: &Json, name: &str) -> Result<Option<String>, NoMemory>
+pub(crate) fn copy_at(alloc: Global, value: &Json, name: &str) -> Result<Option<String>, NoMemory>
     ensures { IfOk result (λ o. option_map string_bytes o ≡ string_at name.now (view value.now)) }
 {
     match text_at(value, name) {
@@ -202,7 +211,7 @@ fn show_entry(
     }
 }
 
-/// Shows the answer to a bulk of one edit as that to the edit.
+/// Shows the answer to a bulk of one edit as that to the edit, which has the other entry where the bulk lists none.
 ///
 /// Errors: out of memory.
 pub(crate) fn show_edit(
@@ -210,14 +219,17 @@ pub(crate) fn show_edit(
     db: &str,
     response: &mut Response,
     change: Change,
+    otherwise: Option<Json>,
     status: u16,
     body: Vec<u8>,
+    buffer: &mut ReadBuffer,
 ) -> Result<(), NoMemory>
     requires { IsBegun response.old }
     ensures { OnOk result
-        (IsAnswered (edited db.now change (record { status = status; body = body.items })) response.new) }
+        (IsAnswered (edited db.now change (option_map view otherwise) (record { status = status; body = body.items }))
+        response.new) }
 {
-    match entry_in(alloc, status, body.as_slice())? {
+    match entry_in(alloc, otherwise, status, body.as_slice(), buffer)? {
         Some(entry) => show_entry(alloc, db, response, change, entry),
         None => {
             fill(response, status_of(status), body);

@@ -9,8 +9,10 @@ ghost use Rattle.mg_engine.specs.QuestionView.{question_view};
 ghost use Rattle.mg_engine.specs.View.{command_view, reply_view};
 ghost use Rattle.mg_face.specs.Face.{Carries, GoesOn, IsFound, IsShown, Serves};
 ghost use Rattle.mg_face.specs.Plan.{plan_of, plan_view};
+ghost use Rattle.mg_face.specs.Way.{way_view};
 
 use crate::answer::{begin, fill, lack, say, say_lost, status_of};
+use crate::clock::date_of;
 use crate::ids::draw;
 use crate::plan::{Plan, Way, plan_of};
 use crate::said::Said;
@@ -19,11 +21,13 @@ use crate::store::Store;
 use mg_engine::{Command, Question, Reply};
 use mg_live::Database;
 use mg_server::{Handover, Learner};
+use mg_value::ReadBuffer;
 use mg_wire::{Field, Request, Response, Service};
 use rand_chacha::ChaCha20Rng;
 use rand_core::SeedableRng;
 use std::alloc::Global;
 use std::marker::{Model, PhantomData};
+use std::rt::HostRuntime;
 use std::sync::Wait;
 use std::thread::Threads;
 
@@ -35,6 +39,10 @@ pub struct Face<D: Database, S: Drop> {
     store: S,
     /// Draws a number for each request, from which its ids are counted.
     source: ChaCha20Rng,
+    /// Memory for reading JSON, kept from request to request.
+    buffer: ReadBuffer,
+    /// Says the date of each response.
+    clock: HostRuntime,
     of: PhantomData<D>,
 }
 
@@ -52,9 +60,16 @@ impl<D: Database, S: Drop> Model for Face<D, S> {
 }
 
 impl<D: Database, S: Store + Drop> Face<D, S> {
-    /// Makes the face of a store; `db` is the name of the database. The seed is a secret of the system's random source, and no other face
-    /// gets it, so that ids of two faces are the same only by chance. Takes no memory.
-    pub fn new(alloc: Global, db: String, seed: [u8; 32], store: S) -> Face<D, S>
+    /// Makes the face of a store; `db` is the name of the database, and the clock is the system's. The seed is a secret of the system's random
+    /// source, and no other face gets it, so that ids of two faces are the same only by chance. Allocates nothing. From request to request it
+    /// keeps a `ReadBuffer`: a table of 16 KiB in itself, and as many bytes as the longest text that it read, less than 128 KiB.
+    pub fn new(
+        alloc: Global,
+        clock: HostRuntime,
+        db: String,
+        seed: [u8; 32],
+        store: S,
+    ) -> Face<D, S>
         requires { string_bytes db ≡ D.db }
         ensures { result ≡ store }
     {
@@ -63,6 +78,8 @@ impl<D: Database, S: Store + Drop> Face<D, S> {
             db,
             store,
             source: ChaCha20Rng::from_seed(seed),
+            buffer: ReadBuffer::new(alloc),
+            clock,
             of: PhantomData,
         }
     }
@@ -78,10 +95,18 @@ impl<D: Database, S: Store + Drop> Face<D, S> {
     )
         requires sync { IsSync H.row }
         requires begun { IsBegun response.old }
-        ensures { IsShown D.db (map field_parts fields.now) (S.answers self.old (command_view command)) way response.new self.new }
+        ensures { IsShown D.db (map field_parts fields.now) (S.answers self.old (command_view command)) (way_view way) response.new self.new }
     {
         let reply = self.store.ask(rt, self.alloc, command);
-        show(self.alloc, self.db.as_str(), fields, response, way, reply);
+        show(
+            self.alloc,
+            self.db.as_str(),
+            fields,
+            response,
+            way,
+            reply,
+            &mut self.buffer,
+        );
     }
 
     /// Executes the command after the reply to a `Get` that found its document; else shows this reply.
@@ -96,7 +121,7 @@ impl<D: Database, S: Store + Drop> Face<D, S> {
     )
         requires sync { IsSync H.row }
         requires begun { IsBegun response.old }
-        ensures { GoesOn S.answers D.db (map field_parts fields.now) (reply_view reply) (command_view command) way
+        ensures { GoesOn S.answers D.db (map field_parts fields.now) (reply_view reply) (command_view command) (way_view way)
             self.old response.new self.new }
     {
         match reply {
@@ -127,7 +152,7 @@ impl<D: Database, S: Store + Drop> Face<D, S> {
     )
         requires sync { IsSync H.row }
         requires begun { IsBegun response.old }
-        ensures { IsFound S.answers D.db (map field_parts fields.now) (string_bytes id) (command_view command) way
+        ensures { IsFound S.answers D.db (map field_parts fields.now) (string_bytes id) (command_view command) (way_view way)
             self.old response.new self.new }
     {
         let get = Command::Get {
@@ -149,10 +174,18 @@ impl<D: Database, S: Store + Drop> Face<D, S> {
     )
         requires sync { IsSync H.row }
         requires begun { IsBegun response.old }
-        ensures { IsShown D.db (map field_parts fields.now) (S.sees self.old (question_view question.now)) way response.new self.new }
+        ensures { IsShown D.db (map field_parts fields.now) (S.sees self.old (question_view question.now)) (way_view way) response.new self.new }
     {
         let reply = self.store.look(rt, self.alloc, question);
-        show(self.alloc, self.db.as_str(), fields, response, way, reply);
+        show(
+            self.alloc,
+            self.db.as_str(),
+            fields,
+            response,
+            way,
+            reply,
+            &mut self.buffer,
+        );
     }
 
     /// Says what is said at once, in a response that has begun; not that writes are kept, once the store is lost.
@@ -203,11 +236,17 @@ impl<D: Database, S: Store + Drop> Face<D, S> {
         ensures { Carries S.answers S.sees D.db (fields_in request.now) (plan_of D.db drawn request.now)
             self.old response.new self.new }
     {
-        if begin(response).is_err() {
+        if begin(response, date_of(&self.clock)).is_err() {
             lack(self.alloc, response);
             return;
         }
-        match plan_of(self.alloc, self.db.as_str(), drawn, request) {
+        match plan_of(
+            self.alloc,
+            self.db.as_str(),
+            drawn,
+            request,
+            &mut self.buffer,
+        ) {
             Ok(plan) => self.carry_out(rt, request.fields.as_slice(), plan, response),
             Err(_) => lack(self.alloc, response),
         }

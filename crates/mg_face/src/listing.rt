@@ -16,7 +16,7 @@ use crate::plan::{Plan, Way};
 use crate::read::read_tree;
 use crate::said::Said;
 use mg_engine::{Listing, Question};
-use mg_value::{Json, NoMemory};
+use mg_value::{Json, NoMemory, ReadBuffer};
 use std::alloc::Global;
 
 /// Copies the text that an option is.
@@ -163,34 +163,48 @@ fn listed(alloc: Global, options: &Json) -> Result<Plan, NoMemory>
 /// Returns what the options of a query ask for.
 ///
 /// Errors: out of memory.
-pub(crate) fn list_by_query(alloc: Global, query: &[u8]) -> Result<Plan, NoMemory>
+pub(crate) fn list_by_query(
+    alloc: Global,
+    query: &[u8],
+    buffer: &mut ReadBuffer,
+) -> Result<Plan, NoMemory>
     ensures { IfOk result (λ p. plan_view p ≡ listed (with_options query.now (object no_members))) }
 {
-    let options = with_options(alloc, query, Json::empty_object(alloc))?;
+    let options = with_options(alloc, query, Json::empty_object(alloc), buffer)?;
     listed(alloc, &options)
 }
 
 /// Returns what the options of a query and those of a body, a value, ask for.
 ///
 /// Errors: out of memory.
-fn list_by_options(alloc: Global, query: &[u8], options: Json) -> Result<Plan, NoMemory>
+fn list_by_options(
+    alloc: Global,
+    query: &[u8],
+    options: Json,
+    buffer: &mut ReadBuffer,
+) -> Result<Plan, NoMemory>
     ensures { IfOk result (λ p. plan_view p ≡ listed_with query.now (view options)) }
 {
     if !is_object(Some(&options)) {
         return Ok(Plan::Says(Said::Wrong(Fault::Options)));
     }
-    let options = with_options(alloc, query, options)?;
+    let options = with_options(alloc, query, options, buffer)?;
     listed(alloc, &options)
 }
 
 /// Returns what the options of a query and of a body ask for.
 ///
 /// Errors: out of memory.
-pub(crate) fn list_by_body(alloc: Global, query: &[u8], body: &[u8]) -> Result<Plan, NoMemory>
+pub(crate) fn list_by_body(
+    alloc: Global,
+    query: &[u8],
+    body: &[u8],
+    buffer: &mut ReadBuffer,
+) -> Result<Plan, NoMemory>
     ensures { IfOk result (λ p. plan_view p ≡ listed_by query.now body.now (json_of body.now)) }
 {
-    match read_tree(alloc, body)? {
-        Some(options) => list_by_options(alloc, query, options),
-        None => unread(alloc, body),
+    match read_tree(alloc, body, buffer)? {
+        Some(options) => list_by_options(alloc, query, options, buffer),
+        None => unread(alloc, body, buffer),
     }
 }

@@ -10,16 +10,16 @@ ghost use Rattle.mg_face.specs.Listing.{option_value, with_value, with_spelled, 
 use crate::edit::value_in_query;
 use crate::fault::{Fault, is_count, is_flag};
 use crate::read::read_tree;
-use mg_value::{Json, NoMemory};
+use mg_value::{Json, NoMemory, ReadBuffer};
 use std::alloc::Global;
 
 /// Reads a value of a query as a JSON text; null if it is none.
 ///
 /// Errors: out of memory.
-fn option_value(alloc: Global, text: &[u8]) -> Result<Json, NoMemory>
+fn option_value(alloc: Global, text: &[u8], buffer: &mut ReadBuffer) -> Result<Json, NoMemory>
     ensures { IfOk result (λ v. view v ≡ option_value text.now) }
 {
-    match read_tree(alloc, text)? {
+    match read_tree(alloc, text, buffer)? {
         Some(value) => Ok(value),
         None => Ok(Json::Null),
     }
@@ -33,12 +33,13 @@ fn with_value(
     name: &str,
     given: Option<String>,
     options: Json,
+    buffer: &mut ReadBuffer,
 ) -> Result<Json, NoMemory>
     ensures { IfOk result (λ v. view v ≡ with_value name.now (option_map string_bytes given) (view options)) }
 {
     match given {
         Some(text) => {
-            let value = option_value(alloc, text.as_bytes())?;
+            let value = option_value(alloc, text.as_bytes(), buffer)?;
             let mut options = options;
             options.insert(alloc, name, value)?;
             Ok(options)
@@ -56,40 +57,52 @@ fn with_spelled(
     spelling: &str,
     name: &str,
     options: Json,
+    buffer: &mut ReadBuffer,
 ) -> Result<Json, NoMemory>
     ensures { IfOk result (λ v. view v ≡ with_spelled query.now spelling.now name.now (view options)) }
 {
     let given = value_in_query(alloc, query, spelling)?;
-    with_value(alloc, name, given, options)
+    with_value(alloc, name, given, options, buffer)
 }
 
 /// Gives the options the one of this name, if the query has it.
 ///
 /// Errors: out of memory.
-fn with_option(alloc: Global, query: &[u8], name: &str, options: Json) -> Result<Json, NoMemory>
+fn with_option(
+    alloc: Global,
+    query: &[u8],
+    name: &str,
+    options: Json,
+    buffer: &mut ReadBuffer,
+) -> Result<Json, NoMemory>
     ensures { IfOk result (λ v. view v ≡ with_option query.now name.now (view options)) }
 {
-    with_spelled(alloc, query, name, name, options)
+    with_spelled(alloc, query, name, name, options, buffer)
 }
 
 /// Gives the options those of a query.
 ///
 /// Errors: out of memory.
-pub(crate) fn with_options(alloc: Global, query: &[u8], options: Json) -> Result<Json, NoMemory>
+pub(crate) fn with_options(
+    alloc: Global,
+    query: &[u8],
+    options: Json,
+    buffer: &mut ReadBuffer,
+) -> Result<Json, NoMemory>
     ensures { IfOk result (λ v. view v ≡ with_options query.now (view options)) }
 {
-    let options = with_option(alloc, query, "key", options)?;
-    let options = with_option(alloc, query, "keys", options)?;
-    let options = with_option(alloc, query, "startkey", options)?;
-    let options = with_spelled(alloc, query, "start_key", "startkey", options)?;
-    let options = with_option(alloc, query, "endkey", options)?;
-    let options = with_spelled(alloc, query, "end_key", "endkey", options)?;
-    let options = with_option(alloc, query, "conflicts", options)?;
-    let options = with_option(alloc, query, "descending", options)?;
-    let options = with_option(alloc, query, "include_docs", options)?;
-    let options = with_option(alloc, query, "inclusive_end", options)?;
-    let options = with_option(alloc, query, "limit", options)?;
-    let options = with_option(alloc, query, "skip", options)?;
+    let options = with_option(alloc, query, "key", options, buffer)?;
+    let options = with_option(alloc, query, "keys", options, buffer)?;
+    let options = with_option(alloc, query, "startkey", options, buffer)?;
+    let options = with_spelled(alloc, query, "start_key", "startkey", options, buffer)?;
+    let options = with_option(alloc, query, "endkey", options, buffer)?;
+    let options = with_spelled(alloc, query, "end_key", "endkey", options, buffer)?;
+    let options = with_option(alloc, query, "conflicts", options, buffer)?;
+    let options = with_option(alloc, query, "descending", options, buffer)?;
+    let options = with_option(alloc, query, "include_docs", options, buffer)?;
+    let options = with_option(alloc, query, "inclusive_end", options, buffer)?;
+    let options = with_option(alloc, query, "limit", options, buffer)?;
+    let options = with_option(alloc, query, "skip", options, buffer)?;
     Ok(options)
 }
 

@@ -1,6 +1,6 @@
 //! The parameters of a query that ask for more of a document, and those that are not answered.
 ghost use Rattle.std.specs.Prelude.{◌≡◌, IfOk};
-ghost use Rattle.mg_face.specs.Parameters.{asks_flag, name_of, is_of_read, is_revision, sets, if_named, parameter_of, takes, unless_taken, unanswered, unanswered_in};
+ghost use Rattle.mg_face.specs.Parameters.{asks_flag, default_of, gives, has_pair, is_new_edits, is_replica, name_of, is_of_read, is_revision, if_named, parameter_of, takes, unless_taken, unanswered, unanswered_in};
 
 use crate::action::Action;
 use form_urlencoded::{decode, raw_pairs};
@@ -32,6 +32,25 @@ impl Parameter {
         match self {
             Parameter::Revision => true,
             _ => false,
+        }
+    }
+
+    fn is_new_edits(self) -> bool
+        ensures { result ≡ is_new_edits self }
+    {
+        match self {
+            Parameter::NewEdits => true,
+            _ => false,
+        }
+    }
+
+    /// Returns the value with which it changes nothing.
+    fn default(self) -> &'static str
+        ensures { result.now ≡ default_of self }
+    {
+        match self {
+            Parameter::NewEdits => "true",
+            _ => "false",
         }
     }
 
@@ -108,19 +127,21 @@ fn takes(action: Action, parameter: Parameter) -> bool
     ensures { result ≡ takes action parameter }
 {
     match action {
-        Action::PutDocument | Action::DeleteDocument => parameter.is_revision(),
+        Action::PostDocument => parameter.is_new_edits(),
+        Action::PutDocument => parameter.is_revision() || parameter.is_new_edits(),
+        Action::DeleteDocument => parameter.is_revision(),
         Action::ReadDocument => parameter.is_of_read(),
         _ => false,
     }
 }
 
-/// Returns the parameter, unless the action takes it.
-fn unless_taken(action: Action, parameter: Option<Parameter>) -> Option<Parameter>
-    ensures { result ≡ unless_taken action parameter }
+/// Returns the parameter with this value, unless it changes nothing or the action takes it.
+fn unless_taken(action: Action, value: &str, parameter: Option<Parameter>) -> Option<Parameter>
+    ensures { result ≡ unless_taken action value.now parameter }
 {
     match parameter {
         Some(parameter) => {
-            if takes(action, parameter) {
+            if value.as_bytes() == parameter.default().as_bytes() || takes(action, parameter) {
                 None
             } else {
                 Some(parameter)
@@ -130,7 +151,7 @@ fn unless_taken(action: Action, parameter: Option<Parameter>) -> Option<Paramete
     }
 }
 
-/// Returns the parameter that a name and a value give, still encoded, unless the action takes it.
+/// Returns the parameter that a name and a value give, still encoded, unless it changes nothing or the action takes it.
 ///
 /// Errors: out of memory.
 fn unanswered(
@@ -143,11 +164,7 @@ fn unanswered(
 {
     let name = decode(alloc, name)?;
     let value = decode(alloc, value)?;
-    if value.as_str() == "false" {
-        Ok(None)
-    } else {
-        Ok(unless_taken(action, parameter_of(name.as_str())))
-    }
+    Ok(unless_taken(action, value.as_str(), parameter_of(name.as_str())))
 }
 
 /// Returns the first parameter of a query that is not answered.
@@ -169,15 +186,35 @@ pub(crate) fn unanswered_in(
     Ok(None)
 }
 
-/// Whether a name and a value, still encoded, give this name the value `true`.
+/// Whether a name and a value, still encoded, are this name and this value.
 ///
 /// Errors: out of memory.
-fn sets(alloc: Global, name: &str, encoded: &[u8], value: &[u8]) -> Result<bool, AllocError>
-    ensures { IfOk result (λ b. b ≡ sets name.now (encoded.now, value.now)) }
+fn gives(
+    alloc: Global,
+    name: &str,
+    value: &str,
+    encoded: &[u8],
+    given: &[u8],
+) -> Result<bool, AllocError>
+    ensures { IfOk result (λ b. b ≡ gives name.now value.now (encoded.now, given.now)) }
 {
     let decoded = decode(alloc, encoded)?;
-    let value = decode(alloc, value)?;
-    Ok(decoded.as_str() == name && value.as_str() == "true")
+    let given = decode(alloc, given)?;
+    Ok(decoded.as_str() == name && given.as_str() == value)
+}
+
+/// Whether some parameter of the query has this name and this value.
+///
+/// Errors: out of memory.
+fn has_pair(alloc: Global, query: &[u8], name: &str, value: &str) -> Result<bool, AllocError>
+    ensures { IfOk result (λ b. b ≡ has_pair name.now value.now query.now) }
+{
+    for (encoded, given) in raw_pairs(query) {
+        if gives(alloc, name, value, encoded, given)? {
+            return Ok(true);
+        }
+    }
+    Ok(false)
 }
 
 /// Whether some parameter of the query has this name and the value `true`.
@@ -186,10 +223,14 @@ fn sets(alloc: Global, name: &str, encoded: &[u8], value: &[u8]) -> Result<bool,
 pub(crate) fn asks_flag(alloc: Global, query: &[u8], name: &str) -> Result<bool, AllocError>
     ensures { IfOk result (λ b. b ≡ asks_flag name.now query.now) }
 {
-    for (encoded, value) in raw_pairs(query) {
-        if sets(alloc, name, encoded, value)? {
-            return Ok(true);
-        }
-    }
-    Ok(false)
+    has_pair(alloc, query, name, "true")
+}
+
+/// Whether the query says that the edits were made elsewhere.
+///
+/// Errors: out of memory.
+pub(crate) fn is_replica(alloc: Global, query: &[u8]) -> Result<bool, AllocError>
+    ensures { IfOk result (λ b. b ≡ is_replica query.now) }
+{
+    has_pair(alloc, query, "new_edits", "false")
 }

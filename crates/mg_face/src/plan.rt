@@ -11,6 +11,7 @@ use crate::action::{Action, Verb, action_of, verb_of};
 use crate::count::{CountFault, count_in};
 use crate::document::{delete_document, post_document, put_document, read_document};
 use crate::edit::value_in_query;
+use crate::edited::Change;
 use crate::endpoint::{bulk_docs, taken};
 use crate::index::{drop_design_plan, drop_plan, read_design};
 use crate::listing::{list_by_body, list_by_query};
@@ -19,21 +20,21 @@ use crate::route::{Resource, is_here, is_nowhere, resource_of, segments_of};
 use crate::said::Said;
 use crate::text::split_query;
 use mg_engine::{Command, Question, Refusal};
-use mg_value::NoMemory;
+use mg_value::{Json, NoMemory, ReadBuffer};
 use mg_wire::{Field, Request};
 use std::alloc::Global;
 
 /// How an answer of the database is shown.
-#[derive(Clone, Copy, Debug, PartialEq, Eq)]
+#[derive(Debug, Drop)]
 pub enum Way {
     /// As it is.
     Plain,
     /// With the revision of the document that it shows as `ETag`.
     Document,
-    /// As the answer to one edit that writes a document.
-    Written,
-    /// As the answer to one edit that deletes a document.
-    Deleted,
+    /// As the answer to one edit, which has this entry where the answer to its bulk lists none: an edit of a replica that is made.
+    Edit(Change, Option<Json>),
+    /// As the answer to a bulk, for each of whose documents, in order, its entry is given if it was refused before.
+    Bulk(Vec<Option<Json>>),
 }
 
 /// What a request asks for.
@@ -84,6 +85,7 @@ fn asked_for(
     query: &[u8],
     fields: &[Field],
     body: &[u8],
+    buffer: &mut ReadBuffer,
 ) -> Result<Plan, NoMemory>
     ensures { IfOk result (λ p. plan_view p
         ≡ asked_for drawn action (map (λ s. s.now) segments.now) query.now (map field_parts fields.now) body.now) }
@@ -96,17 +98,17 @@ fn asked_for(
         Action::ReadDatabase => Ok(Plan::Looks(Question::Database, Way::Plain)),
         Action::CreateDatabase => Ok(Plan::Says(Said::DatabaseExists)),
         Action::DeleteDatabase => Ok(Plan::Says(Said::OneDatabase)),
-        Action::ListDocuments => list_by_query(alloc, query),
-        Action::ListDocumentsBy => list_by_body(alloc, query, body),
+        Action::ListDocuments => list_by_query(alloc, query, buffer),
+        Action::ListDocumentsBy => list_by_body(alloc, query, body, buffer),
         Action::Commit => Ok(Plan::Says(Said::Committed)),
-        Action::WriteBulk => bulk_docs(alloc, drawn, body),
-        Action::Takes(endpoint) => taken(alloc, endpoint, body),
+        Action::WriteBulk => bulk_docs(alloc, drawn, body, buffer),
+        Action::Takes(endpoint) => taken(alloc, endpoint, body, buffer),
         Action::ListIndexes => Ok(Plan::Asks(Command::ListIndexes, Way::Plain)),
         Action::DropIndex => drop_plan(alloc, segments),
         Action::DropDesignIndex => drop_design_plan(alloc, segments),
         Action::ReadDocument => read_document(alloc, segments, query),
-        Action::PostDocument => post_document(alloc, drawn, query, fields, body),
-        Action::PutDocument => put_document(alloc, segments, query, fields, body),
+        Action::PostDocument => post_document(alloc, drawn, query, fields, body, buffer),
+        Action::PutDocument => put_document(alloc, segments, query, fields, body, buffer),
         Action::DeleteDocument => delete_document(alloc, segments, query, fields),
         Action::ReadDesign => read_design(alloc, segments),
         Action::PutDesign => Ok(Plan::Says(Said::NoDesign)),
@@ -138,6 +140,7 @@ fn plan_by(
     query: &[u8],
     fields: &[Field],
     body: &[u8],
+    buffer: &mut ReadBuffer,
 ) -> Result<Plan, NoMemory>
     ensures { IfOk result (λ p. plan_view p
         ≡ plan_by drawn action resource (map (λ s. s.now) segments.now) query.now (map field_parts fields.now)
@@ -148,7 +151,7 @@ fn plan_by(
     };
     match unanswered_in(alloc, action, query)? {
         Some(parameter) => Ok(Plan::Says(Said::Unanswered(parameter))),
-        None => asked_for(alloc, drawn, action, segments, query, fields, body),
+        None => asked_for(alloc, drawn, action, segments, query, fields, body, buffer),
     }
 }
 
@@ -162,6 +165,7 @@ fn plan_at(
     segments: &[&[u8]],
     query: &[u8],
     request: &Request,
+    buffer: &mut ReadBuffer,
 ) -> Result<Plan, NoMemory>
     ensures { IfOk result
         (λ p. plan_view p
@@ -184,6 +188,7 @@ fn plan_at(
             query,
             request.fields.as_slice(),
             request.body.as_slice(),
+            buffer,
         )
     } else {
         Ok(elsewhere(resource, verb))
@@ -198,10 +203,19 @@ pub(crate) fn plan_of(
     db: &str,
     drawn: u128,
     request: &Request,
+    buffer: &mut ReadBuffer,
 ) -> Result<Plan, NoMemory>
     ensures { IfOk result (λ p. plan_view p ≡ plan_of db.now drawn request.now) }
 {
     let (path, query) = split_query(request.target.as_slice());
     let segments = segments_of(alloc, path)?;
-    plan_at(alloc, db, drawn, segments.as_slice(), query, request)
+    plan_at(
+        alloc,
+        db,
+        drawn,
+        segments.as_slice(),
+        query,
+        request,
+        buffer,
+    )
 }

@@ -2,6 +2,7 @@
 use crate::count::CountFault;
 use crate::fault::Fault;
 use crate::parameter::Parameter;
+use crate::place::Fraction;
 use crate::route::Resource;
 use mg_engine::Refusal;
 
@@ -13,7 +14,7 @@ pub enum Clash {
 }
 
 /// What is said to a request without asking the database.
-#[derive(Clone, Copy, Debug, PartialEq, Eq)]
+#[derive(Debug, Drop)]
 pub enum Said {
     /// The name and the version of the server.
     Welcome,
@@ -41,8 +42,8 @@ pub enum Said {
     BadRevision,
     /// A member of the body has the wrong shape.
     Wrong(Fault),
-    /// The body is a JSON text with a number that is not whole.
-    NotWhole,
+    /// The body is a JSON text with a number that is not whole: the first one.
+    NotWhole(Option<Fraction>),
     /// The document has attachments.
     Attached,
     /// A design document is not written: an index is made by `_index`.

@@ -7,15 +7,18 @@ ghost use Rattle.mg_wire.specs.Request.{field_parts};
 ghost use Rattle.mg_face.specs.Answer.{json, document_answer, has_revision, is_listed, unmodified, IsAnswered, IsBegun};
 ghost use Rattle.mg_face.specs.Face.{Shows};
 ghost use Rattle.mg_face.specs.Shown.{shown};
+ghost use Rattle.mg_face.specs.Way as ways;
+ghost use Rattle.mg_face.specs.Way.{way_view};
 
 use crate::answer::{add_tag, fill, lack, quoted, status_of};
 use crate::edit::field_of;
-use crate::edited::{Change, show_edit};
+use crate::edited::show_edit;
+use crate::entries::show_bulk;
 use crate::plan::Way;
 use crate::read::revision_in;
 use crate::tag::is_current;
 use mg_engine::Reply;
-use mg_value::NoMemory;
+use mg_value::{NoMemory, ReadBuffer};
 use mg_wire::{Field, Response, Status};
 use std::alloc::Global;
 
@@ -72,14 +75,15 @@ fn show_document(
     response: &mut Response,
     status: u16,
     body: Vec<u8>,
+    buffer: &mut ReadBuffer,
 ) -> Result<(), NoMemory>
     requires { IsBegun response.old }
     ensures { OnOk result
-        (IsAnswered (shown [] (map field_parts fields.now) Way.Document
+        (IsAnswered (shown [] (map field_parts fields.now) ways.document
         (record { status = status; body = body.items })) response.new) }
 {
     if status == 200 {
-        let revision = revision_in(alloc, body.as_slice())?;
+        let revision = revision_in(alloc, body.as_slice(), buffer)?;
         show_revision(alloc, fields, response, status_of(status), body, revision)
     } else {
         fill(response, status_of(status), body);
@@ -95,26 +99,27 @@ pub(crate) fn show(
     response: &mut Response,
     way: Way,
     reply: Reply,
+    buffer: &mut ReadBuffer,
 )
     requires { IsBegun response.old }
-    ensures { Shows db.now (map field_parts fields.now) way (reply_view reply) response.new }
+    ensures { Shows db.now (map field_parts fields.now) (way_view way) (reply_view reply) response.new }
 {
     match reply {
         Reply::NoMemory => lack(alloc, response),
         Reply::Full { status, body } => match way {
             Way::Plain => fill(response, status_of(status), body),
             Way::Document => {
-                if show_document(alloc, fields, response, status, body).is_err() {
+                if show_document(alloc, fields, response, status, body, buffer).is_err() {
                     lack(alloc, response);
                 }
             }
-            Way::Written => {
-                if show_edit(alloc, db, response, Change::Written, status, body).is_err() {
+            Way::Edit(change, entry) => {
+                if show_edit(alloc, db, response, change, entry, status, body, buffer).is_err() {
                     lack(alloc, response);
                 }
             }
-            Way::Deleted => {
-                if show_edit(alloc, db, response, Change::Deleted, status, body).is_err() {
+            Way::Bulk(refusals) => {
+                if show_bulk(alloc, response, refusals, status, body, buffer).is_err() {
                     lack(alloc, response);
                 }
             }

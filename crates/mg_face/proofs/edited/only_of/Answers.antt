@@ -4,5 +4,6 @@ use Rattle.mg_face.proofs.edited.only_of.Goals as goal
 
 pub returns : goal.returns
 returns c =
+    let some : length c.args.values.items ≢ 0 = omega arith in
     let other : length c.args.values.items ≢ 1 = omega arith in
-    not_one c.args.values.items other
+    not_one _ c.args.values.items some other
