@@ -27,6 +27,7 @@ OK = '{"status":"ok"}'
 SECONDS = 60
 CONTINUE = b"HTTP/1.1 100 Continue\r\n\r\n"
 HEAD = re.compile(rb"HTTP/1\.[01] ([0-9]{3}) [A-Za-z ]+\r\n((?:[a-z-]+: [^\r\n]*\r\n)*)\r\n")
+DATE = re.compile(rb"\r\ndate: [A-Z][a-z]{2}, [0-9]{2} [A-Z][a-z]{2} [0-9]{4} [0-9]{2}:[0-9]{2}:[0-9]{2} GMT\r\n")
 
 
 def refusal(status, error, reason):
@@ -87,7 +88,9 @@ def each_conversation(port, tally):
         with Wire(port) as wire:
             wire.send(sent)
             wire.finish()
-            tally.expect(name, replies_in(wire.rest(), sent.startswith(b"HEAD")), (expected, b""))
+            came = wire.rest()
+            tally.expect(name, replies_in(came, sent.startswith(b"HEAD")), (expected, b""))
+            tally.expect(f"the dates of {name}", len(DATE.findall(came)), len(expected))
 
 
 def an_interim_reply(port, tally):

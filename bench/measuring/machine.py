@@ -14,8 +14,10 @@ import time
 from . import postgres
 from .rust import CARGO
 
-# a quiet machine: other processes take at most so much of one processor, and the calibrating loop takes about the same time each time
+# an idle machine: other processes take at most so much of one processor
 OTHERS = 0.2
+# a machine that has its processors to itself: other machines on its host take at most as much, and the calibrating loop takes about the same
+# time each time
 SPREAD = 1.15
 LOOPS = 400_000
 
@@ -28,10 +30,12 @@ def name():
 
 
 def busy_seconds():
-    """Returns the processor time that all processors have been busy or taken by other machines, since the start of this one."""
+    """Returns the processor time for which all processors have been busy since the start of this machine, and that which its host has given to
+    other machines meanwhile."""
     with open("/proc/stat") as file:
         user, nice, system, _, _, irq, softirq, steal, *_ = map(int, file.readline().split()[1:])
-    return (user + nice + system + irq + softirq + steal) / os.sysconf("SC_CLK_TCK")
+    ticks = os.sysconf("SC_CLK_TCK")
+    return (user + nice + system + irq + softirq) / ticks, steal / ticks
 
 
 def own_seconds():
@@ -51,20 +55,22 @@ def calibrated():
 
 
 class Watch:
-    """Says how much of the processors other processes take, and how fast the machine is, from one look to the next."""
+    """Says how much of the processors other processes and other machines take, and how fast the machine is, from one look to the next. A shared
+    machine is one whose host may give its processors to others."""
 
-    def __init__(self):
-        self.looks = []
+    def __init__(self, is_shared=False):
+        self.looks, self.is_shared = [], is_shared
         self.begin()
 
     def begin(self):
-        self.at = time.monotonic(), busy_seconds(), own_seconds()
+        self.at = time.monotonic(), *busy_seconds(), own_seconds()
 
     def look(self, what):
         """Notes what has happened since the look before, and returns it."""
-        clock, busy, own = (after - before for after, before in zip((time.monotonic(), busy_seconds(), own_seconds()), self.at))
-        others = round(max(0.0, busy - own) / max(clock, 1e-9), 3)
-        self.looks.append({"what": what, "others": others, "loop_ms": round(calibrated(), 2), "load": round(os.getloadavg()[0], 2)})
+        now = time.monotonic(), *busy_seconds(), own_seconds()
+        clock, busy, stolen, own = (after - before for after, before in zip(now, self.at))
+        shares = {name: round(max(0.0, used) / max(clock, 1e-9), 3) for name, used in (("others", busy - own), ("stolen", stolen))}
+        self.looks.append({"what": what, **shares, "loop_ms": round(calibrated(), 2), "load": round(os.getloadavg()[0], 2)})
         self.begin()
         return self.looks[-1]
 
@@ -75,10 +81,17 @@ class Watch:
 
     def fault(self):
         """Returns why the machine was not quiet; None if it was."""
-        loops = [look["loop_ms"] for look in self.looks]
         for look in self.looks:
             if look["others"] > OTHERS:
                 return f"{look['what']}: other processes took {look['others']:.2f} processors, more than {OTHERS}"
+        return None if self.is_shared else self.fault_of_host()
+
+    def fault_of_host(self):
+        """Returns why the machine did not have its processors to itself; None if it had."""
+        loops = [look["loop_ms"] for look in self.looks]
+        stolen = max(look["stolen"] for look in self.looks)
+        if stolen > OTHERS:
+            return f"other machines of the host took {stolen:.2f} processors, more than {OTHERS}"
         if max(loops) > SPREAD * min(loops):
             return f"the calibrating loop took {min(loops):.1f} to {max(loops):.1f} ms"
         return None

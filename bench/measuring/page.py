@@ -63,13 +63,17 @@ def source(measurement):
     there = {name: number for name, number in found["versions"].items() if number != "none"}
     absent = [name for name in found["versions"] if name not in there]
     versions = ", ".join(f"{name} {number}" for name, number in there.items()) + (f" (not installed: {', '.join(absent)})" if absent else "")
-    loops, others = [look["loop_ms"] for look in found["looks"]], max(look["others"] for look in found["looks"])
+    loops = [look["loop_ms"] for look in found["looks"]]
+    others, stolen = (max(look[name] for look in found["looks"]) for name in ("others", "stolen"))
     minutes = sum(part["took"] for part in found["parts"].values()) / 60
     again = sum(part.get("again", 0) for part in found["parts"].values())
     words = (f"Measured on {found['date']} at commit `{found['commit']}` in {minutes:.0f} minutes, on {found['machine']}, beside {versions}. "
-             f"Meanwhile other processes took at most {others:.2f} processors, and a loop that is always the same took {min(loops):.1f} to "
-             f"{max(loops):.1f} ms; a part of a turn that a busy machine disturbed was measured again ({again} were). A figure is the median of {found['turns']} turns, with the least and the greatest in brackets; a turn of a "
-             f"cell takes {found['seconds']:g} s.")
+             f"Meanwhile other processes took at most {others:.2f} processors, other machines of the host {stolen:.2f}, and a loop that is always "
+             f"the same took {min(loops):.1f} to {max(loops):.1f} ms; a part of a turn that a busy machine disturbed was measured again ({again} "
+             f"were). A figure is the median of {found['turns']} turns, with the least and the greatest in brackets; a turn of a cell takes "
+             f"{found['seconds']:g} s.")
+    if found["shared"]:
+        words += " The machine is a virtual one on a shared host, which gives its processors unevenly: figures are to be compared by their intervals alone."
     if not found["cycles"]:
         words += " This machine does not count cycles, so processor time stands for them."
     return textwrap.wrap(words, 148, break_long_words=False, break_on_hyphens=False)

@@ -1,4 +1,4 @@
-"""A validator for the part of JSON Schema 2020-12 that docs/openapi.json uses. A number with a fraction or exponent is not an integer."""
+"""A validator for the part of JSON Schema 2020-12 that docs/*openapi.json use. A float is not an integer."""
 import json
 import re
 
@@ -11,16 +11,29 @@ def is_same(left, right):
     return json.dumps(left, sort_keys=True) == json.dumps(right, sort_keys=True)
 
 
-class Schemas:
-    """The schemas of a document, which resolve references."""
+def with_whole_references(value, file):
+    """Returns a value of a file whose references all begin with the name of a file."""
+    if isinstance(value, list):
+        return [with_whole_references(item, file) for item in value]
+    if not isinstance(value, dict):
+        return value
+    found = {name: with_whole_references(inner, file) for name, inner in value.items()}
+    reference = found.get("$ref")
+    return {**found, "$ref": file + reference} if isinstance(reference, str) and reference.startswith("#") else found
 
-    def __init__(self, document):
-        self.document = document
+
+class Schemas:
+    """The schemas of documents, which resolve references. `documents`: each by the name of its file, with whole references."""
+
+    def __init__(self, documents):
+        self.documents = documents
 
     def at(self, reference):
-        found = self.document
-        for step in reference.removeprefix("#/").split("/"):
-            found = found[step]
+        """Returns what a reference leads to; None if it leads nowhere."""
+        file, _, path = reference.partition("#/")
+        found = self.documents.get(file)
+        for step in path.split("/"):
+            found = found.get(step) if isinstance(found, dict) else None
         return found
 
     def allows(self, schema, value):

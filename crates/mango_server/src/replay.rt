@@ -17,7 +17,7 @@ use std::sync::Wait;
 use std::thread::{Threads, join};
 
 /// How many bytes the bodies of rows have that are read and prepared side by side, while those before them are executed one after another.
-const GROUP_BYTES: usize = 8_388_608;
+const GROUP_BYTES: usize = 2_097_152;
 
 /// The rows of a file, in their order.
 #[derive(Drop)]

@@ -18,6 +18,7 @@ use crate::plan::{Plan, Way, plan_of};
 use crate::said::Said;
 use crate::show::show;
 use crate::store::Store;
+use httpdate::HttpDate;
 use mg_engine::{Command, Question, Reply};
 use mg_live::Database;
 use mg_server::{Handover, Learner};
@@ -41,7 +42,7 @@ pub struct Face<D: Database, S: Drop> {
     source: ChaCha20Rng,
     /// Memory for reading JSON, kept from request to request.
     buffer: ReadBuffer,
-    /// Says the date of each response.
+    /// Says the date of each response, and of each refusal of a connection.
     clock: HostRuntime,
     of: PhantomData<D>,
 }
@@ -265,6 +266,10 @@ impl<D: Database, S: Store + Drop> Service for Face<D, S> {
     ) {
         let drawn = draw(&mut self.source);
         self.answer(rt, drawn, request, response);
+    }
+
+    fn date(&self) -> Option<HttpDate> {
+        date_of(&self.clock)
     }
 }
 

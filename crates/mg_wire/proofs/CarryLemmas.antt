@@ -90,7 +90,7 @@ module _ (c n : Connection) (bounds : n.bounds ≡ c.bounds) (came : received n 
   ends_same starved InputEnded answered text rest x = (calls ∙ x.0, out ∙ x.1, x.2, subst IsTrue (sym ended) x.3)
   ends_same starved (Refused r) answered text rest x = (
     calls ∙ x.0,
-    follows_same rest text _ x.1,
+    (x.1.0, follows_same rest text _ x.1.1),
     why_same starved rest r x.2,
   )
   ends_same starved NoMemory answered text rest x =

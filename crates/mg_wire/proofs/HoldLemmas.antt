@@ -2,6 +2,7 @@
 use Rattle.std.proofs.Common.{◌≡◌, ◌≢◌, ◌⊎◌, ℕ, Bool, IsTrue, IsFalse, true, false, eqb, ◌==◌, List, [], ◌∷◌, ◌++◌, length, take, drop, Option, Some, None, append_assoc, append-nil, sym, refl, ap, ◌∙◌, subst, subst₂, inl, inr, arith}
 use Rattle.std.specs.List.{flat_map}
 use Rattle.http1.specs.Message.{AcceptsRequest}
+use Rattle.httpdate.specs.declared.date.HttpDate.{HttpDate as Date}
 use Rattle.mg_wire.specs.declared.body.Begun.{Begun}
 use Rattle.mg_wire.specs.declared.bounds.Bounds.{Bounds}
 use Rattle.mg_wire.specs.declared.connection.Connection.{Connection}
@@ -100,11 +101,11 @@ module _ (old new : Connection) (more : List ℕ) (a : Adds old new more) where
         (subst (λ (e : Bool). Refuses new.bounds new.has_ended e old.input.items r) (sym a.starved)
         (subst₂ (λ (k : Bounds) (e : Bool). Refuses k e old.is_starved old.input.items r) (sym a.silent.bounds) (sym a.ended) why))
 
-    pub refuses : (r : Refusal) → more ≡ refusal_text r → new.end ≡ Some (Refused r)
+    pub refuses : (date : Option Date) (r : Refusal) → more ≡ refusal_text date r → new.end ≡ Some (Refused r)
         → Refuses old.bounds old.has_ended old.is_starved old.input.items r → Holds new
-    refuses r same is why = ends_for (Refused r) is (
+    refuses date r same is why = ends_for (Refused r) is (
       calls_same (opened h goes_on).0,
-      subst (Follows new h.rest h.text) same after,
+      (date, subst (Follows new h.rest h.text) same after),
       why_now r why,
     )
 

@@ -5,6 +5,7 @@ use Rattle.http1.specs.declared.conn.Limits.{Limits}
 use Rattle.http1.specs.declared.framing.Framing.{Framing}
 use Rattle.http1.specs.Message as Wire
 use Rattle.http1.specs.Message.{AcceptsRequest, ReadsRequestMessage}
+use Rattle.httpdate.specs.declared.date.HttpDate.{HttpDate as Date}
 use Rattle.mg_wire.specs.declared.body.Begun.{Begun}
 use Rattle.mg_wire.specs.declared.connection.Connection.{Connection}
 use Rattle.mg_wire.specs.declared.connection.Ending.{Ending}
@@ -57,7 +58,7 @@ abbrev pub EndsFor : Ending → Connection → List Call → List ℕ → List �
 EndsFor Closed c answered text rest = (c.calls.items ≡ answered) × (said c ≡ text) × IsClosedBy answered
 EndsFor InputEnded c answered text rest = (c.calls.items ≡ answered) × (said c ≡ text) × (rest ≡ []) × IsTrue c.has_ended
 EndsFor (Refused r) c answered text rest =
-    (c.calls.items ≡ answered) × Follows c rest text (refusal_text r) × Refuses c.bounds c.has_ended c.is_starved rest r
+    (c.calls.items ≡ answered) × ((date : Option Date) × Follows c rest text (refusal_text date r)) × Refuses c.bounds c.has_ended c.is_starved rest r
 EndsFor NoMemory c answered text rest =
     (c.calls.items ≡ answered) × Follows c rest text [] × ((r : Refusal) × Refuses c.bounds c.has_ended c.is_starved rest r)
 

@@ -1,5 +1,5 @@
--- Why a request is refused, whatever bytes follow, and what the refusal says (RFC 9110, section 15.5; RFC 9112, sections 2.2, 3.2 and 6.1).
-use Rattle.std.specs.Prelude.{◌≡◌, ◌≢◌, ◌⊎◌, ℕ, ◌<◌, Bool, true, false, List, [], ◌++◌, length, Option, Some, None, if◌then◌else◌, ◌==◌, IsTrue}
+-- Why a request is refused, whatever bytes follow, and what the refusal says (RFC 9110, sections 6.6.1 and 15.5; RFC 9112, sections 2.2, 3.2 and 6.1).
+use Rattle.std.specs.Prelude.{◌≡◌, ◌≢◌, ◌⊎◌, ℕ, ◌<◌, Bool, true, false, List, [], ◌++◌, length, Option, Some, None, codes, if◌then◌else◌, ◌==◌, IsTrue}
 use Rattle.httparse.specs.Grammar.{RequestHead}
 use Rattle.http1.specs.declared.conn.Limits.{Limits}
 use Rattle.http1.specs.declared.decode.Decoder.{Decoder}
@@ -11,6 +11,8 @@ use Rattle.http1.specs.Message as Wire
 use Rattle.http1.specs.Message.{known_of, AcceptsRequest, ReadsRequestMessage}
 use Rattle.http1.specs.ReadError.{status_of, BodyError, RequestError}
 use Rattle.http1.specs.Server as Server
+use Rattle.httpdate.specs.declared.date.HttpDate.{HttpDate as Date}
+use Rattle.httpdate.specs.Date.{date_text}
 use Rattle.mg_wire.specs.declared.body.TheConstants.{MAX_FIELDS}
 use Rattle.mg_wire.specs.declared.bounds.Bounds.{Bounds}
 use Rattle.mg_wire.specs.declared.refusal.Refusal.{Refusal}
@@ -57,13 +59,23 @@ abbrev pub line_refusal : List ℕ → List ℕ → Option Refusal
 line_refusal method target =
     if is_connect (method_kind method) then Some Tunnel else (if is_target_for method target then None else Some InvalidTarget)
 
--- the response to a request that is refused
-abbrev pub refusal_text : Refusal → List ℕ
-refusal_text (Unreadable e) =
-    if status_of e == 414 then Text.TARGET_TOO_LONG.now else (if status_of e == 431 then Text.FIELDS_TOO_LARGE.now else Text.BAD_REQUEST.now)
-refusal_text Cut = Text.CUT.now
-refusal_text BodyTooLarge = Text.TOO_LARGE.now
-refusal_text UnknownCoding = Text.UNKNOWN_CODING.now
-refusal_text InvalidTarget = Text.INVALID_TARGET.now
-refusal_text Tunnel = Text.NO_TUNNELS.now
-refusal_text NoMemory = Text.NO_MEMORY.now
+-- the response to a request that is refused: its status line, and what follows its date
+abbrev pub template_of : Refusal → List ℕ × List ℕ
+template_of (Unreadable e) =
+    if status_of e == 414 then (Text.URI_TOO_LONG.now, Text.TARGET_TOO_LONG.now)
+    else (if status_of e == 431 then (Text.HEADER_FIELDS_TOO_LARGE.now, Text.FIELDS_TOO_LARGE.now) else (Text.BAD_REQUEST.now, Text.INVALID.now))
+template_of Cut = (Text.BAD_REQUEST.now, Text.CUT.now)
+template_of BodyTooLarge = (Text.CONTENT_TOO_LARGE.now, Text.TOO_LARGE.now)
+template_of UnknownCoding = (Text.NOT_IMPLEMENTED.now, Text.UNKNOWN_CODING.now)
+template_of InvalidTarget = (Text.BAD_REQUEST.now, Text.INVALID_TARGET.now)
+template_of Tunnel = (Text.NOT_IMPLEMENTED.now, Text.NO_TUNNELS.now)
+template_of NoMemory = (Text.SERVICE_UNAVAILABLE.now, Text.NO_MEMORY.now)
+
+-- the line of the date, if there is one
+abbrev pub date_line : Option Date → List ℕ
+date_line None = []
+date_line (Some d) = codes "date: " ++ (date_text d ++ codes "\r\n")
+
+-- the response to a request that is refused at this date
+abbrev pub refusal_text : Option Date → Refusal → List ℕ
+refusal_text date r = (template_of r).0 ++ (date_line date ++ (template_of r).1)

@@ -3,13 +3,13 @@ ghost use Rattle.std.specs.Prelude.{◌≡◌, ◌≢◌, ℕ, ◌<◌, ◌≤�
 ghost use Rattle.http1.specs.Server.{is_head};
 ghost use Rattle.mg_wire.specs.Body.{HasNoMessage, IsBegun, IsFresh, IsWhole};
 ghost use Rattle.mg_wire.specs.Connection.{pending, IsQuiet, IsSilent, Holds, IsDue, Rests, Starts, work};
-ghost use Rattle.mg_wire.specs.Refusal.{Refuses};
+ghost use Rattle.mg_wire.specs.Refusal.{Refuses, refusal_text};
 ghost use Rattle.mg_wire.specs.Status.{has_content};
 ghost use Rattle.mg_wire.specs.Transcript.{Asks};
 
 use crate::body::{Begun, Step};
 use crate::connection::{Connection, Ending};
-use crate::refusal::{CONTINUE, Refusal, refusal_text};
+use crate::refusal::{CONTINUE, Refusal, write_refusal};
 use crate::reply::{ROOM, content_len, write_reply};
 use crate::response::Response;
 use crate::service::Service;
@@ -50,11 +50,13 @@ impl Connection {
         ensures quiet { IsQuiet self.old self.new }
         ensures calls { self.new.calls ≡ self.old.calls }
         ensures ends { self.new.end ≢ None }
+        ensures says { self.new.end ≡ Some (Ending.Refused refusal)
+            → self.new.output.items ≡ self.old.output.items ++ refusal_text self.old.date refusal }
         ensures holds { (b : Option Begun) → self.old.tail.items ≡ [] → self.old.end ≡ None
             → Refuses self.old.bounds self.old.has_ended self.old.is_starved self.old.input.items refusal
             → Holds (record self.old { begun = b }) → Holds self.new }
     {
-        match self.output.extend_from_slice(refusal_text(refusal)) {
+        match write_refusal(&mut self.output, self.date, refusal) {
             Ok(()) => self.close(Ending::Refused(refusal)),
             Err(_) => self.close(Ending::NoMemory),
         }
@@ -309,6 +311,7 @@ impl Connection {
         ensures holds { Holds self.old → Holds self.new }
         ensures rests { Holds self.old → Rests self.new }
     {
+        self.date = service.date();
         while self.step(rt, service) {}
     }
 }

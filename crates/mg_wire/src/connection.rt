@@ -11,6 +11,7 @@ use crate::request::Request;
 use crate::response::Response;
 use bytes::BytesMut;
 use http_server::Log;
+use httpdate::HttpDate;
 use std::alloc::Global;
 use std::io;
 use std::io::{ErrorKind, Read};
@@ -37,6 +38,8 @@ pub struct Connection {
     pub(crate) alloc: Global,
     pub(crate) bounds: Bounds,
     pub(crate) end: Option<Ending>,
+    /// The date of a refusal, from the service, as of the last run.
+    pub(crate) date: Option<HttpDate>,
     /// A read found the end of the input.
     pub(crate) has_ended: bool,
     /// There was no memory for a read.
@@ -68,6 +71,7 @@ impl Connection {
             alloc,
             bounds,
             end: None,
+            date: None,
             has_ended: false,
             is_starved: false,
             begun: None,

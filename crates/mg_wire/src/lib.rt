@@ -9,7 +9,8 @@
 //! target of a form that the method may have, no `CONNECT` (`IsProper`), and a body that is no longer than may
 //! be. Each response that a service gives is sent: no value of `Status` or `Fields` is refused, and to its fields
 //! only `Content-Length` and `Connection` are added. It has a `Date` exactly if the service gives its date, since
-//! a connection has no clock. A refusal has a reason that holds whatever bytes follow (`Refuses`); want of memory
+//! a connection has no clock. A refusal has the date that the service shows, if it shows one (`Service::date`):
+//! `told` leaves open which. A refusal has a reason that holds whatever bytes follow (`Refuses`); want of memory
 //! is one only for a read, and for a request whose head has come. The connection closes after a response only if
 //! the request or the response asks for it, and goes on only if neither does (`keeps_open`). It is done as soon
 //! as its last response is sent: what the client still sends is the edge's to drop, for some time, once it has

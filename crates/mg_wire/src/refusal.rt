@@ -1,8 +1,11 @@
 //! The responses that a connection gives by itself, where no service is asked.
-ghost use Rattle.std.specs.Prelude.{◌≡◌};
-ghost use Rattle.mg_wire.specs.Refusal.{refusal_text};
+ghost use Rattle.std.specs.Prelude.{◌≡◌, ◌+◌, ◌≤◌, ◌++◌, length, OnOk, OnErr};
+ghost use Rattle.mg_wire.specs.Refusal.{date_line, refusal_text, template_of};
 
+use bytes::BytesMut;
 use http1::ReadError;
+use httpdate::HttpDate;
+use std::alloc::AllocError;
 
 /// Why a request is refused. Its response says so, and is the last one of the connection.
 #[derive(Clone, Copy, Debug, PartialEq, Eq)]
@@ -25,57 +28,107 @@ pub enum Refusal {
 
 pub(crate) const CONTINUE: &[u8] = b"HTTP/1.1 100 Continue\r\n\r\n";
 
-pub(crate) const BAD_REQUEST: &[u8] =
-    b"HTTP/1.1 400 Bad Request\r\ncontent-type: application/json\r\ncontent-length: 58\r\nconnection: close\r\n\r\n{\"error\":\"bad_request\",\"reason\":\"the request is invalid\"}\n";
+// The status lines of refusals.
+pub(crate) const BAD_REQUEST: &[u8] = b"HTTP/1.1 400 Bad Request\r\n";
+
+pub(crate) const CONTENT_TOO_LARGE: &[u8] = b"HTTP/1.1 413 Content Too Large\r\n";
+
+pub(crate) const URI_TOO_LONG: &[u8] = b"HTTP/1.1 414 URI Too Long\r\n";
+
+pub(crate) const HEADER_FIELDS_TOO_LARGE: &[u8] =
+    b"HTTP/1.1 431 Request Header Fields Too Large\r\n";
+
+pub(crate) const NOT_IMPLEMENTED: &[u8] = b"HTTP/1.1 501 Not Implemented\r\n";
+
+pub(crate) const SERVICE_UNAVAILABLE: &[u8] = b"HTTP/1.1 503 Service Unavailable\r\n";
+
+// What follows the date of a refusal.
+pub(crate) const INVALID: &[u8] =
+    b"content-type: application/json\r\ncontent-length: 58\r\nconnection: close\r\n\r\n{\"error\":\"bad_request\",\"reason\":\"the request is invalid\"}\n";
 
 pub(crate) const CUT: &[u8] =
-    b"HTTP/1.1 400 Bad Request\r\ncontent-type: application/json\r\ncontent-length: 55\r\nconnection: close\r\n\r\n{\"error\":\"bad_request\",\"reason\":\"the request was cut\"}\n";
+    b"content-type: application/json\r\ncontent-length: 55\r\nconnection: close\r\n\r\n{\"error\":\"bad_request\",\"reason\":\"the request was cut\"}\n";
 
 pub(crate) const TOO_LARGE: &[u8] =
-    b"HTTP/1.1 413 Content Too Large\r\ncontent-type: application/json\r\ncontent-length: 65\r\nconnection: close\r\n\r\n{\"error\":\"too_large\",\"reason\":\"the request entity is too large\"}\n";
+    b"content-type: application/json\r\ncontent-length: 65\r\nconnection: close\r\n\r\n{\"error\":\"too_large\",\"reason\":\"the request entity is too large\"}\n";
 
 pub(crate) const TARGET_TOO_LONG: &[u8] =
-    b"HTTP/1.1 414 URI Too Long\r\ncontent-type: application/json\r\ncontent-length: 65\r\nconnection: close\r\n\r\n{\"error\":\"uri_too_long\",\"reason\":\"the request line is too long\"}\n";
+    b"content-type: application/json\r\ncontent-length: 65\r\nconnection: close\r\n\r\n{\"error\":\"uri_too_long\",\"reason\":\"the request line is too long\"}\n";
 
 pub(crate) const FIELDS_TOO_LARGE: &[u8] =
-    b"HTTP/1.1 431 Request Header Fields Too Large\r\ncontent-type: application/json\r\ncontent-length: 70\r\nconnection: close\r\n\r\n{\"error\":\"fields_too_large\",\"reason\":\"the request head is too large\"}\n";
+    b"content-type: application/json\r\ncontent-length: 70\r\nconnection: close\r\n\r\n{\"error\":\"fields_too_large\",\"reason\":\"the request head is too large\"}\n";
 
 pub(crate) const UNKNOWN_CODING: &[u8] =
-    b"HTTP/1.1 501 Not Implemented\r\ncontent-type: application/json\r\ncontent-length: 63\r\nconnection: close\r\n\r\n{\"error\":\"not_implemented\",\"reason\":\"unknown transfer coding\"}\n";
+    b"content-type: application/json\r\ncontent-length: 63\r\nconnection: close\r\n\r\n{\"error\":\"not_implemented\",\"reason\":\"unknown transfer coding\"}\n";
 
 pub(crate) const INVALID_TARGET: &[u8] =
-    b"HTTP/1.1 400 Bad Request\r\ncontent-type: application/json\r\ncontent-length: 57\r\nconnection: close\r\n\r\n{\"error\":\"bad_request\",\"reason\":\"the target is invalid\"}\n";
+    b"content-type: application/json\r\ncontent-length: 57\r\nconnection: close\r\n\r\n{\"error\":\"bad_request\",\"reason\":\"the target is invalid\"}\n";
 
 pub(crate) const NO_TUNNELS: &[u8] =
-    b"HTTP/1.1 501 Not Implemented\r\ncontent-type: application/json\r\ncontent-length: 63\r\nconnection: close\r\n\r\n{\"error\":\"not_implemented\",\"reason\":\"CONNECT is not answered\"}\n";
+    b"content-type: application/json\r\ncontent-length: 63\r\nconnection: close\r\n\r\n{\"error\":\"not_implemented\",\"reason\":\"CONNECT is not answered\"}\n";
 
 pub(crate) const NO_MEMORY: &[u8] =
-    b"HTTP/1.1 503 Service Unavailable\r\ncontent-type: application/json\r\ncontent-length: 68\r\nconnection: close\r\n\r\n{\"error\":\"out_of_memory\",\"reason\":\"the server lacks memory for it\"}\n";
+    b"content-type: application/json\r\ncontent-length: 68\r\nconnection: close\r\n\r\n{\"error\":\"out_of_memory\",\"reason\":\"the server lacks memory for it\"}\n";
 
-/// The response to a request that is refused.
-pub(crate) fn refusal_text(refusal: Refusal) -> &'static [u8]
-    ensures { result.now ≡ refusal_text refusal }
+/// The response to a request that is refused: its status line, and what follows its date.
+fn template_of(refusal: Refusal) -> (&'static [u8], &'static [u8])
+    ensures same { (result.0.now, result.1.now) ≡ template_of refusal }
+    ensures short { length result.0.now + length result.1.now ≤ 219 }
 {
     match refusal {
-        Refusal::Unreadable(error) => unreadable_text(error),
-        Refusal::Cut => CUT,
-        Refusal::BodyTooLarge => TOO_LARGE,
-        Refusal::UnknownCoding => UNKNOWN_CODING,
-        Refusal::InvalidTarget => INVALID_TARGET,
-        Refusal::Tunnel => NO_TUNNELS,
-        Refusal::NoMemory => NO_MEMORY,
+        Refusal::Unreadable(error) => unreadable_template(error),
+        Refusal::Cut => (BAD_REQUEST, CUT),
+        Refusal::BodyTooLarge => (CONTENT_TOO_LARGE, TOO_LARGE),
+        Refusal::UnknownCoding => (NOT_IMPLEMENTED, UNKNOWN_CODING),
+        Refusal::InvalidTarget => (BAD_REQUEST, INVALID_TARGET),
+        Refusal::Tunnel => (NOT_IMPLEMENTED, NO_TUNNELS),
+        Refusal::NoMemory => (SERVICE_UNAVAILABLE, NO_MEMORY),
     }
 }
 
-fn unreadable_text(error: ReadError) -> &'static [u8]
-    ensures { result.now ≡ refusal_text (Refusal.Unreadable error) }
+fn unreadable_template(error: ReadError) -> (&'static [u8], &'static [u8])
+    ensures same { (result.0.now, result.1.now) ≡ template_of (Refusal.Unreadable error) }
+    ensures short { length result.0.now + length result.1.now ≤ 219 }
 {
     let status = error.status();
     if status == 414 {
-        TARGET_TOO_LONG
+        (URI_TOO_LONG, TARGET_TOO_LONG)
     } else if status == 431 {
-        FIELDS_TOO_LARGE
+        (HEADER_FIELDS_TOO_LARGE, FIELDS_TOO_LARGE)
     } else {
-        BAD_REQUEST
+        (BAD_REQUEST, INVALID)
     }
+}
+
+/// Room for any refusal, with a date.
+const ROOM: usize = 256;
+
+/// Appends the line of the date, if there is one.
+fn write_date(output: &mut BytesMut, date: Option<HttpDate>)
+    requires { 37 ≤ output.old.spare }
+    ensures items { output.new.items ≡ output.old.items ++ date_line date }
+    ensures spare { output.old.spare ≤ output.new.spare + 37 }
+{
+    if let Some(date) = date {
+        output.extend_reserved(b"date: ");
+        output.extend_reserved(&date.to_bytes());
+        output.extend_reserved(b"\r\n");
+    }
+}
+
+/// Appends the response to a request that is refused. If there is no memory for it, appends nothing.
+pub(crate) fn write_refusal(
+    output: &mut BytesMut,
+    date: Option<HttpDate>,
+    refusal: Refusal,
+) -> Result<(), AllocError>
+    ensures ok { OnOk result (output.new.items ≡ output.old.items ++ refusal_text date refusal) }
+    ensures err { OnErr result (output.new.items ≡ output.old.items) }
+{
+    output.reserve(ROOM)?;
+    let (status_line, rest) = template_of(refusal);
+    output.extend_reserved(status_line);
+    write_date(output, date);
+    output.extend_reserved(rest);
+    Ok(())
 }

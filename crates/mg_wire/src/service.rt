@@ -6,6 +6,7 @@ ghost use Rattle.mg_wire.specs.Response.{IsBlank};
 
 use crate::request::Request;
 use crate::response::Response;
+use httpdate::HttpDate;
 use std::sync::Wait;
 use std::thread::Threads;
 
@@ -19,4 +20,9 @@ pub trait Service {
         requires sync { IsSync H.row }
         requires blank { IsBlank response.old }
         ensures { answers self.old request.now response.new self.new };
+
+    /// The date of a response that the connection gives by itself, if the service has a clock.
+    fn date(&self) -> Option<HttpDate> {
+        None
+    }
 }

@@ -97,9 +97,9 @@ fn a_304_ends_with_its_head(rt: HostRuntime) -> Result<(), Fail> {
     )
 }
 
-// The example of RFC 9110, section 5.6.7, which is 784,111,777 seconds after 1970.
+// The example of RFC 9110, section 5.6.7, which is 784,111,777 seconds after 1970; section 6.6.1.
 #[test]
-fn sends_the_date_of_a_response(rt: HostRuntime) -> Result<(), Fail> {
+fn sends_the_date_of_a_response_and_of_a_refusal(rt: HostRuntime) -> Result<(), Fail> {
     let Ok(date) = HttpDate::from_unix_secs(784_111_777) else {
         return Err("no date".into());
     };
@@ -107,11 +107,11 @@ fn sends_the_date_of_a_response(rt: HostRuntime) -> Result<(), Fail> {
         &rt,
         rt.alloc(),
         Some(date),
-        "GET /a HTTP/1.1\r\nHost: h\r\n\r\n",
+        "GET /a HTTP/1.1\r\nHost: h\r\n\r\nGET / HTTP/1.1\r\n\r\n",
     )?;
     assert_eq!(&rt;
         str::from_utf8(&sent).unwrap_or(""),
-        "HTTP/1.1 200 OK\r\ndate: Sun, 06 Nov 1994 08:49:37 GMT\r\ncontent-type: text/plain\r\ncontent-length: 7\r\n\r\nGET /a "
+        "HTTP/1.1 200 OK\r\ndate: Sun, 06 Nov 1994 08:49:37 GMT\r\ncontent-type: text/plain\r\ncontent-length: 7\r\n\r\nGET /a HTTP/1.1 400 Bad Request\r\ndate: Sun, 06 Nov 1994 08:49:37 GMT\r\ncontent-type: application/json\r\ncontent-length: 58\r\nconnection: close\r\n\r\n{\"error\":\"bad_request\",\"reason\":\"the request is invalid\"}\n"
     );
     Ok(())
 }

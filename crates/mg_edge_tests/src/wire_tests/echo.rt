@@ -7,7 +7,8 @@ use std::alloc::AllocError;
 use std::sync::Wait;
 use std::thread::Threads;
 
-/// Responds with the method, the target and the body of a request, and with this date; to a request for `/304`, that it has not changed.
+/// Responds with the method, the target and the body of a request, and with this date; to a request for `/304`, that it has not changed. Its
+/// clock shows this date.
 #[derive(Drop)]
 pub(crate) struct Echo {
     pub(crate) date: Option<HttpDate>,
@@ -46,5 +47,9 @@ impl Service for Echo {
         if !is_added || write_body(request, response).is_err() {
             response.status = Status::ServiceUnavailable;
         }
+    }
+
+    fn date(&self) -> Option<HttpDate> {
+        self.date
     }
 }

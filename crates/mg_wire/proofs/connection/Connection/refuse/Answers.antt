@@ -12,7 +12,7 @@ returns-in-Ok-clause-holds c = λ b bare goes_on why h.
       bare = bare;
       tail = ap (λ k. k.tail.items) c.close.ensures ∙ bare;
       out = ap (λ k. k.output.items) c.close.ensures ∙ c.in-Ok.ensures.ok;
-    }) h goes_on c.args.refusal c.refusal_text.ensures (ap (λ k. k.end) c.close.ensures) why
+    }) h goes_on c.args.self.now.date c.args.refusal refl (ap (λ k. k.end) c.close.ensures) why
 
 pub returns-in-Err-clause-holds : goal.returns-in-Err-clause-holds
 returns-in-Err-clause-holds c = λ b bare goes_on why h.
