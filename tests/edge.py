@@ -64,6 +64,7 @@ CONVERSATIONS = {
     "an unknown coding": (b"POST /db/_find HTTP/1.1\r\nHost: h\r\nTransfer-Encoding: gzip, chunked\r\n\r\n0\r\n\r\n" + UP, [CODING]),
     "a tunnel": (b"CONNECT h:80 HTTP/1.1\r\nHost: h\r\n\r\n" + UP, [TUNNEL]),
     "a target of no form": (b"GET db HTTP/1.1\r\nHost: h\r\n\r\n" + UP, [TARGET]),
+    "a refusal of HEAD": (b"HEAD db HTTP/1.1\r\nHost: h\r\n\r\n" + UP, [(400, "", True)]),
     "a long line": (b"GET /" + b"a" * 20_000 + b" HTTP/1.1\r\nHost: h\r\n\r\n", [LONG_LINE]),
     "a long head": (b"GET /_up HTTP/1.1\r\nHost: h\r\n" + b"X: " + b"a" * 20_000 + b"\r\n\r\n", [LONG_HEAD]),
     "a long body": (b"POST /db/_find HTTP/1.1\r\nHost: h\r\nContent-Length: 8388609\r\n\r\n", [TOO_LARGE]),

@@ -10,7 +10,7 @@ use Rattle.mg_wire.specs.declared.connection.Ending.{Ending}
 use Rattle.mg_wire.specs.declared.connection.Ending.TheVariants.{InputEnded, Refused, NoMemory}
 use Rattle.mg_wire.specs.declared.refusal.Refusal.{Refusal}
 use Rattle.mg_wire.specs.Body.{IsBegun}
-use Rattle.mg_wire.specs.Refusal.{Refuses, refusal_text}
+use Rattle.mg_wire.specs.Refusal.{Refuses, begins_with_head, refusal_text}
 use Rattle.mg_wire.specs.Transcript.{Call, interim_for, IsTranscript}
 use Rattle.mg_wire.specs.Connection.{received, sent, said, IsInterimOf, Follows, StandsAt, EndsFor, Stands, Holds, IsSilent}
 
@@ -101,11 +101,11 @@ module _ (old new : Connection) (more : List ℕ) (a : Adds old new more) where
         (subst (λ (e : Bool). Refuses new.bounds new.has_ended e old.input.items r) (sym a.starved)
         (subst₂ (λ (k : Bounds) (e : Bool). Refuses k e old.is_starved old.input.items r) (sym a.silent.bounds) (sym a.ended) why))
 
-    pub refuses : (date : Option Date) (r : Refusal) → more ≡ refusal_text date r → new.end ≡ Some (Refused r)
+    pub refuses : (date : Option Date) (r : Refusal) → more ≡ refusal_text date (begins_with_head old.input.items) r → new.end ≡ Some (Refused r)
         → Refuses old.bounds old.has_ended old.is_starved old.input.items r → Holds new
     refuses date r same is why = ends_for (Refused r) is (
       calls_same (opened h goes_on).0,
-      (date, subst (Follows new h.rest h.text) same after),
+      (date, subst (Follows new h.rest h.text) (same ∙ ap (λ (u : List ℕ). refusal_text date (begins_with_head u) r) (sym rest_is)) after),
       why_now r why,
     )
 

@@ -14,7 +14,7 @@ use Rattle.mg_wire.specs.declared.refusal.Refusal.{Refusal}
 use Rattle.mg_wire.specs.declared.request.Request.{Request}
 use Rattle.mg_wire.specs.declared.response.Response.{Response}
 use Rattle.mg_wire.specs.Body.{Serves, IsBegun, HasNoMessage, AwaitsHead}
-use Rattle.mg_wire.specs.Refusal.{Refuses, refusal_text}
+use Rattle.mg_wire.specs.Refusal.{Refuses, begins_with_head, refusal_text}
 use Rattle.mg_wire.specs.Request.{IsAsked, asks_to_continue}
 use Rattle.mg_wire.specs.Transcript.{Call, interim_for, IsTranscript, KeepsOpen, IsClosedBy, Chain, AnswersMet}
 
@@ -58,7 +58,8 @@ abbrev pub EndsFor : Ending → Connection → List Call → List ℕ → List �
 EndsFor Closed c answered text rest = (c.calls.items ≡ answered) × (said c ≡ text) × IsClosedBy answered
 EndsFor InputEnded c answered text rest = (c.calls.items ≡ answered) × (said c ≡ text) × (rest ≡ []) × IsTrue c.has_ended
 EndsFor (Refused r) c answered text rest =
-    (c.calls.items ≡ answered) × ((date : Option Date) × Follows c rest text (refusal_text date r)) × Refuses c.bounds c.has_ended c.is_starved rest r
+    (c.calls.items ≡ answered) × ((date : Option Date) × Follows c rest text (refusal_text date (begins_with_head rest) r))
+    × Refuses c.bounds c.has_ended c.is_starved rest r
 EndsFor NoMemory c answered text rest =
     (c.calls.items ≡ answered) × Follows c rest text [] × ((r : Refusal) × Refuses c.bounds c.has_ended c.is_starved rest r)
 

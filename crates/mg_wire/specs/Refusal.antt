@@ -1,5 +1,7 @@
--- Why a request is refused, whatever bytes follow, and what the refusal says (RFC 9110, sections 6.6.1 and 15.5; RFC 9112, sections 2.2, 3.2 and 6.1).
-use Rattle.std.specs.Prelude.{◌≡◌, ◌≢◌, ◌⊎◌, ℕ, ◌<◌, Bool, true, false, List, [], ◌++◌, length, Option, Some, None, codes, if◌then◌else◌, ◌==◌, IsTrue}
+-- Why a request is refused, whatever bytes follow, and what the refusal says (RFC 9110, sections 6.6.1, 9.3.2 and 15.5; RFC 9112,
+-- sections 2.2, 3.2, 6.1 and 6.3).
+use Rattle.std.specs.Prelude.{◌≡◌, ◌≢◌, ◌⊎◌, ℕ, ◌<◌, Bool, true, false, List, [], ◌++◌, length, Option, Some, None, codes, if◌then◌else◌, ◌==◌, nat_eq, IsTrue}
+use Rattle.std.specs.List.{starts_with}
 use Rattle.httparse.specs.Grammar.{RequestHead}
 use Rattle.http1.specs.declared.conn.Limits.{Limits}
 use Rattle.http1.specs.declared.decode.Decoder.{Decoder}
@@ -59,23 +61,29 @@ abbrev pub line_refusal : List ℕ → List ℕ → Option Refusal
 line_refusal method target =
     if is_connect (method_kind method) then Some Tunnel else (if is_target_for method target then None else Some InvalidTarget)
 
--- the response to a request that is refused: its status line, and what follows its date
-abbrev pub template_of : Refusal → List ℕ × List ℕ
+-- the response to a request that is refused: its status line, the fields that follow its date, and its content
+abbrev pub template_of : Refusal → List ℕ × List ℕ × List ℕ
 template_of (Unreadable e) =
-    if status_of e == 414 then (Text.URI_TOO_LONG.now, Text.TARGET_TOO_LONG.now)
-    else (if status_of e == 431 then (Text.HEADER_FIELDS_TOO_LARGE.now, Text.FIELDS_TOO_LARGE.now) else (Text.BAD_REQUEST.now, Text.INVALID.now))
-template_of Cut = (Text.BAD_REQUEST.now, Text.CUT.now)
-template_of BodyTooLarge = (Text.CONTENT_TOO_LARGE.now, Text.TOO_LARGE.now)
-template_of UnknownCoding = (Text.NOT_IMPLEMENTED.now, Text.UNKNOWN_CODING.now)
-template_of InvalidTarget = (Text.BAD_REQUEST.now, Text.INVALID_TARGET.now)
-template_of Tunnel = (Text.NOT_IMPLEMENTED.now, Text.NO_TUNNELS.now)
-template_of NoMemory = (Text.SERVICE_UNAVAILABLE.now, Text.NO_MEMORY.now)
+    if status_of e == 414 then (Text.URI_TOO_LONG.now, Text.FIELDS_65.now, Text.TARGET_TOO_LONG.now)
+    else (if status_of e == 431 then (Text.HEADER_FIELDS_TOO_LARGE.now, Text.FIELDS_70.now, Text.FIELDS_TOO_LARGE.now)
+    else (Text.BAD_REQUEST.now, Text.FIELDS_58.now, Text.INVALID.now))
+template_of Cut = (Text.BAD_REQUEST.now, Text.FIELDS_55.now, Text.CUT.now)
+template_of BodyTooLarge = (Text.CONTENT_TOO_LARGE.now, Text.FIELDS_65.now, Text.TOO_LARGE.now)
+template_of UnknownCoding = (Text.NOT_IMPLEMENTED.now, Text.FIELDS_63.now, Text.UNKNOWN_CODING.now)
+template_of InvalidTarget = (Text.BAD_REQUEST.now, Text.FIELDS_57.now, Text.INVALID_TARGET.now)
+template_of Tunnel = (Text.NOT_IMPLEMENTED.now, Text.FIELDS_63.now, Text.NO_TUNNELS.now)
+template_of NoMemory = (Text.SERVICE_UNAVAILABLE.now, Text.FIELDS_68.now, Text.NO_MEMORY.now)
 
 -- the line of the date, if there is one
 abbrev pub date_line : Option Date → List ℕ
 date_line None = []
 date_line (Some d) = codes "date: " ++ (date_text d ++ codes "\r\n")
 
--- the response to a request that is refused at this date
-abbrev pub refusal_text : Option Date → Refusal → List ℕ
-refusal_text date r = (template_of r).0 ++ (date_line date ++ (template_of r).1)
+-- the bytes begin with the method HEAD
+abbrev pub begins_with_head : List ℕ → Bool
+begins_with_head stream = starts_with nat_eq stream (codes "HEAD ")
+
+-- the response to a request that is refused at this date: to HEAD its head alone
+abbrev pub refusal_text : Option Date → Bool → Refusal → List ℕ
+refusal_text date is_head r =
+    (template_of r).0 ++ (date_line date ++ ((template_of r).1 ++ (if is_head then [] else (template_of r).2)))

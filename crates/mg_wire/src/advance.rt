@@ -3,7 +3,7 @@ ghost use Rattle.std.specs.Prelude.{◌≡◌, ◌≢◌, ℕ, ◌<◌, ◌≤�
 ghost use Rattle.http1.specs.Server.{is_head};
 ghost use Rattle.mg_wire.specs.Body.{HasNoMessage, IsBegun, IsFresh, IsWhole};
 ghost use Rattle.mg_wire.specs.Connection.{pending, IsQuiet, IsSilent, Holds, IsDue, Rests, Starts, work};
-ghost use Rattle.mg_wire.specs.Refusal.{Refuses, refusal_text};
+ghost use Rattle.mg_wire.specs.Refusal.{Refuses, begins_with_head, refusal_text};
 ghost use Rattle.mg_wire.specs.Status.{has_content};
 ghost use Rattle.mg_wire.specs.Transcript.{Asks};
 
@@ -45,18 +45,19 @@ fn sent_body(alloc: Global, method: MethodKind, status: Status, body: Vec<u8>) -
 }
 
 impl Connection {
-    /// Refuses the next request, and ends the connection.
+    /// Refuses the next request, and ends the connection. To `HEAD` the head of the refusal is sent alone.
     fn refuse(&mut self, refusal: Refusal)
         ensures quiet { IsQuiet self.old self.new }
         ensures calls { self.new.calls ≡ self.old.calls }
         ensures ends { self.new.end ≢ None }
         ensures says { self.new.end ≡ Some (Ending.Refused refusal)
-            → self.new.output.items ≡ self.old.output.items ++ refusal_text self.old.date refusal }
+            → self.new.output.items ≡ self.old.output.items ++ refusal_text self.old.date (begins_with_head self.old.input.items) refusal }
         ensures holds { (b : Option Begun) → self.old.tail.items ≡ [] → self.old.end ≡ None
             → Refuses self.old.bounds self.old.has_ended self.old.is_starved self.old.input.items refusal
             → Holds (record self.old { begun = b }) → Holds self.new }
     {
-        match write_refusal(&mut self.output, self.date, refusal) {
+        let is_head = self.input.as_slice().starts_with(b"HEAD ");
+        match write_refusal(&mut self.output, self.date, is_head, refusal) {
             Ok(()) => self.close(Ending::Refused(refusal)),
             Err(_) => self.close(Ending::NoMemory),
         }

@@ -10,10 +10,11 @@
 //! be. Each response that a service gives is sent: no value of `Status` or `Fields` is refused, and to its fields
 //! only `Content-Length` and `Connection` are added. It has a `Date` exactly if the service gives its date, since
 //! a connection has no clock. A refusal has the date that the service shows, if it shows one (`Service::date`):
-//! `told` leaves open which. A refusal has a reason that holds whatever bytes follow (`Refuses`); want of memory
-//! is one only for a read, and for a request whose head has come. The connection closes after a response only if
-//! the request or the response asks for it, and goes on only if neither does (`keeps_open`). It is done as soon
-//! as its last response is sent: what the client still sends is the edge's to drop, for some time, once it has
+//! `told` leaves open which. It has no content where the bytes that are refused begin with `HEAD ` (RFC 9110,
+//! section 9.3.2). A refusal has a reason that holds whatever bytes follow (`Refuses`); want of memory is one
+//! only for a read, and for a request whose head has come. The connection closes after a response only if the
+//! request or the response asks for it, and goes on only if neither does (`keeps_open`). It is done as soon as
+//! its last response is sent: what the client still sends is the edge's to drop, for some time, once it has
 //! closed its own side (RFC 9112, section 9.6). A connection that is idle gives its buffers back.
 #![tactic(auto)]
 

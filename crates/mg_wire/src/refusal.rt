@@ -42,61 +42,82 @@ pub(crate) const NOT_IMPLEMENTED: &[u8] = b"HTTP/1.1 501 Not Implemented\r\n";
 
 pub(crate) const SERVICE_UNAVAILABLE: &[u8] = b"HTTP/1.1 503 Service Unavailable\r\n";
 
-// What follows the date of a refusal.
-pub(crate) const INVALID: &[u8] =
-    b"content-type: application/json\r\ncontent-length: 58\r\nconnection: close\r\n\r\n{\"error\":\"bad_request\",\"reason\":\"the request is invalid\"}\n";
+// The fields of a refusal that follow its date, and the empty line. The number in a name is the length of the content.
+pub(crate) const FIELDS_55: &[u8] =
+    b"content-type: application/json\r\ncontent-length: 55\r\nconnection: close\r\n\r\n";
 
-pub(crate) const CUT: &[u8] =
-    b"content-type: application/json\r\ncontent-length: 55\r\nconnection: close\r\n\r\n{\"error\":\"bad_request\",\"reason\":\"the request was cut\"}\n";
+pub(crate) const FIELDS_57: &[u8] =
+    b"content-type: application/json\r\ncontent-length: 57\r\nconnection: close\r\n\r\n";
+
+pub(crate) const FIELDS_58: &[u8] =
+    b"content-type: application/json\r\ncontent-length: 58\r\nconnection: close\r\n\r\n";
+
+pub(crate) const FIELDS_63: &[u8] =
+    b"content-type: application/json\r\ncontent-length: 63\r\nconnection: close\r\n\r\n";
+
+pub(crate) const FIELDS_65: &[u8] =
+    b"content-type: application/json\r\ncontent-length: 65\r\nconnection: close\r\n\r\n";
+
+pub(crate) const FIELDS_68: &[u8] =
+    b"content-type: application/json\r\ncontent-length: 68\r\nconnection: close\r\n\r\n";
+
+pub(crate) const FIELDS_70: &[u8] =
+    b"content-type: application/json\r\ncontent-length: 70\r\nconnection: close\r\n\r\n";
+
+// The contents of refusals.
+pub(crate) const INVALID: &[u8] =
+    b"{\"error\":\"bad_request\",\"reason\":\"the request is invalid\"}\n";
+
+pub(crate) const CUT: &[u8] = b"{\"error\":\"bad_request\",\"reason\":\"the request was cut\"}\n";
 
 pub(crate) const TOO_LARGE: &[u8] =
-    b"content-type: application/json\r\ncontent-length: 65\r\nconnection: close\r\n\r\n{\"error\":\"too_large\",\"reason\":\"the request entity is too large\"}\n";
+    b"{\"error\":\"too_large\",\"reason\":\"the request entity is too large\"}\n";
 
 pub(crate) const TARGET_TOO_LONG: &[u8] =
-    b"content-type: application/json\r\ncontent-length: 65\r\nconnection: close\r\n\r\n{\"error\":\"uri_too_long\",\"reason\":\"the request line is too long\"}\n";
+    b"{\"error\":\"uri_too_long\",\"reason\":\"the request line is too long\"}\n";
 
 pub(crate) const FIELDS_TOO_LARGE: &[u8] =
-    b"content-type: application/json\r\ncontent-length: 70\r\nconnection: close\r\n\r\n{\"error\":\"fields_too_large\",\"reason\":\"the request head is too large\"}\n";
+    b"{\"error\":\"fields_too_large\",\"reason\":\"the request head is too large\"}\n";
 
 pub(crate) const UNKNOWN_CODING: &[u8] =
-    b"content-type: application/json\r\ncontent-length: 63\r\nconnection: close\r\n\r\n{\"error\":\"not_implemented\",\"reason\":\"unknown transfer coding\"}\n";
+    b"{\"error\":\"not_implemented\",\"reason\":\"unknown transfer coding\"}\n";
 
 pub(crate) const INVALID_TARGET: &[u8] =
-    b"content-type: application/json\r\ncontent-length: 57\r\nconnection: close\r\n\r\n{\"error\":\"bad_request\",\"reason\":\"the target is invalid\"}\n";
+    b"{\"error\":\"bad_request\",\"reason\":\"the target is invalid\"}\n";
 
 pub(crate) const NO_TUNNELS: &[u8] =
-    b"content-type: application/json\r\ncontent-length: 63\r\nconnection: close\r\n\r\n{\"error\":\"not_implemented\",\"reason\":\"CONNECT is not answered\"}\n";
+    b"{\"error\":\"not_implemented\",\"reason\":\"CONNECT is not answered\"}\n";
 
 pub(crate) const NO_MEMORY: &[u8] =
-    b"content-type: application/json\r\ncontent-length: 68\r\nconnection: close\r\n\r\n{\"error\":\"out_of_memory\",\"reason\":\"the server lacks memory for it\"}\n";
+    b"{\"error\":\"out_of_memory\",\"reason\":\"the server lacks memory for it\"}\n";
 
-/// The response to a request that is refused: its status line, and what follows its date.
-fn template_of(refusal: Refusal) -> (&'static [u8], &'static [u8])
-    ensures same { (result.0.now, result.1.now) ≡ template_of refusal }
-    ensures short { length result.0.now + length result.1.now ≤ 219 }
+/// The response to a request that is refused: its status line, the fields that follow its date, and its content.
+fn template_of(refusal: Refusal) -> (&'static [u8], &'static [u8], &'static [u8])
+    ensures same { (result.0.now, result.1.now, result.2.now) ≡ template_of refusal }
+    ensures short { length result.0.now + length result.1.now + length result.2.now ≤ 219 }
 {
     match refusal {
         Refusal::Unreadable(error) => unreadable_template(error),
-        Refusal::Cut => (BAD_REQUEST, CUT),
-        Refusal::BodyTooLarge => (CONTENT_TOO_LARGE, TOO_LARGE),
-        Refusal::UnknownCoding => (NOT_IMPLEMENTED, UNKNOWN_CODING),
-        Refusal::InvalidTarget => (BAD_REQUEST, INVALID_TARGET),
-        Refusal::Tunnel => (NOT_IMPLEMENTED, NO_TUNNELS),
-        Refusal::NoMemory => (SERVICE_UNAVAILABLE, NO_MEMORY),
+        Refusal::Cut => (BAD_REQUEST, FIELDS_55, CUT),
+        Refusal::BodyTooLarge => (CONTENT_TOO_LARGE, FIELDS_65, TOO_LARGE),
+        Refusal::UnknownCoding => (NOT_IMPLEMENTED, FIELDS_63, UNKNOWN_CODING),
+        Refusal::InvalidTarget => (BAD_REQUEST, FIELDS_57, INVALID_TARGET),
+        Refusal::Tunnel => (NOT_IMPLEMENTED, FIELDS_63, NO_TUNNELS),
+        Refusal::NoMemory => (SERVICE_UNAVAILABLE, FIELDS_68, NO_MEMORY),
     }
 }
 
-fn unreadable_template(error: ReadError) -> (&'static [u8], &'static [u8])
-    ensures same { (result.0.now, result.1.now) ≡ template_of (Refusal.Unreadable error) }
-    ensures short { length result.0.now + length result.1.now ≤ 219 }
+fn unreadable_template(error: ReadError) -> (&'static [u8], &'static [u8], &'static [u8])
+    ensures same { (result.0.now, result.1.now, result.2.now) ≡ template_of (Refusal.Unreadable error) }
+    ensures short { length result.0.now + length result.1.now + length result.2.now ≤ 219 }
 {
     let status = error.status();
     if status == 414 {
-        (URI_TOO_LONG, TARGET_TOO_LONG)
+        (URI_TOO_LONG, FIELDS_65, TARGET_TOO_LONG)
     } else if status == 431 {
-        (HEADER_FIELDS_TOO_LARGE, FIELDS_TOO_LARGE)
+        (HEADER_FIELDS_TOO_LARGE, FIELDS_70, FIELDS_TOO_LARGE)
     } else {
-        (BAD_REQUEST, INVALID)
+        (BAD_REQUEST, FIELDS_58, INVALID)
     }
 }
 
@@ -116,19 +137,23 @@ fn write_date(output: &mut BytesMut, date: Option<HttpDate>)
     }
 }
 
-/// Appends the response to a request that is refused. If there is no memory for it, appends nothing.
+/// Appends the response to a request that is refused: to `HEAD` the head alone. If there is no memory for it, appends nothing.
 pub(crate) fn write_refusal(
     output: &mut BytesMut,
     date: Option<HttpDate>,
+    is_head: bool,
     refusal: Refusal,
 ) -> Result<(), AllocError>
-    ensures ok { OnOk result (output.new.items ≡ output.old.items ++ refusal_text date refusal) }
+    ensures ok { OnOk result (output.new.items ≡ output.old.items ++ refusal_text date is_head refusal) }
     ensures err { OnErr result (output.new.items ≡ output.old.items) }
 {
     output.reserve(ROOM)?;
-    let (status_line, rest) = template_of(refusal);
+    let (status_line, fields, content) = template_of(refusal);
     output.extend_reserved(status_line);
     write_date(output, date);
-    output.extend_reserved(rest);
+    output.extend_reserved(fields);
+    if !is_head {
+        output.extend_reserved(content);
+    }
     Ok(())
 }

@@ -150,3 +150,26 @@ fn refuses_by_its_reason(rt: HostRuntime) -> Result<(), Fail> {
         ],
     )
 }
+
+// RFC 9110, section 9.3.2; RFC 9112, section 6.3. The length is that of the same refusal with its content.
+#[test]
+fn refuses_head_without_content(rt: HostRuntime) -> Result<(), Fail> {
+    check(
+        &rt,
+        rt.alloc(),
+        &[
+            (
+                "HEAD / HTTP/1.1\r\nHost: h\r\nTransfer-Encoding: gzip, chunked\r\n\r\n",
+                "HTTP/1.1 501 Not Implemented\r\ncontent-type: application/json\r\ncontent-length: 63\r\nconnection: close\r\n\r\n",
+            ),
+            (
+                "GET /a HTTP/1.1\r\nHost: h\r\n\r\nHEAD b HTTP/1.1\r\nHost: h\r\n\r\n",
+                "HTTP/1.1 200 OK\r\ncontent-type: text/plain\r\ncontent-length: 7\r\n\r\nGET /a HTTP/1.1 400 Bad Request\r\ncontent-type: application/json\r\ncontent-length: 57\r\nconnection: close\r\n\r\n",
+            ),
+            (
+                "GET b HTTP/1.1\r\nHost: h\r\n\r\n",
+                "HTTP/1.1 400 Bad Request\r\ncontent-type: application/json\r\ncontent-length: 57\r\nconnection: close\r\n\r\n{\"error\":\"bad_request\",\"reason\":\"the target is invalid\"}\n",
+            ),
+        ],
+    )
+}

@@ -1,4 +1,5 @@
-use Rattle.std.proofs.Common.{refl, sym, ap, append-nil, ◌∙◌}
+use Rattle.std.proofs.Common.{Bool, refl, sym, ap, append-nil, ◌∙◌}
+use Rattle.mg_wire.specs.Refusal.{begins_with_head, refusal_text}
 use Rattle.mg_wire.proofs.HoldLemmas.{refuses, starves}
 use Rattle.mg_wire.proofs.connection.Connection.refuse.Goals as goal
 
@@ -12,7 +13,9 @@ returns-in-Ok-clause-holds c = λ b bare goes_on why h.
       bare = bare;
       tail = ap (λ k. k.tail.items) c.close.ensures ∙ bare;
       out = ap (λ k. k.output.items) c.close.ensures ∙ c.in-Ok.ensures.ok;
-    }) h goes_on c.args.self.now.date c.args.refusal refl (ap (λ k. k.end) c.close.ensures) why
+    }) h goes_on c.args.self.now.date c.args.refusal
+    (ap (λ (is_head : Bool). refusal_text c.args.self.now.date is_head c.args.refusal) (c.starts_with-is_head.ensures.value ∙ ap begins_with_head c.as_slice.ensures))
+    (ap (λ k. k.end) c.close.ensures) why
 
 pub returns-in-Err-clause-holds : goal.returns-in-Err-clause-holds
 returns-in-Err-clause-holds c = λ b bare goes_on why h.
