@@ -95,7 +95,8 @@ def by_python(corpus, share):
 def systems(args):
     """Yields each system that is installed, and the cells that are measured of it."""
     if os.path.exists(args.server):
-        yield lambda corpus: MangoServer(args.server, corpus, PAIR), [*CELLS, *LISTED]
+        # the first documents are listed before commits put others among them
+        yield lambda corpus: MangoServer(args.server, corpus, PAIR), [*LISTED, *CELLS]
     yield lambda corpus: Program(args.program, corpus, PAIR), CELLS
     if os.path.exists("/usr/include/sqlite3.h"):
         yield SQLiteOnDisk, cells(("commit",), 1, 16)
