@@ -82,7 +82,7 @@ def source(measurement):
 def requests(measurement):
     one = where_of((1, 1), measurement.usual)
     rows = []
-    for kind in ("get", "equality", "falling", "scan", "commit", "ascending", "update"):
+    for kind in ("get", "equality", "falling", "scan", "commit", "update"):
         rates = [measurement.values(one, Cell(kind, clients), "rate") for clients in (1, 4, 16)]
         cells = [measurement.values(one, Cell(kind)), measurement.values(where_of((1, 1), measurement.nested), Cell(kind))]
         rows.append((KINDS[kind][0], [*cells, *rates, measurement.values(one, Cell(kind, 16), "p99")]))
@@ -138,7 +138,6 @@ def room(measurement):
         ("blocks of memory of a flat document without indexes", [measurement.values(where_of((1, 1), None), "a flat document", "blocks")]),
         ("bytes that an index of 10 rows takes on each of 64 shards", [measurement.values(many, "an index of 10 rows, a shard", "bytes")]),
         ("load, µs of processor time a document: flat; nested", [measurement.values(where, "load") for where in (one, nested)]),
-        ("an index on one field, ms of processor time; on two fields", [measurement.values(one, f"index {which}") for which in ("price", "kind")]),
         ("250 indexes on 64 shards, 32 workers and 1,000 documents, ms by the clock; 1,000 indexes",
          [measurement.values(many, f"{count} indexes", "ms") for count in ("250", "1,000")]),
     ]
@@ -157,7 +156,7 @@ def pairs(measurement):
 
     rows = []
     for documents in dict.fromkeys((measurement.usual, measurement.few)):
-        for kind in ("equality", "falling") + ("get", "commit") * (documents == measurement.usual):
+        for kind in ("equality", "falling") + ("commit",) * (documents == measurement.usual):
             counted = cells(documents, f"{kind}, counted", "instructions")
             both = [spread(used) + (f"; {number(middle(exact))}" if exact else "") for used, exact in zip(cells(documents, Cell(kind)), counted)]
             rows.append((f"{KINDS[kind][0]}, {documents}: µs of processor time; instructions", both))
@@ -172,9 +171,8 @@ def pairs(measurement):
 
 # what is compared with other systems: a title, a row, a figure, whether more is better
 COMPARED = [
-    *((f"{KINDS[kind][0]}, µs", Cell(kind), "processor", False) for kind in ("get", "equality", "falling", "scan", "commit")),
+    *((f"{KINDS[kind][0]}, µs", Cell(kind), "processor", False) for kind in ("get", "equality", "scan", "commit")),
     *((f"{KINDS[kind][0]}, a second by 16 clients", Cell(kind, 16), "rate", True) for kind in ("get", "equality", "commit")),
-    ("a commit of a new document, a second by 4 clients", Cell("commit", 4), "rate", True),
     ("load, µs a document", "load", "processor", False),
     ("an index on one field, ms", "index price", "processor", False),
     ("memory a document, bytes", "load", "bytes", False),
