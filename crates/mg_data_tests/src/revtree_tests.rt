@@ -3,7 +3,7 @@
 use crate::given::{json, packed, string};
 use mg_doc::served;
 use mg_packed::Packed;
-use mg_revtree::{History, RevTree};
+use mg_revtree::{Body, History, RevTree};
 use mg_value::Json;
 use std::alloc::Global;
 use std::process::Abort;
@@ -21,7 +21,7 @@ fn tree_of_roots<R: Abort>(rt: &R, alloc: Global) -> RevTree {
     let mut tree = RevTree::new(alloc);
     for (id, deleted) in ROOTS {
         let path = path_of(rt, alloc, id);
-        let body = Packed::of(alloc, &Json::Null).expect(rt, "memory");
+        let body = Body::of(Packed::of(alloc, &Json::Null).expect(rt, "memory"));
         let _ = tree.merge(&path, *deleted, body);
     }
     tree
@@ -49,7 +49,7 @@ fn leaves_are_listed_best_first(rt: HostRuntime) {
 fn tree_of_one<R: Abort>(rt: &R, alloc: Global, deleted: bool, body: &str) -> RevTree {
     let mut tree = RevTree::new(alloc);
     let path = path_of(rt, alloc, "x");
-    let merged = tree.merge(&path, deleted, packed(rt, alloc, body));
+    let merged = tree.merge(&path, deleted, Body::of(packed(rt, alloc, body)));
     assert!(rt; merged.is_ok());
     tree
 }

@@ -1,12 +1,10 @@
-ghost use Rattle.std.specs.Prelude.{◌≡◌, IfOk, option_copied, option_map, string_bytes};
+ghost use Rattle.std.specs.Prelude.{◌≡◌, IfOk, option_copied, string_bytes};
 ghost use Rattle.mg_value.specs.Text.{compact};
-ghost use Rattle.mg_doc.specs.Ahead.{ahead_of};
 ghost use Rattle.mg_doc.specs.Digest.{digest_of, parent_text};
 
-use crate::change::Change;
 use md5::{Digest, Md5};
-use mg_packed::{Packed, Part};
-use mg_revtree::Rev;
+use mg_packed::Part;
+use mg_revtree::{Body, Rev};
 use mg_value::{Json, NoMemory, write};
 use std::alloc::Global;
 
@@ -35,21 +33,20 @@ pub fn rev_id(
     Ok(hex::encode(alloc, hasher.finalize())?)
 }
 
-// Makes the id of a new edit's revision before the tree is known. The id is right if the edit extends the revision that it names, or
-// makes the first revision of its document. `None` for a replica's change. Errors: those of `rev_id`.
-pub(crate) fn id_ahead(
+/// Makes the id of a new revision over a parent as `rev_id` does, of a body that is kept at a leaf or goes there.
+///
+/// Errors: `NoMemory` if an allocation fails. Cost: a copy of the body, and that of `rev_id`.
+pub(crate) fn rev_id_of_body(
     alloc: Global,
-    change: &Change,
     deleted: bool,
-    body: &Packed,
-) -> Result<Option<String>, NoMemory>
+    parent: Option<&Rev>,
+    body: &Body,
+) -> Result<String, NoMemory>
     ensures { IfOk result
-        (λ o. option_map string_bytes o ≡ ahead_of change.now deleted body.now) }
+        (λ id. string_bytes id ≡ digest_of deleted (option_copied parent.entry) body.now) }
 {
-    match change {
-        Change::New(named) => Ok(Some(rev_id(alloc, deleted, named.as_ref(), &body.part())?)),
-        Change::Replica(_) => Ok(None),
-    }
+    let body = body.packed(alloc)?;
+    rev_id(alloc, deleted, parent, &body.part())
 }
 
 // Writes the parent as JSON: its text `N-id`, or null if there is none. Errors: `NoMemory` if an allocation fails.

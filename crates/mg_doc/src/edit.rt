@@ -3,25 +3,26 @@ ghost use Rattle.mg_doc.specs.Document.{ReadsAs, edit_of, is_object, members_rea
 
 mod apply;
 
+use crate::ahead::{body_ahead, id_ahead};
 use crate::change::Change;
-use crate::digest::id_ahead;
 use crate::error::DocError;
 use crate::fault::gives_change;
 use crate::members::{checked_mark, id_in, own_body};
 use crate::revisions::change_asked;
 pub use apply::{Look, ReadyEdit};
-use mg_packed::{Kind, Object, Packed, Part};
+use mg_packed::{Kind, Object, Part};
+use mg_revtree::Body;
 use mg_value::NoMemory;
 use std::alloc::Global;
 use std::marker::Model;
 
 /// What a document of a bulk asks for: a new revision (a new edit), or the acceptance of a path of revisions from a replica.
-#[derive(Debug, Drop)]
+#[derive(Drop)]
 pub struct Edit {
     id: Option<String>,
     change: Change,
     deleted: bool,
-    body: Packed,
+    body: Body,
     // the id of a new edit's revision, made before the tree is known: right if the edit extends the revision that it names, or makes the
     // first revision of its document; `None` for a replica's change
     ahead: Option<String>,
@@ -48,7 +49,8 @@ impl Model for Edit {
 }
 
 impl Edit {
-    /// Reads a document of a bulk; `document` must be an object. The body is copied as bytes into one block.
+    /// Reads a document of a bulk; `document` must be an object. The body is copied as bytes into one block; that of a new edit that has an
+    /// id and does not delete, into the block of the form in which the document is served if the edit makes its revision and wins.
     ///
     /// - `_id`: a text that is not empty and does not begin with an underscore. It may be absent.
     /// - `_rev`: the text `N-id` of a revision; `_revisions`: `{"start":N,"ids":[..]}`, a path, newest first. If both are there,
@@ -62,7 +64,7 @@ impl Edit {
     /// underscore, or for a bad `_deleted`; `BadId` for a bad `_id`; `BadRev` for a bad `_rev` or
     /// `_revisions`, or if a replica gives neither; `NoMemory` if an allocation fails and the document has no fault.
     /// Cost: the number of the members, and copies of the id, of the path and of the body's bytes; for a new edit also the length
-    /// of its body's text, because the id of its revision is made here. Source: CouchDB's `_bulk_docs`.
+    /// of its body's text, because the id of its revision is made here, and that of `Body::form`. Source: CouchDB's `_bulk_docs`.
     pub fn read(alloc: Global, document: Part<'_>, new_edit: bool) -> Result<Edit, DocError>
         requires { is_object document ≡ true }
         ensures edit { ReadsAs (edit_of new_edit document.entry) result }
@@ -110,7 +112,7 @@ impl Edit {
             id: copy_id(alloc, self.id())?,
             change: self.change.copy(alloc)?,
             deleted: self.deleted,
-            body: self.body.copy(alloc)?,
+            body: self.body.again(alloc)?,
             ahead: copy_id(alloc, self.ahead.as_deref())?,
         })
     }
@@ -142,6 +144,14 @@ fn edit_in(alloc: Global, members: &Object<'_>, new_edit: bool) -> Result<Edit, 
     let change = change_asked(alloc, members, new_edit)?;
     let body = own_body(alloc, members)?;
     let ahead = id_ahead(alloc, &change, deleted, &body)?;
+    let body = body_ahead(
+        alloc,
+        id.as_deref(),
+        &change,
+        deleted,
+        ahead.as_deref(),
+        body,
+    )?;
     Ok(Edit {
         id,
         change,

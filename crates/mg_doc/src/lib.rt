@@ -12,6 +12,7 @@
 //! `leaf_document` is the document as a leaf has it, and `with_revisions` adds the path of a revision.
 #![tactic(auto)]
 
+mod ahead;
 mod change;
 mod conflicts;
 mod digest;

@@ -44,9 +44,9 @@ impl Model for Body {
 }
 
 impl Body {
-    // Makes a body of a packed value. Takes no memory: the block of the object without members is freed, and any other value keeps its
-    // block.
-    pub(crate) fn of(packed: Packed) -> Body
+    /// Makes a body of a packed value. Takes no memory: the block of the object without members is freed, and any other value keeps its
+    /// block.
+    pub fn of(packed: Packed) -> Body
         ensures { result ≡ packed }
     {
         let block = if has_no_members(&packed) {
@@ -55,6 +55,19 @@ impl Body {
             Block::Own(packed)
         };
         Body { block }
+    }
+
+    /// Makes a body of a packed value, in the block of its form with this id and this revision. A value that has `_id` or `_rev` as a
+    /// member, and the object without members, are kept as `of` keeps them.
+    ///
+    /// Errors and cost: those of `form`.
+    pub fn in_form(alloc: Global, packed: Packed, id: &str, rev: &str) -> Result<Body, NoMemory>
+        ensures { IfOk result (λ body. body ≡ packed) }
+    {
+        let form = make_form(alloc, &packed, id, rev)?;
+        let mut body = Body::of(packed);
+        body.move_into(form);
+        Ok(body)
     }
 
     // Makes the body that a form holds. It stays in the form's block.
@@ -74,6 +87,27 @@ impl Body {
         ensures { IfOk result (λ value. view value ≡ self.now) }
     {
         copy_body(alloc, &self.block)
+    }
+
+    /// Copies the body into a block of its own.
+    ///
+    /// Errors: `NoMemory` if an allocation fails, or if the block would be longer than 4,294,967,295 bytes. Cost: the size of the body.
+    pub fn packed(&self, alloc: Global) -> Result<Packed, NoMemory>
+        ensures { IfOk result (λ packed. packed ≡ self.now) }
+    {
+        let body = self.copy(alloc)?;
+        Packed::of(alloc, &body)
+    }
+
+    /// Makes the same body once more. It shares the block of a form.
+    ///
+    /// Errors: `NoMemory` if an allocation fails, or if there are too many references to the form. Cost: the size of a block of its own.
+    pub fn again(&self, alloc: Global) -> Result<Body, NoMemory>
+        ensures { IfOk result (λ body. body ≡ self.now) }
+    {
+        Ok(Body {
+            block: block_again(alloc, &self.block)?,
+        })
     }
 
     /// Makes the form of the body: the body with this id as `_id` and this revision as `_rev`, in one block. A body that is not an object
@@ -108,6 +142,18 @@ fn has_no_members(packed: &Packed) -> bool
     match packed.part().kind() {
         Kind::Object(members) => members.len() == 0,
         _ => false,
+    }
+}
+
+// Makes a block of the same body. Errors: those of `Body::again`.
+fn block_again(alloc: Global, block: &Block) -> Result<Block, NoMemory>
+    ensures body { IfOk result (λ made. block_value made ≡ block_value block.now) }
+    ensures form { IsFormIfServed block.now → IfOk result (λ made. IsFormIfServed made) }
+{
+    match block {
+        Block::Empty => Ok(Block::Empty),
+        Block::Own(body) => Ok(Block::Own(body.copy(alloc)?)),
+        Block::Served(form) => Ok(Block::Served(form.share()?)),
     }
 }
 

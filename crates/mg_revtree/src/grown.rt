@@ -17,7 +17,6 @@ use crate::leaf_list::{add_leaf, copy_leaves, unleaf};
 use crate::links::KnownLinks;
 use crate::rev_id::RevId;
 use crate::revision::Rev;
-use mg_packed::Packed;
 use mg_value::NoMemory;
 use std::alloc::Global;
 use std::marker::Model;
@@ -123,7 +122,7 @@ impl Grown {
         start: u32,
         ids: &[String],
         deleted: bool,
-        body: Packed,
+        body: Body,
     ) -> Result<Merged, NoMemory>
         requires some { 0 < length ids.now }
         requires run { length ids.now ≤ start + 1 }
@@ -142,7 +141,6 @@ impl Grown {
             pos: start,
             id: RevId::copy_of(alloc, id)?,
         };
-        let body = Body::of(body);
         let leaf = SharedLeaf::new(alloc, Leaf { rev, deleted, body })?;
         reserve(&mut self.leaves, 1)?;
         self.links.join(start, ids)?;

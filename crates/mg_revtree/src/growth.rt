@@ -16,7 +16,6 @@ use crate::leaf::{Leaf, SharedLeaf};
 use crate::links::{KnownLinks, LookUp};
 use crate::pair::Pair;
 use crate::revision::Rev;
-use mg_packed::Packed;
 use mg_value::NoMemory;
 use std::alloc::Global;
 use std::slice;
@@ -155,12 +154,11 @@ impl Growth {
     }
 
     /// Makes a tree whose only revision is this one, without a known parent. Errors: `NoMemory` if an allocation fails.
-    pub fn first(alloc: Global, rev: Rev, deleted: bool, body: Packed) -> Result<Growth, NoMemory>
+    pub fn first(alloc: Global, rev: Rev, deleted: bool, body: Body) -> Result<Growth, NoMemory>
         ensures { IfOk result
             (λ made. tree_in made ≡ first_tree
             (record { rev = rev; deleted = deleted; body = body })) }
     {
-        let body = Body::of(body);
         let leaf = SharedLeaf::new(alloc, Leaf { rev, deleted, body })?;
         Ok(Growth::First(leaf))
     }
@@ -174,7 +172,7 @@ impl Growth {
         start: u32,
         ids: &[String],
         deleted: bool,
-        body: Packed,
+        body: Body,
     ) -> Result<Merged, NoMemory>
         requires some { 0 < length ids.now }
         requires run { length ids.now ≤ start + 1 }
@@ -213,7 +211,7 @@ impl Growth {
         start: u32,
         ids: &[String],
         deleted: bool,
-        body: Packed,
+        body: Body,
     ) -> Result<(Growth, Merged), NoMemory>
         requires some { 0 < length ids.now }
         requires run { length ids.now ≤ start + 1 }
@@ -276,7 +274,7 @@ fn accept_on_line(
     start: u32,
     ids: &[String],
     deleted: bool,
-    body: Packed,
+    body: Body,
 ) -> Result<(Merged, Option<Box<Grown>>), NoMemory>
     requires some { 0 < length ids.now }
     requires run { length ids.now ≤ start + 1 }

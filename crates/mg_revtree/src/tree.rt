@@ -9,6 +9,7 @@ ghost use Rattle.mg_revtree.specs.Losers.{losers_of};
 ghost use Rattle.mg_revtree.specs.Changes.{Decides, extension, found_of, next_position, path_of, position_below, refusal_of, with_path};
 ghost use Rattle.mg_revtree.specs.Steps.{base_in, ids_over};
 
+use crate::body::Body;
 use crate::error::{MergeError, Merged, TreeError, TreeRefusal};
 use crate::form::Form;
 use crate::growth::Growth;
@@ -17,7 +18,6 @@ use crate::leaf::{Leaf, SharedLeaf};
 use crate::leaf_list::{is_leaf, leaf_of, lent_leaves, undeleted_among};
 use crate::rev_id::RevId;
 use crate::revision::Rev;
-use mg_packed::Packed;
 use mg_value::NoMemory;
 use std::alloc::Global;
 use std::marker::Model;
@@ -240,12 +240,7 @@ impl RevTree {
     /// known revision. The body keeps its block and is not copied. If the newer revisions and those of the path are more than 64, and
     /// more than about four times the square root of the number of older ones, all known revisions are copied too. Source: the
     /// replication model of CouchDB.
-    pub fn merge(
-        &mut self,
-        path: &History,
-        deleted: bool,
-        body: Packed,
-    ) -> Result<Merged, MergeError>
+    pub fn merge(&mut self, path: &History, deleted: bool, body: Body) -> Result<Merged, MergeError>
         ensures accepted { OnOk result ((h : Paths) → StandsFor self.old h
             → StandsFor self.new (with_path h (path_of path.now deleted body))) }
         ensures found { IfOk result (λ m. (h : Paths) → StandsFor self.old h → m ≡ found_of h path.now) }
@@ -274,7 +269,7 @@ impl RevTree {
         start: u32,
         ids: &[String],
         deleted: bool,
-        body: Packed,
+        body: Body,
     ) -> Result<Merged, NoMemory>
         requires some { 0 < length ids.now }
         requires run { length ids.now ≤ start + 1 }
@@ -298,7 +293,7 @@ impl RevTree {
     }
 
     // Makes the first revision of a tree without revisions. Errors: `NoMemory` if an allocation fails; the tree is then as it was.
-    fn begin(&mut self, rev: Rev, deleted: bool, body: Packed) -> Result<(), NoMemory>
+    fn begin(&mut self, rev: Rev, deleted: bool, body: Body) -> Result<(), NoMemory>
         requires { self.old ≡ empty_tree }
         ensures begun { OnOk result
             (self.new ≡ first_tree (record { rev = rev; deleted = deleted; body = body })) }
@@ -319,7 +314,7 @@ impl RevTree {
         parent: Option<&Rev>,
         id: String,
         deleted: bool,
-        body: Packed,
+        body: Body,
     ) -> Result<(), TreeError>
         ensures accepted { OnOk result ((h : Paths) → StandsFor self.old h
             → StandsFor self.new
@@ -344,7 +339,7 @@ impl RevTree {
         parent: Option<&Rev>,
         id: String,
         deleted: bool,
-        body: Packed,
+        body: Body,
     ) -> Result<(), NoMemory>
         requires { pos ≡ position_below (option_copied parent) + 1 }
         ensures accepted { OnOk result ((h : Paths) → StandsFor self.old h

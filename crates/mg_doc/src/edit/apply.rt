@@ -1,6 +1,5 @@
-ghost use Rattle.std.specs.Prelude.{◌≡◌, ◌+◌, ◌==◌, Err, IfErr, IfOk, IsOk, Ok, OnErr, OnOk, None, Some, false, option_copied, string_bytes};
+ghost use Rattle.std.specs.Prelude.{◌≡◌, Err, IfErr, IfOk, IsOk, Ok, OnErr, OnOk, None, Some, option_copied, string_bytes};
 ghost use Rattle.std.specs.Result.{result_map_both};
-ghost use Rattle.mg_revtree.specs.Changes.{position_below};
 ghost use Rattle.mg_revtree.specs.History.{Paths};
 ghost use Rattle.mg_revtree.specs.Tree.{StandsFor};
 ghost use Rattle.mg_doc.specs.Applied.{Applied, Foreseen, GivesBack, IsReady, NamesItsBase, error_of};
@@ -10,17 +9,17 @@ ghost use Rattle.mg_doc.specs.Digest.{digest_of};
 ghost use Rattle.mg_doc.specs.Edit.{base_of, first_refusal, outcome_of, replicated};
 ghost use Rattle.mg_doc.specs.declared.change.Change.TheVariants.{New};
 
+use crate::ahead::position_over;
 use crate::change::Change;
-use crate::digest::rev_id;
+use crate::digest::rev_id_of_body;
 use crate::edit::Edit;
 use crate::error::{EditError, EditRefusal};
-use mg_packed::Packed;
-use mg_revtree::{History, Rev, RevId, RevTree};
+use mg_revtree::{Body, History, Rev, RevId, RevTree};
 use std::alloc::Global;
 use std::marker::Model;
 
 /// What a look at an edit finds.
-#[derive(Debug, Drop)]
+#[derive(Drop)]
 pub enum Look {
     /// The edit is a replica's path that is known whole: it changes nothing. Holds the newest revision of the path.
     Known(Rev),
@@ -30,7 +29,7 @@ pub enum Look {
 }
 
 /// An edit that was looked at and not refused, and whose path, if it is a replica's, is not known whole. Made by `Edit::look`.
-#[derive(Debug, Drop)]
+#[derive(Drop)]
 pub struct ReadyEdit {
     edit: Edit,
 }
@@ -155,7 +154,7 @@ fn look_for(tree: &RevTree, path: &History) -> Result<Option<Rev>, EditError>
 
 // Merges the path of a replica, and returns the path's newest revision. Errors: `NoMemory` if the revision cannot be copied, and those of
 // `RevTree::merge`; the tree is then as it was.
-fn merge(tree: &mut RevTree, path: &History, deleted: bool, body: Packed) -> Result<Rev, EditError>
+fn merge(tree: &mut RevTree, path: &History, deleted: bool, body: Body) -> Result<Rev, EditError>
     ensures accepts { (h : Paths) → StandsFor tree.old h
         → AcceptsAs h deleted body (replicated h path.now) result tree.new }
     ensures unchanged { OnErr result (tree.new ≡ tree.old) }
@@ -228,7 +227,7 @@ fn extend(
     tree: &mut RevTree,
     named: Option<&Rev>,
     deleted: bool,
-    body: Packed,
+    body: Body,
     ahead: String,
 ) -> Result<Rev, EditError>
     requires { string_bytes ahead ≡ digest_of deleted (option_copied named) body }
@@ -250,7 +249,7 @@ fn extend_unnamed(
     alloc: Global,
     tree: &mut RevTree,
     deleted: bool,
-    body: Packed,
+    body: Body,
     ahead: String,
 ) -> Result<Rev, EditError>
     requires { string_bytes ahead ≡ digest_of deleted None body }
@@ -263,7 +262,7 @@ fn extend_unnamed(
     match copy_base(alloc, tree)? {
         None => extend_over(alloc, tree, None, deleted, body, ahead),
         Some(base) => {
-            let id = rev_id(alloc, deleted, Some(&base), &body.part())?;
+            let id = rev_id_of_body(alloc, deleted, Some(&base), &body)?;
             extend_over(alloc, tree, Some(&base), deleted, body, id)
         }
     }
@@ -276,7 +275,7 @@ fn extend_over(
     tree: &mut RevTree,
     base: Option<&Rev>,
     deleted: bool,
-    body: Packed,
+    body: Body,
     id: String,
 ) -> Result<Rev, EditError>
     requires { string_bytes id ≡ digest_of deleted (option_copied base) body }
@@ -292,16 +291,4 @@ fn extend_over(
     };
     tree.extend(base, id, deleted, body)?;
     Ok(rev)
-}
-
-// Returns the position over a base, or 1 without a base. For a base at the last position, returns that position; `RevTree::extend`
-// refuses such a base.
-fn position_over(base: Option<&Rev>) -> u32
-    ensures { (position_below (option_copied base.entry) == 4294967295) ≡ false
-        → result ≡ position_below (option_copied base.entry) + 1 }
-{
-    match base {
-        None => 1,
-        Some(rev) => rev.pos.saturating_add(1),
-    }
 }

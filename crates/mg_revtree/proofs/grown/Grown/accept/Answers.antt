@@ -1,5 +1,4 @@
 use Rattle.std.proofs.Common.{◌≡◌, ◌∙◌, true, false, not, filter, Some, None, is_some, map, string_bytes, sym, ap, subst, List, ℕ, arith}
-use Rattle.mg_value.specs.Value.{Value}
 use Rattle.mg_revtree.specs.Revision.{Revision, run_from}
 use Rattle.mg_revtree.specs.History.{Leaf, all_links, is_known, has_child, links, newest_of, ranked_with}
 use Rattle.mg_revtree.specs.Tree.{AreApart, AreRanked, Tree, StandsFor, find, leaf_in}
@@ -35,8 +34,7 @@ returns-clause-accepted c = λ h stands.
     let k : is_some (find q kept) ≡ false = sym (c.knows-known.ensures s.known.sorted) ∙ c.if-known.false in
     let leaf : Leaf = record { rev = q; deleted = c.args.deleted; body = c.args.body } in
     let u : is_known q (all_links h) ≡ false = sym (found_known q (all_links h) kept (s.known.same q)) ∙ k in
-    let made : c.in_ok-leaf.leaf ≡ leaf = c.in_ok-leaf.ensures ∙ ap (λ (t : List ℕ). (let l : Leaf = record { rev = (c.args.start, t); deleted = c.args.deleted; body = c.of-body.result } in l)) (c.in_ok-copy_of.ensures.copy ∙ c.deref.ensures)
-    ∙ ap (λ (v : Value). (let l : Leaf = record { rev = q; deleted = c.args.deleted; body = v } in l)) c.of-body.ensures in
+    let made : c.in_ok-leaf.leaf ≡ leaf = c.in_ok-leaf.ensures ∙ ap (λ (t : List ℕ). (let l : Leaf = record { rev = (c.args.start, t); deleted = c.args.deleted; body = c.args.body } in l)) (c.in_ok-copy_of.ensures.copy ∙ c.deref.ensures) in
     let ordered : AreRanked left = subst AreRanked (sym unleafed) (are_ranked-filter (λ l. not (has_child l.rev (links rs))) leaves s.leaves.ranked) in
     let none : leaf_in q left ≡ None = rw unleafed (unknown_no_leaf h (path_of rs c.args.deleted c.args.body) q newest leaves s.leaves.same u) in
     let more : c.add_leaf.new.leaves.items ≡ ranked_with leaf left = c.add_leaf.ensures ordered (subst (λ (l : Leaf). leaf_in l.rev left ≡ None) (sym made) none) ∙ ap (λ (l : Leaf). ranked_with l left) made in
