@@ -24,6 +24,7 @@ use std::alloc::Global;
 use std::marker::Model;
 use std::sync::ledger::{Blank, Share};
 use std::sync::{Arc, Mutex, Wait};
+use thiserror::Error;
 
 /// An open database. Contracts see the number of its seats.
 #[derive(Drop)]
@@ -66,11 +67,13 @@ impl Model for Closed {
 }
 
 /// Why a database was not closed.
-#[derive(Clone, Copy, PartialEq, Eq, Debug, Drop)]
+#[derive(Clone, Copy, PartialEq, Eq, Debug, Drop, Error)]
 pub enum CloseError {
     /// A seat is absent.
+    #[error("a seat is absent")]
     Missing,
     /// A seat has seen more commits than all seats together have made.
+    #[error("a seat has seen more commits than all seats have made")]
     Ahead,
 }
 
