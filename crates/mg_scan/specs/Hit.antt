@@ -5,7 +5,7 @@ use Rattle.std.specs.List.{AllByRecursion}
 use Rattle.mg_collate.specs.Row.{RowValue}
 use Rattle.mg_value.specs.Text.{compact}
 use Rattle.mg_value.specs.Value.{Value}
-use Rattle.mg_scan.specs.LentRow.{lent_row}
+use Rattle.mg_scan.specs.LentRow.{lent_row_view}
 use Rattle.mg_scan.specs.declared.hit.Hit.{Hit}
 use Rattle.mg_shard.specs.Documents.{KeptDocuments, form_of, kept_of}
 use Rattle.mg_shard.specs.Shard.{ShardView}
@@ -13,7 +13,7 @@ use Rattle.mg_shard.specs.declared.document.Document.{Document}
 
 -- the row of a hit: its key, and the id of its document
 abbrev pub hit_row : Hit → RowValue
-hit_row h = lent_row h.row
+hit_row h = lent_row_view h.row
 
 -- the rows of hits
 abbrev pub hit_rows : List Hit → List RowValue

@@ -3,7 +3,7 @@ use Rattle.std.specs.Prelude.{◌≡◌, ℕ, true, List, [], Some, drop, is_som
 use Rattle.std.specs.List.{AllByRecursion}
 use Rattle.mg_collate.specs.Row.{RowValue}
 use Rattle.mg_scan.specs.Decided.{everything}
-use Rattle.mg_scan.specs.LentRow.{lent_row}
+use Rattle.mg_scan.specs.LentRow.{lent_row_view}
 use Rattle.mg_scan.specs.Way.{all_found_by}
 use Rattle.mg_scan.specs.Sourced.{AreKept, walked_documents}
 use Rattle.mg_scan.specs.Walked.{is_late_row, walked_all}
@@ -17,7 +17,7 @@ use Rattle.mg_shard.specs.Shard.{ShardView}
 
 -- the row of a lead
 abbrev pub lead_row : Lead → RowValue
-lead_row l = lent_row l.row
+lead_row l = lent_row_view l.row
 
 -- the lead names this shard, and the shard serves a document under the id of the lead's row
 pub record IsLeadOf (s : ShardView) (l : Lead) : Type 0 where

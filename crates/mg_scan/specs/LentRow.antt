@@ -5,6 +5,6 @@ use Rattle.mg_scan.specs.declared.lent_row.LentRow.{LentRow}
 use Rattle.mg_scan.specs.declared.lent_row.LentRow.TheVariants.{Bytes, Id}
 
 -- the row that is lent: of a defined index, or of an id in the index of all documents
-abbrev pub lent_row : LentRow → RowValue
-lent_row (Bytes row) = row.now
-lent_row (Id id) = id_row id.now
+abbrev pub lent_row_view : LentRow → RowValue
+lent_row_view (Bytes row) = row.now
+lent_row_view (Id id) = id_row id.now

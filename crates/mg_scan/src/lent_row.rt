@@ -2,7 +2,7 @@
 ghost use Rattle.std.specs.Prelude.{◌≡◌, IfOk};
 ghost use Rattle.mg_collate.specs.Row.{row_value_order, row_view};
 ghost use Rattle.mg_value.specs.View.{items_view};
-ghost use Rattle.mg_scan.specs.LentRow.{lent_row};
+ghost use Rattle.mg_scan.specs.LentRow.{lent_row_view};
 ghost use Rattle.mg_scan.specs.Walked.{id_row};
 
 use mg_collate::Row;
@@ -24,7 +24,7 @@ impl<'a> LentRow<'a> {
     /// Returns the id of the row's document. Takes no memory.
     #[inline(always)]
     pub(crate) fn id(&self) -> &'a str
-        ensures { result.now ≡ (lent_row self.now).1 }
+        ensures { result.now ≡ (lent_row_view self.now).1 }
     {
         match self {
             LentRow::Bytes(row) => row.id(),
@@ -34,7 +34,7 @@ impl<'a> LentRow<'a> {
 
     /// Copies the row's key. Errors: `NoMemory` if an allocation fails. Cost: the size of the key.
     pub(crate) fn key(&self, alloc: Global) -> Result<Vec<Json>, NoMemory>
-        ensures { IfOk result (λ key. items_view key.items ≡ (lent_row self.now).0) }
+        ensures { IfOk result (λ key. items_view key.items ≡ (lent_row_view self.now).0) }
     {
         match self {
             LentRow::Bytes(row) => row.key(alloc),
@@ -44,7 +44,7 @@ impl<'a> LentRow<'a> {
 
     /// Copies the row. Errors: `NoMemory` if an allocation fails. Cost: the size of the row.
     pub(crate) fn row(&self, alloc: Global) -> Result<Row, NoMemory>
-        ensures { IfOk result (λ row. row_view row ≡ lent_row self.now) }
+        ensures { IfOk result (λ row. row_view row ≡ lent_row_view self.now) }
     {
         match self {
             LentRow::Bytes(row) => row.row(alloc),
@@ -55,7 +55,7 @@ impl<'a> LentRow<'a> {
     /// Compares two rows: by key, then by the bytes of the id. Takes no memory.
     #[inline(always)]
     pub(crate) fn compare(&self, other: &LentRow<'a>) -> Ordering
-        ensures { result ≡ row_value_order (lent_row self.now) (lent_row other.now) }
+        ensures { result ≡ row_value_order (lent_row_view self.now) (lent_row_view other.now) }
     {
         match self {
             LentRow::Bytes(row) => compare_row(row, other),
@@ -67,7 +67,7 @@ impl<'a> LentRow<'a> {
 // Compares a row of an index to another row.
 #[inline(always)]
 fn compare_row(row: &RowBytes, other: &LentRow<'_>) -> Ordering
-    ensures { result ≡ row_value_order row.now (lent_row other.now) }
+    ensures { result ≡ row_value_order row.now (lent_row_view other.now) }
 {
     match other {
         LentRow::Bytes(other) => row.compare(other),
@@ -77,7 +77,7 @@ fn compare_row(row: &RowBytes, other: &LentRow<'_>) -> Ordering
 
 // Compares the row of an id in the index of all documents to another row.
 fn compare_id(id: &str, other: &LentRow<'_>) -> Ordering
-    ensures { result ≡ row_value_order (id_row id.now) (lent_row other.now) }
+    ensures { result ≡ row_value_order (id_row id.now) (lent_row_view other.now) }
 {
     match other {
         LentRow::Bytes(other) => other.compare_to_id(id).reverse(),

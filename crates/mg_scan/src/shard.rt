@@ -8,7 +8,7 @@ ghost use Rattle.mg_index.specs.Catalog.{definition_at};
 ghost use Rattle.mg_shard.specs.Documents.{KeptDocuments, docs_of, kept_entry, form_of, id_bytes, kept_of};
 ghost use Rattle.mg_shard.specs.Own.{id_columns};
 ghost use Rattle.mg_scan.specs.Hit.{AreHitsOf, IsHitOf, hit_row, hit_rows};
-ghost use Rattle.mg_scan.specs.LentRow.{lent_row};
+ghost use Rattle.mg_scan.specs.LentRow.{lent_row_view};
 ghost use Rattle.mg_scan.specs.Scan.{first_matches};
 ghost use Rattle.mg_scan.specs.Search.{search_input};
 ghost use Rattle.mg_scan.specs.Walked.{holds_at, id_row, is_late_row, list_of_option};
@@ -38,8 +38,8 @@ pub(crate) fn hit_of<'a>(
     ensures row { option_map hit_row result
         ≡ if option_map_or
         (λ form. normal_holds normal.now (Some form)) (form_of document.now) false then Some
-        (lent_row row.entry) else None }
-    ensures lent { (ds : KeptDocuments) → get ds (lent_row row.entry).1 ≡ Some (kept_of document.now)
+        (lent_row_view row.entry) else None }
+    ensures lent { (ds : KeptDocuments) → get ds (lent_row_view row.entry).1 ≡ Some (kept_of document.now)
         → IfSome result (IsHitOf ds) }
 {
     let form = document.written()?;
