@@ -36,11 +36,11 @@ def program(args, pair=(1, 1), **more):
 
 def requests(args, add):
     """Requests of each kind by 1, 4 and 16 clients, flat and nested; then on pairs of shards and workers."""
-    further = [Cell("update"), Cell("update", 4), Cell("ascending")]
-    measure(program(args), Corpus(args.usual), EACH + further, args.share, add)
+    further = cells(("update", "ascending"), 1)
+    measure(program(args), Corpus(args.usual), [*EACH, *further, Cell("update", 4)], args.share, add)
     measure(program(args), Corpus(args.usual, "nested"), [*cells(READS, 1), *cells(("commit",), 1, 4, 16), Cell("update")], args.share, add)
     for pair in PAIRS:
-        measure(program(args, pair), Corpus(args.usual), EACH, args.share, add)
+        measure(program(args, pair), Corpus(args.usual), EACH + further, args.share, add)
 
 
 def sizes(args, add):

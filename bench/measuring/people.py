@@ -12,8 +12,8 @@ SESSIONS = 4
 PAIR = (4, 4)
 # each is measured with these pairs of shards and workers
 PAIRS = [(1, 1), (4, 4), (16, 4), (64, 32)]
-USUAL = [Cell("mix", 16), Cell("get", 64, pause=30)]
 MANY = 1000
+USUAL = [Cell("mix", 16), Cell("get", 64, pause=30), Cell("get", MANY, pause=30)]
 AT_ONCE = 5000
 # a good client beside many that do harm waits at most so long, in seconds, and so do all that send at once
 PATIENCE = 3
