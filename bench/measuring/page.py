@@ -196,14 +196,13 @@ def others(measurement):
         lower = {name for name, values in theirs.items() if is_less(values, ours)}
         higher = {name for name, values in theirs.items() if is_less(ours, values)}
 
-        def cell(names, shown=spread):
+        def cell(names):
             order = sorted(names, key=lambda name: middle(theirs[name]), reverse=more)
-            return ", ".join(f"{name} {shown(theirs[name])}" for name in order)
+            return ", ".join(f"{name} {spread(theirs[name])}" for name in order)
 
         better, worse = (higher, lower) if more else (lower, higher)
         if ours and theirs:
-            worse = cell(worse, lambda values: number(middle(values)))
-            rows.append((title, [ours, cell(better), cell(set(theirs) - lower - higher), worse]))
+            rows.append((title, [ours, cell(better), cell(set(theirs) - lower - higher), cell(worse)]))
     return table(f"{measurement.found['usual']:,} flat documents", ["mangod", "better", "not told apart", "worse"], rows)
 
 
