@@ -1,11 +1,12 @@
-/* Preloaded into a program, counts the system calls that it makes through the C library, and its blocks of memory.
+/* Preloaded into a program, counts the system calls that it makes through the C library, and its memory.
 
    CALLS names a file of words of 64 bits, which is shared with the test, so the test can read it while the program runs: reads, writes, waits for
-   events, the other calls that a server makes, and the blocks that are taken and not given back. What the C library calls within itself, such
-   as a mutex that waits, is not counted. */
+   events, the other calls that a server makes, and the blocks that are taken and not given back, and their bytes. What the C library calls within
+   itself, such as a mutex that waits, is not counted. */
 #define _GNU_SOURCE
 #include <dlfcn.h>
 #include <fcntl.h>
+#include <malloc.h>
 #include <poll.h>
 #include <stdarg.h>
 #include <stdatomic.h>
@@ -18,7 +19,7 @@
 #include <time.h>
 #include <unistd.h>
 
-enum { READS, WRITES, WAITS, OTHERS, BLOCKS, WORDS };
+enum { READS, WRITES, WAITS, OTHERS, BLOCKS, BYTES, WORDS };
 
 static _Atomic int64_t *words;
 
@@ -62,7 +63,19 @@ COUNTED(OTHERS, int, nanosleep, (const struct timespec *wanted, struct timespec 
 
 /* Counts a block that was taken, if there is one. */
 static void *taken(void *block) {
-    if (words && block) atomic_fetch_add(&words[BLOCKS], 1);
+    if (words && block) {
+        atomic_fetch_add(&words[BLOCKS], 1);
+        atomic_fetch_add(&words[BYTES], malloc_usable_size(block));
+    }
+    return block;
+}
+
+/* Counts a block that is given back, if there is one. */
+static void *given(void *block) {
+    if (words && block) {
+        atomic_fetch_sub(&words[BLOCKS], 1);
+        atomic_fetch_sub(&words[BYTES], malloc_usable_size(block));
+    }
     return block;
 }
 
@@ -74,12 +87,14 @@ void *aligned_alloc(size_t alignment, size_t size) { return taken(__libc_memalig
 
 int posix_memalign(void **to, size_t alignment, size_t size) { return (*to = aligned_alloc(alignment, size)) ? 0 : 12; }
 
-void *realloc(void *block, size_t size) { return block ? __libc_realloc(block, size) : malloc(size); }
-
-void free(void *block) {
-    if (words && block) atomic_fetch_sub(&words[BLOCKS], 1);
-    __libc_free(block);
+void *realloc(void *block, size_t size) {
+    void *found = __libc_realloc(given(block), size);
+    /* a block that cannot be made larger stays */
+    taken(!found && size ? block : found);
+    return found;
 }
+
+void free(void *block) { __libc_free(given(block)); }
 
 /* The calls without a function of their own, such as those of a futex. */
 long syscall(long number, ...) {

@@ -110,8 +110,8 @@ static size_t http(const byte *in, size_t have, const Request *request, bool *ri
     const byte *end = memmem(in, have, "\r\n\r\n", 4);
     if (!end) return 0;
     size_t head = end + 4 - in;
-    /* Content-Length, in the case that the system writes it in */
-    const byte *length = memmem(in, head, "ength: ", 7);
+    /* Content-Length, in the case that the system writes it in; the reply to a HEAD has no body */
+    const byte *length = strncmp(request->text, "HEAD ", 5) ? memmem(in, head, "ength: ", 7) : NULL;
     size_t whole = head + (length ? strtoul((const char *)length + 7, NULL, 10) : 0);
     *right = head > 12 && strtoul((const char *)in + 9, NULL, 10) == request->code;
     return whole <= have ? whole : 0;

@@ -1,4 +1,4 @@
-"""Controls the shim client/calls.c: it counts the system calls of a program, and its blocks of memory."""
+"""Controls the shim client/calls.c: it counts the system calls of a program, and its blocks of memory with their bytes."""
 import contextlib
 import mmap
 import struct
@@ -6,7 +6,8 @@ import tempfile
 
 from .client import compiled
 
-WORDS = ("reads", "writes", "waits", "other calls", "blocks")
+MEMORY = ("blocks", "bytes")
+WORDS = ("reads", "writes", "waits", "other calls", *MEMORY)
 
 
 @contextlib.contextmanager

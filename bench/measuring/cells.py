@@ -20,10 +20,11 @@ KINDS = {
     "scan": ("one document without an index", 200),
     "first": ("the first 1,000 documents by `_find`", 50),
     "listing": ("the first 1,000 documents by `_all_docs`", 50),
+    "head": ("`HEAD` of a document", 20000),
     "root": ("`GET /`", 50),
     "commit": ("a commit of a new document", 5000),
     "ascending": ("the same, with ascending ids", 5000),
-    "update": ("an edit of a document", 5000),
+    "update": ("the first edit of a document", 5000),
     "mix": ("80 % queries by an index, 15 % `GET`, 5 % commits", 5000),
 }
 WARM = 0.2

@@ -18,8 +18,7 @@ GATE = {
     "kinds": ["get", "equality", "falling", "two", "deep", "scan", "commit"],
 }
 # what bench/run counts, at each of two numbers of documents
-MANY = {"shape": "flat", "ids": "short", "pairs": [(1, 1), (16, 1), (64, 32)], "cache": 1 << 20, "requests": 60,
-        "kinds": ["get", "equality", "falling", "commit"]}
+MANY = {"shape": "flat", "ids": "short", "pairs": [(1, 1), (16, 1), (64, 32)], "cache": 1 << 20, "requests": 60, "kinds": ["equality", "falling"]}
 TOOL = ["valgrind", "--quiet", "--tool=callgrind", "--instr-atstart=no"]
 
 
@@ -125,7 +124,9 @@ def instructions(args, add):
     if args.turn or not shutil.which("valgrind"):
         return
     for count in sorted({min(10_000, args.usual), args.usual}):
-        sizes = {**MANY, "documents": count, **({"requests": 4} if args.smallest else {})}
-        for pair, kinds in of_sizes(args.program, sizes).items():
+        found = of_sizes(args.program, {**MANY, "documents": count, **({"requests": 4} if args.smallest else {})})
+        for pair, kinds in found.items():
+            further = int(pair.partition("/")[0]) - 1
             for kind, (taken, reads) in kinds.items():
-                add(f"mangod {pair}, {count:,} {MANY['shape']}", f"{kind}, counted", {"instructions": taken, "reads": reads})
+                each = {"instructions of a further shard": (taken - found["1/1"][kind][0]) / further} if further else {}
+                add(f"mangod {pair}, {count:,} {MANY['shape']}", f"{kind}, counted", {"instructions": taken, "reads": reads, **each})

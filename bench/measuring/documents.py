@@ -18,6 +18,8 @@ PRIME = 1000003
 INDEXES = {"group": ["group"], "price": ["price"], "kind": ["kind", "price"]}
 # in the id of a new document: ten digits, which the client makes
 MARKER = "@" * 10
+# what stands in each right reply without documents: that to a `HEAD` has the first revision of a document as its tag
+MARKS = {"commit": b'"ok":true', "root": b'"couchdb":"Welcome"', "head": b'"1-'}
 
 
 class Flat:
@@ -80,7 +82,7 @@ class Request:
         """Returns what stands in each right reply."""
         if self.answer:
             return f'"_id":"{self.answer.last}"'.encode()
-        return b'"ok":true' if self.kind == "commit" else b'"couchdb":"Welcome"'
+        return MARKS[self.kind]
 
 
 def compact(value):
@@ -188,6 +190,10 @@ class Corpus:
     def ask_root(self, dice):
         """Returns the request for the name of the server."""
         return Request("root", (), None)
+
+    def ask_head(self, dice):
+        """Returns the request for the head of the reply with a document."""
+        return Request("head", self.ask_get(dice).about, None)
 
     def ask_commit(self, dice):
         """Returns the request to make a document whose id follows a random one."""

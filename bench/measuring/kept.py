@@ -15,9 +15,10 @@ from .program import Program
 from .sqlite import SQLite
 
 READS = ("get", "equality")
-CELLS = [*cells(READS, 1), *cells(("commit",), 1, 4, 16)]
-# what mango_server alone answers, and a page that is as long as one of these
-LISTED = cells(("root", "listing", "first"), 1)
+# the first documents are listed before commits put others among them
+CELLS = [Cell("first"), *cells(READS, 1), *cells(("commit",), 1, 4, 16)]
+# what mango_server alone answers
+ALONE = cells(("head", "root", "listing"), 1)
 PAIR = (1, 4)
 
 
@@ -34,8 +35,6 @@ class MangoServer(Program):
     """The program that keeps its data, on a file of its own."""
 
     called = "mango_server"
-    kinds = (*Program.kinds, "root", "listing", "first")
-
     def words(self, pair, sessions):
         self.file = os.path.join(tempfile.mkdtemp(dir=folder().name), "db")
         shards, workers = map(str, pair)
@@ -95,8 +94,7 @@ def by_python(corpus, share):
 def systems(args):
     """Yields each system that is installed, and the cells that are measured of it."""
     if os.path.exists(args.server):
-        # the first documents are listed before commits put others among them
-        yield lambda corpus: MangoServer(args.server, corpus, PAIR), [*LISTED, *CELLS]
+        yield lambda corpus: MangoServer(args.server, corpus, PAIR), [*ALONE, *CELLS]
     yield lambda corpus: Program(args.program, corpus, PAIR), CELLS
     if os.path.exists("/usr/include/sqlite3.h"):
         yield SQLiteOnDisk, cells(("commit",), 1, 16)

@@ -4,7 +4,7 @@ import contextlib
 import tempfile
 import time
 
-from .calls import calls
+from .calls import MEMORY, calls
 from .cells import load
 from .counted import TOOL, Counter
 from .documents import BULK, Corpus
@@ -64,7 +64,7 @@ def system_calls(path):
             time.sleep(STILL)
             before = counts()
             work()
-            return {name: round((after - before[name]) / REQUESTS, 3) for name, after in counts().items() if name != "blocks"}
+            return {name: round((after - before[name]) / REQUESTS, 3) for name, after in counts().items() if name not in MEMORY}
 
         def again():
             for _ in range(REQUESTS):

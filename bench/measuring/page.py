@@ -10,9 +10,11 @@ from .figures import is_less, middle, number, spread
 
 TEMPLATE = Path(__file__).resolve().parent.parent / "performance.md"
 PLACE = re.compile(r"<!-- bench/page: ([a-z ]+) -->")
-MOST_LINES = 150
+MOST_LINES, WIDTH = 132, 148
 ALL_PAIRS = [(1, 1), (4, 4), (16, 4), (16, 1), (64, 32)]
 SYSTEMS = ["plain Rust", "SQLite", "PostgreSQL", "MariaDB", "Tarantool", "Redis"]
+READS = ("get", "equality")
+HARMFUL = ("half a head", "half a body", "an unread reply")
 
 
 def read(name):
@@ -55,6 +57,16 @@ def table(first, columns, rows):
     return [f"| {first} | {' | '.join(columns)} |", "|---" * (len(columns) + 1) + "|", *lines] if lines else []
 
 
+def several(*figures):
+    """Returns the text of figures in one cell; empty if none was measured."""
+    return "; ".join(spread(values) or "not measured" for values in figures) if any(figures) else ""
+
+
+def paragraph(words):
+    """Returns the lines of a text."""
+    return textwrap.wrap(words, WIDTH, break_long_words=False, break_on_hyphens=False)
+
+
 def source(measurement):
     """Returns the lines on the source of the tables."""
     found = measurement.found
@@ -68,49 +80,49 @@ def source(measurement):
     minutes = sum(part["took"] for part in found["parts"].values()) / 60
     again = sum(part.get("again", 0) for part in found["parts"].values())
     words = (f"Measured on {found['date']} at commit `{found['commit']}` in {minutes:.0f} minutes, on {found['machine']}, beside {versions}. "
-             f"Meanwhile other processes took at most {others:.2f} processors, other machines of the host {stolen:.2f}, and a loop that is always "
-             f"the same took {min(loops):.1f} to {max(loops):.1f} ms; a part of a turn that a busy machine disturbed was measured again ({again} "
-             f"were). A figure is the median of {found['turns']} turns, with the least and the greatest in brackets; a turn of a cell takes "
-             f"{found['seconds']:g} s.")
+             f"Meanwhile other processes took at most {others:.2f} processors, other machines of the host {stolen:.2f}, and a fixed loop took "
+             f"{min(loops):.1f} to {max(loops):.1f} ms. A figure is the median of {found['turns']} turns of {found['seconds']:g} s, with the least "
+             f"and the greatest in brackets.")
+    if again:
+        words += f" {again} times a part of a turn was measured again, since the machine was busy."
     if found["shared"]:
-        words += " The machine is a virtual one on a shared host, which gives its processors unevenly: figures are to be compared by their intervals alone."
+        words += " The host gives the processors of this virtual machine to others too: compare figures by their intervals alone."
     if not found["cycles"]:
         words += " This machine does not count cycles, so processor time stands for them."
-    return textwrap.wrap(words, 148, break_long_words=False, break_on_hyphens=False)
+    return paragraph(words)
 
 
 def requests(measurement):
-    one = where_of((1, 1), measurement.usual)
-    rows = []
-    for kind in ("get", "equality", "falling", "scan", "commit", "update"):
-        rates = [measurement.values(one, Cell(kind, clients), "rate") for clients in (1, 4, 16)]
-        cells = [measurement.values(one, Cell(kind)), measurement.values(where_of((1, 1), measurement.nested), Cell(kind))]
-        rows.append((KINDS[kind][0], [*cells, *rates, measurement.values(one, Cell(kind, 16), "p99")]))
-    columns = ["processor time, µs", "nested documents, µs", "requests a second: 1 client", "4 clients", "16 clients", "99 % wait at most, of 16, µs"]
-    return table(f"{measurement.found['usual']:,} documents, three indexes", columns, rows)
+    """Returns a table of requests by some clients."""
+    one, nested = (where_of((1, 1), documents) for documents in (measurement.usual, measurement.nested))
+    rows = [(KINDS[kind][0], one, kind) for kind in ("get", "equality", "falling", "scan", "commit", "update")]
+    rows.insert(5, ("the same, of a nested document", nested, "commit"))
+    figures = [(1, "processor"), (4, "processor"), (1, "rate"), (4, "rate"), (16, "rate"), (16, "p99")]
+    columns = ["processor time, µs: 1 client", "4 clients", "requests a second: 1 client", "4 clients", "16 clients", "99 % wait at most, 16 clients, µs"]
+    return table(f"{measurement.found['usual']:,} flat documents, three indexes, one shard, one worker", columns,
+                 [(title, [measurement.values(where, Cell(kind, clients), figure) for clients, figure in figures]) for title, where, kind in rows])
 
 
 def people(measurement):
     """Yields a table with the rate and the waits of clients on few sessions."""
     usual, many, small = where_of((4, 4), measurement.usual, 4), where_of((4, 4), measurement.usual), where_of((4, 4), "1,000 flat", 4)
-    rows = [(f"{KINDS['mix'][0]}; 16 clients", usual, Cell("mix", 16)), ("`GET`, 16 clients", usual, Cell("get", 16)),
-            ("`GET`, 64 clients that pause 30 ms", usual, Cell("get", 64, 30)),
-            ("`GET`, 1,000 clients that pause 30 ms, 16 sessions", many, Cell("get", 1000, 30))]
-    rows += [(f"{KINDS[kind][0]}, beside four clients that commit, 16 sessions", many, f"{kind} by 1 beside commits by 4")
-             for kind in ("get", "equality")]
-    rows += [(f"`GET`, beside 1,000 connections with {what} (3 s are measured)", small, f"get by 1 beside 1,000 with {what}")
-             for what in ("half a head", "half a body", "an unread reply")]
-    made = [(title, [measurement.values(where, row, figure) for figure in ("rate", "median", "p99")]) for title, where, row in rows]
-    yield from table("4 sessions where nothing else is said", ["a second", "median, µs", "99 % at most, µs"], made)
-    yield ""
-    for title, values in [
-        ("`GET`s a second of one client that sends 1,000 at once", measurement.values(usual, Cell("get", depth=1000), "rate")),
-        ("5,000 connections that each send a `GET` at once are answered within, ms (20 s are waited)",
-         measurement.values(small, "5,000 at once", "ms")),
-        ("Memory of each of 5,000 silent connections, bytes", measurement.values(small, "5,000 idle", "bytes")),
-    ]:
-        if values:
-            yield f"- {title}: {spread(values)}."
+    rows = [(f"{KINDS['mix'][0]}; 16 clients", usual, [Cell("mix", 16)]), ("`GET`, 16 clients", usual, [Cell("get", 16)]),
+            ("`GET`, 64 clients that pause 30 ms", usual, [Cell("get", 64, 30)]),
+            ("`GET`, 1,000 clients that pause 30 ms; 16 sessions", many, [Cell("get", 1000, 30)]),
+            *((f"{KINDS[kind][0]}, 1 client beside 4 that commit; 16 sessions", many, [f"{kind} by 1 beside commits by 4"]) for kind in READS),
+            (f"`GET`, 1 client for 3 s beside 1,000 connections with {'; '.join(HARMFUL)}", small,
+             [f"get by 1 beside 1,000 with {what}" for what in HARMFUL])]
+    made = [(title, [several(*(measurement.values(where, row, figure) for row in cells)) for figure in ("rate", "median", "p99")])
+            for title, where, cells in rows]
+    yield from table("4 shards, 4 workers, 4 sessions where nothing else is said", ["requests a second", "median wait, µs", "99 % wait at most, µs"], made)
+    answered = measurement.values(small, "5,000 at once", "answered")
+    share = "" if answered and min(answered) == 1 else f"A share of {spread(answered)} of "
+    said = [f"{before} {spread(values)} {after}." for before, values, after in [
+        ("One client that sends 1,000 `GET`s at once has", measurement.values(usual, Cell("get", depth=1000), "rate"), "replies a second"),
+        (f"{share}5,000 connections that each send a `GET` at once are answered within", measurement.values(small, "5,000 at once", "ms"), "ms"),
+        ("Each of 5,000 silent connections takes", measurement.values(small, "5,000 idle", "bytes"), "bytes of memory")] if values]
+    if said:
+        yield from ("", *paragraph(" ".join(said)))
 
 
 def less(some, others):
@@ -123,30 +135,29 @@ def divided(values, by):
 
 
 def room(measurement):
-    """Yields a table of memory and of what is done once."""
+    """Returns a table of memory, of bulks, of many indexes, and of a commit among many documents."""
     one, nested = (where_of((1, 1), documents) for documents in (measurement.usual, measurement.nested))
-    flat = lambda row: measurement.values(one, row, "bytes")
-    many = where_of((64, 32), None)
+    flat = lambda row, figure="bytes": measurement.values(one, row, figure)
+    alone = lambda row, figure="bytes": measurement.values(where_of((1, 1), None), row, figure)
+    many = lambda row, figure="bytes": measurement.values(where_of((64, 32), None), row, figure)
+    most = sorted({min(10_000, measurement.found["usual"]), measurement.found["usual"], measurement.found["most"]})
     rows = [
-        ("bytes a flat document, no index; three indexes", [flat("load"), flat("indexed")]),
-        ("bytes a nested document, no index; three indexes", [measurement.values(nested, row, "bytes") for row in ("load", "indexed")]),
-        ("bytes a document with random ids; with ascending ones", [flat("random keys"), flat("ascending keys")]),
-        ("bytes a row of an index with random keys; with ascending ones",
-         [less(flat(f"{order} keys, with an index"), flat(f"{order} keys")) for order in ("random", "ascending")]),
-        ("bytes of a document that was made and deleted",
-         [measurement.values(where_of((1, 1), None), "a document that was made and deleted", "bytes")]),
-        ("blocks of memory of a flat document without indexes", [measurement.values(where_of((1, 1), None), "a flat document", "blocks")]),
-        ("bytes that an index of 10 rows takes on each of 64 shards", [measurement.values(many, "an index of 10 rows, a shard", "bytes")]),
-        ("load, µs of processor time a document: flat; nested", [measurement.values(where, "load") for where in (one, nested)]),
-        ("250 indexes on 64 shards, 32 workers and 1,000 documents, ms by the clock; 1,000 indexes",
-         [measurement.values(many, f"{count} indexes", "ms") for count in ("250", "1,000")]),
+        ("bytes of a flat document: no index; three indexes; no index and ascending ids; made and deleted",
+         [*map(flat, ("load", "indexed", "ascending keys")), alone("a document that was made and deleted")]),
+        ("bytes of a nested document: no index; three indexes", [measurement.values(nested, row, "bytes") for row in ("load", "indexed")]),
+        ("bytes of an index: a row with random keys; with ascending keys; 10 rows, on each of 64 shards",
+         [*(less(flat(f"{order} keys, with an index"), flat(f"{order} keys")) for order in ("random", "ascending")),
+          many("an index of 10 rows, a shard")]),
+        ("a flat document without indexes: blocks of memory; bytes in them for each further byte of its text",
+         [alone("a flat document", figure) for figure in ("blocks", "bytes for a byte of text")]),
+        ("bulks of 1,000 without indexes, µs of processor time a document: flat; nested; the first edit of a flat one",
+         [flat("load", "processor"), measurement.values(nested, "load"), flat("random keys, edited", "processor")]),
+        ("64 shards, 32 workers, 1,000 documents, ms by the clock: 250 indexes; 1,000 indexes; an index among 250; among 1,000",
+         [many(f"{count} indexes", figure) for figure in ("ms", "ms each") for count in ("250", "1,000")]),
+        (f"a commit, µs of processor time: among {'; '.join(f'{count:,}' for count in most)} documents",
+         [measurement.values(where_of((1, 1), f"{count:,} flat"), Cell("commit")) for count in most]),
     ]
-    rows = [(title, [*cells, ""][:2]) for title, cells in rows]
-    most = measurement.found["most"]
-    sizes = [(f"a commit among {count:,} documents, µs of processor time", where_of((1, 1), f"{count:,} flat"))
-             for count in sorted({min(10_000, measurement.found["usual"]), measurement.found["usual"], most})]
-    return table(f"{measurement.found['usual']:,} documents", ["", "and"],
-                 [*rows, *((title, [measurement.values(where, Cell("commit")), ""]) for title, where in sizes)])
+    return table(f"{measurement.found['usual']:,} documents", ["median (least to greatest), in this order"], [(title, [several(*figures)]) for title, figures in rows])
 
 
 def pairs(measurement):
@@ -156,16 +167,12 @@ def pairs(measurement):
 
     rows = []
     for documents in dict.fromkeys((measurement.usual, measurement.few)):
-        for kind in ("equality", "falling") + ("commit",) * (documents == measurement.usual):
+        for kind in ("equality", "falling"):
             counted = cells(documents, f"{kind}, counted", "instructions")
             both = [spread(used) + (f"; {number(middle(exact))}" if exact else "") for used, exact in zip(cells(documents, Cell(kind)), counted)]
             rows.append((f"{KINDS[kind][0]}, {documents}: µs of processor time; instructions", both))
     rows.append((f"{KINDS['scan'][0]}: ms by the clock", [divided(one, 1e3) for one in cells(measurement.usual, Cell("scan"), "median")]))
-    rows.append(("an index on two fields: ms by the clock", cells(measurement.usual, "index kind", "clock")))
-    rows += [(f"{KINDS[kind][0]}, 16 clients: requests a second", cells(measurement.usual, Cell(kind, 16), "rate"))
-             for kind in ("equality", "commit")]
-    rows += [(f"{title}, 4 sessions: requests a second", cells(measurement.usual, cell, "rate", 4))
-             for title, cell in ((f"{KINDS['mix'][0]}; 16 clients", Cell("mix", 16)), ("`GET`, 64 clients that pause 30 ms", Cell("get", 64, 30)))]
+    rows.append((f"{KINDS['mix'][0]}; 16 clients, 4 sessions: requests a second", cells(measurement.usual, Cell("mix", 16), "rate", 4)))
     return table("shards/workers", ["{}/{}".format(*pair) for pair in ALL_PAIRS], rows)
 
 
@@ -176,7 +183,6 @@ COMPARED = [
     ("load, µs a document", "load", "processor", False),
     ("an index on one field, ms", "index price", "processor", False),
     ("memory a document, bytes", "load", "bytes", False),
-    ("memory a document with three indexes, bytes", "indexed", "bytes", False),
 ]
 
 
@@ -190,14 +196,13 @@ def others(measurement):
         lower = {name for name, values in theirs.items() if is_less(values, ours)}
         higher = {name for name, values in theirs.items() if is_less(ours, values)}
 
-        def cell(names, shown=spread):
+        def cell(names):
             order = sorted(names, key=lambda name: middle(theirs[name]), reverse=more)
-            return ", ".join(f"{name} {shown(theirs[name])}" for name in order)
+            return ", ".join(f"{name} {spread(theirs[name])}" for name in order)
 
         better, worse = (higher, lower) if more else (lower, higher)
         if ours and theirs:
-            worse = cell(worse, lambda values: number(middle(values)))
-            rows.append((title, [ours, cell(better), cell(set(theirs) - lower - higher), worse]))
+            rows.append((title, [ours, cell(better), cell(set(theirs) - lower - higher), cell(worse)]))
     return table(f"{measurement.found['usual']:,} flat documents", ["mangod", "better", "not told apart", "worse"], rows)
 
 
@@ -218,10 +223,11 @@ def kept(measurement):
     names = ["mango_server 1/4", "mangod 1/4", "SQLite on the disk", "Python's sqlite3", "PostgreSQL on the disk"]
     rows = [(name, [measurement.values(f"{name}, {measurement.usual}", *place) for place in columns.values()]) for name in names]
     yield from table(f"{measurement.found['usual']:,} documents", columns, rows)
-    listed = [f"{KINDS[kind][0]} {spread(values)}" for kind in ("root", "listing", "first")
-              if (values := measurement.values(f"{names[0]}, {measurement.usual}", Cell(kind)))]
-    if listed:
-        yield from ("", f"`mango_server`, µs of processor time: {'; '.join(listed)}.")
+    asked = [(kind, names[0]) for kind in ("head", "root", "listing", "first")] + [("first", names[1])]
+    said = [f"{KINDS[kind][0]} {spread(values)}" + " (mangod)" * (name == names[1]) for kind, name in asked
+            if (values := measurement.values(f"{name}, {measurement.usual}", Cell(kind)))]
+    if said:
+        yield from ("", *paragraph(f"`mango_server`, µs of processor time: {'; '.join(said)}."))
 
 
 TABLES = {"source": source, "requests": requests, "people": people, "room": room, "pairs": pairs, "kept": kept, "others": others, "settings": settings}

@@ -6,6 +6,7 @@ from .cells import Cell, cells, measure
 from .counted import instructions
 from .documents import Corpus
 from .kept import kept
+from .lines import lines
 from .people import people
 from .program import TUNABLES, Program
 from .room import room
@@ -35,20 +36,20 @@ def program(args, pair=(1, 1), **more):
 
 def requests(args, add):
     """Requests of each kind by 1, 4 and 16 clients, flat and nested; then on pairs of shards and workers."""
-    further = [Cell("update"), Cell("update", 4), Cell("ascending")]
-    measure(program(args), Corpus(args.usual), EACH + further, args.share, add)
+    further = cells(("update", "ascending"), 1)
+    measure(program(args), Corpus(args.usual), [*EACH, *further, Cell("update", 4)], args.share, add)
     measure(program(args), Corpus(args.usual, "nested"), [*cells(READS, 1), *cells(("commit",), 1, 4, 16), Cell("update")], args.share, add)
     for pair in PAIRS:
-        measure(program(args, pair), Corpus(args.usual), EACH, args.share, add)
+        measure(program(args, pair), Corpus(args.usual), EACH + further, args.share, add)
 
 
 def sizes(args, add):
     """Few and many documents: queries on pairs of shards and workers, and what a commit takes."""
+    queries, commit = cells(("equality", "falling"), 1), Cell("commit")
     for pair in [(1, 1), (16, 1), (64, 32)]:
-        wanted = cells(("equality", "falling", "commit"), 1)
-        measure(program(args, pair), Corpus(min(args.usual, FEW)), wanted, args.share, add)
+        measure(program(args, pair), Corpus(min(args.usual, FEW)), queries + [commit] * (pair == (1, 1)), args.share, add)
     if args.most > args.usual:
-        measure(program(args), Corpus(args.most), cells(("get", "equality", "commit"), 1), args.share, add)
+        measure(program(args), Corpus(args.most), [commit], args.share, add)
 
 
 def settings(args, add):
@@ -74,5 +75,6 @@ def other(name):
     return part
 
 
-OURS = {"requests": requests, "people": people, "room": room, "sizes": sizes, "kept": kept, "settings": settings, "instructions": instructions}
+OURS = {"requests": requests, "people": people, "room": room, "sizes": sizes, "kept": kept, "settings": settings, "instructions": instructions,
+        "lines": lines}
 PARTS = {**OURS, **{name: other(name) for name in OTHERS}}

@@ -12,8 +12,8 @@ SESSIONS = 4
 PAIR = (4, 4)
 # each is measured with these pairs of shards and workers
 PAIRS = [(1, 1), (4, 4), (16, 4), (64, 32)]
-USUAL = [Cell("mix", 16), Cell("get", 64, pause=30)]
 MANY = 1000
+USUAL = [Cell("mix", 16), Cell("get", 64, pause=30), Cell("get", MANY, pause=30)]
 AT_ONCE = 5000
 # a good client beside many that do harm waits at most so long, in seconds, and so do all that send at once
 PATIENCE = 3
@@ -68,11 +68,11 @@ def harmful(system):
 
 def stuck(args, add):
     """A good client beside many that do harm. It waits at most `PATIENCE`; a `p99` of that length is a wait that was cut off."""
-    many = max(SESSIONS, int(MANY * args.share))
+    many = int(MANY * args.scale)
     for place, what in enumerate(HARMFUL):
         with small(args) as (where, system):
             with client.held(system, [(0, b"", harmful(system)[place])], many):
-                load = client.Load(seconds=max(0.3, PATIENCE * args.share))
+                load = client.Load(seconds=max(0.3, PATIENCE * args.scale))
                 report = client.send(system, records_of(system, "get", args.share), load, may_close=True)
             figures = per_request(report)
             # a wait that was cut off counts for those that it stands for
@@ -82,23 +82,22 @@ def stuck(args, add):
             add(where, f"get by 1 beside {MANY:,} with {what}", figures)
 
 
-
 def at_once(args, add):
     """Connections that are opened and each send a `GET` at once: the time until all are answered, at most `LONGEST`."""
     with small(args) as (where, system):
-        load = client.Load(clients=max(10, int(AT_ONCE * args.share)), each=1, seconds=max(1, LONGEST * args.share))
+        load = client.Load(clients=int(AT_ONCE * args.scale), each=1, seconds=max(1, LONGEST * args.scale))
         report = client.send(system, records_of(system, "get", args.share), load, "--rush", "yes", may_close=True)
         add(where, f"{AT_ONCE:,} at once", {"ms": report["seconds"] * 1e3, "answered": report["requests"] / load.clients})
 
 
 def idle(args, add):
     """The memory of connections that are silent after a reply; those that were not answered within two seconds are so as well."""
-    many = max(10, int(AT_ONCE * args.share))
+    many = int(AT_ONCE * args.scale)
     with small(args) as (where, system):
         system.rest()
         before = system.size()
         with client.held(system, [(0, b"", message("GET", system.corpus.name(1)))], many):
-            time.sleep(min(2, 5 * args.share))
+            time.sleep(max(0.1, 2 * args.scale))
             add(where, f"{AT_ONCE:,} idle", {"bytes": (system.size() - before) / many})
 
 

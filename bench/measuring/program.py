@@ -5,7 +5,7 @@ import re
 import socket
 import subprocess
 
-from .documents import LONG_PAGE, PAGE, compact
+from .documents import LONG_PAGE, MARKS, PAGE, compact
 from .receive import receive
 from .server import Server
 
@@ -38,8 +38,8 @@ def prepared(corpus, request):
         "scan": lambda: {"selector": {text: about[0]}},
         "first": lambda: {"selector": {}, "limit": LONG_PAGE},
     }
-    if request.kind == "get":
-        return message("GET", about[0])
+    if request.kind in ("get", "head"):
+        return message(request.kind.upper(), about[0])
     if request.kind == "listing":
         return message("GET", f"_all_docs?limit={LONG_PAGE}&include_docs=true")
     if request.kind == "root":
@@ -143,8 +143,12 @@ class Program(Server):
         """Returns records of edits, each of another loaded document; each can be sent once."""
         order = [i for i in self.corpus.numbers() if self.corpus.name(i) in self.revisions][self.edited : self.edited + number]
         self.edited += number
-        docs = ({"_id": (name := self.corpus.name(i)), "_rev": self.revisions[name], **self.corpus.edited_body(i)} for i in order)
-        return [(201, b'"ok":true', message("POST", "_bulk_docs", {"docs": [one]})) for one in docs]
+        return [(201, MARKS["commit"], self.prepare_edits([i])) for i in order]
+
+    def prepare_edits(self, numbers):
+        """Returns the message that edits documents whose revisions were kept."""
+        docs = [{"_id": (name := self.corpus.name(i)), "_rev": self.revisions[name], **self.corpus.edited_body(i)} for i in numbers]
+        return message("POST", "_bulk_docs", {"docs": docs})
 
     def prepare_bulk(self, numbers):
         return message("POST", "_bulk_docs", {"docs": [{"_id": self.corpus.name(i), **self.corpus.body(i)} for i in numbers]})

@@ -1,21 +1,26 @@
-"""What takes room: documents with ascending ids, rows of indexes, deleted documents, small and many indexes."""
+"""What takes room: documents with ascending ids, rows of indexes, deleted documents, small and many indexes; and first edits of documents."""
 import contextlib
 import json
 import time
 
-from .calls import calls
-from .cells import load
-from .documents import BULK, Corpus
+from .calls import MEMORY, calls
+from .cells import EDITED_BULKS, load
+from .documents import BULK, Corpus, compact
 from .program import Program
 
 SMALL_INDEXES = 50
 ROWS = 10
 MANY_SHARDS = (64, 32)
 INDEXES = (250, 1000)
+# so many indexes are measured by themselves, before each of these numbers is reached
+LAST = 50
+# until a program has given back what a reply took, in seconds
+STILL = 0.2
 
 
 def kept(args, add):
-    """The memory of a document, in random and in ascending order of ids; and with an index by the id's number that is there before the load."""
+    """The memory of a document, in random and in ascending order of ids; and with an index by the id's number that is there before the load. Without
+    indexes also the time of first edits, which is to be compared with that of the load."""
     for order in (False, True):
         for indexed in (False, True):
             corpus = Numbered(args.usual, ascending=order)
@@ -23,9 +28,11 @@ def kept(args, add):
                 empty = system.size()
                 if indexed:
                     system.index("price")
-                used = load(system)["processor"]
-                row = f"{'ascending' if order else 'random'} keys{', with an index' * indexed}"
-                add(f"{system.name}, {corpus.title}", row, {"bytes": (system.size() - empty) / corpus.count, "processor": used})
+                used = load(system, keeps_revisions=True)["processor"]
+                where, row = f"{system.name}, {corpus.title}", f"{'ascending' if order else 'random'} keys{', with an index' * indexed}"
+                add(where, row, {"bytes": (system.size() - empty) / corpus.count, "processor": used})
+                if not indexed:
+                    add(where, f"{row}, edited", {"processor": edited(system)})
 
 
 class Numbered(Corpus):
@@ -33,6 +40,17 @@ class Numbered(Corpus):
 
     def price(self, i):
         return i
+
+
+def edited(system):
+    """Edits documents in bulks, each for the first time. Returns the microseconds of processor time for each."""
+    numbers, used = system.corpus.numbers()[: EDITED_BULKS * BULK], 0
+    for at in range(0, len(numbers), BULK):
+        part = numbers[at : at + BULK]
+        bulk, before = system.prepare_edits(part), system.processor()
+        system.send_bulk(bulk, len(part))
+        used += system.processor() - before
+    return used / len(numbers) * 1e6
 
 
 def deleted(args, add):
@@ -67,26 +85,53 @@ def small_indexes(args, add):
 
 
 def many_indexes(args, add):
-    """The time that it takes to define many indexes, in milliseconds, from the first one on."""
+    """The time that it takes to define many indexes, in milliseconds: of all from the first one on, and of each of the last ones."""
+    last = max(1, int(LAST * args.scale))
     with contextlib.closing(Program(args.program, Corpus(BULK), MANY_SHARDS)) as system:
         load(system)
         made, clock = 0, time.monotonic()
         for wanted in INDEXES:
-            while made < max(2, wanted * args.share):
+            while made < int(wanted * args.scale):
+                if made == int(wanted * args.scale) - last:
+                    late = time.monotonic()
                 system.index("price", f"index{made}")
                 made += 1
-            add(system.name, f"{wanted:,} indexes", {"ms": (time.monotonic() - clock) * 1e3})
+            now = time.monotonic()
+            add(system.name, f"{wanted:,} indexes", {"ms": (now - clock) * 1e3, "ms each": (now - late) * 1e3 / last})
+
+
+class Doubled(Corpus):
+    """Documents that have each member twice."""
+
+    def body(self, i):
+        body = super().body(i)
+        return {**body, **{f"{name}2": value for name, value in body.items()}}
 
 
 def blocks(args, add):
-    """The blocks of memory of a document without indexes; they are counted, so the first turn suffices."""
+    """The blocks of memory of a document without indexes, the bytes in them, and how many more there are for each further byte of its text. They are
+    counted, so the first turn suffices."""
     if args.turn:
         return
-    corpus = Corpus(min(args.usual, 10 * BULK))
+    count = max(2 * BULK, int(10 * BULK * args.scale))
+    flat, doubled = (taken(args, corpus) for corpus in (Corpus(count), Doubled(count)))
+    times = (doubled["bytes"] - flat["bytes"]) / (doubled["text"] - flat["text"])
+    add("mangod 1/1", "a flat document", {"blocks": flat["blocks"], "bytes": flat["bytes"], "bytes for a byte of text": times})
+
+
+def taken(args, corpus):
+    """Returns what a document takes, and the bytes of its text without its id. The first bulk is not counted: the session keeps room for it."""
+    numbers = corpus.numbers()
     with calls() as (environment, counts), contextlib.closing(Program(args.program, corpus, environment=environment)) as system:
-        before = counts()["blocks"]
-        load(system)
-        add(system.name, "a flat document", {"blocks": (counts()["blocks"] - before) / corpus.count})
+        for at in range(0, corpus.count, BULK):
+            system.send_bulk(system.prepare_bulk(numbers[at : at + BULK]), BULK)
+            if at == 0:
+                time.sleep(STILL)
+                before = counts()
+        time.sleep(STILL)
+        after, counted = counts(), numbers[BULK:]
+    texts = sum(len(compact(corpus.body(i)).encode()) for i in counted)
+    return {"text": texts / len(counted), **{name: (after[name] - before[name]) / len(counted) for name in MEMORY}}
 
 
 def room(args, add):
