@@ -15,3 +15,4 @@ mod Carried
 mod Spelling
 pub mod Counting
 pub mod Ranging
+mod RowTexts

@@ -23,3 +23,4 @@ pub mod More
 pub mod Questions
 pub mod QuestionView
 pub mod Counted
+pub mod Rows

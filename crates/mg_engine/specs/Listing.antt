@@ -2,7 +2,7 @@
 use Rattle.std.specs.Prelude.{ℕ, pos, List, [], ◌+◌, ◌&&◌, Bool, true, false, codes, filter, length, min, Option, Some, None, if◌then◌else◌}
 use Rattle.std.specs.Cmp.Lexicographic.{slice_cmp}
 use Rattle.std.specs.Ordering.{is_gt, is_lt, nat_cmp}
-use Rattle.mg_value.specs.Value.{Value, flag, whole, text, list, object, Items, item, no_items, member, no_members, with_member}
+use Rattle.mg_value.specs.Value.{Value, flag, whole, text, list, object, item, no_items, member, no_members, with_member}
 use Rattle.mg_collate.specs.Direction.{direction_name}
 use Rattle.mg_collate.specs.declared.direction.Direction.{Direction}
 use Rattle.mg_collate.specs.declared.direction.Direction.TheVariants.{Asc, Desc}
@@ -44,11 +44,6 @@ abbrev pub ids_in : Direction → Listing → Value
 ids_in Asc l = from_id l.start true (up_to_id l.last l.with_last)
 ids_in Desc l = from_id l.last l.with_last (up_to_id l.start true)
 
--- what the query shows of a document: the whole, or its id and its revision
-abbrev pub fields_shown : Bool → Items
-fields_shown true = no_items
-fields_shown false = item (text (codes "_id")) (item (text (codes "_rev")) no_items)
-
 -- the selector of a range
 abbrev pub selector_of : Listing → Value
 selector_of l = object (member (codes "_id") (ids_in (direction_of l) l) no_members)
@@ -61,11 +56,10 @@ sort_by direction = list (item (object (member (codes "_id") (text (direction_na
 abbrev pub range_query : Listing → Value
 range_query l = object (
     member (codes "conflicts") (flag (l.documents && l.conflicts)) (
-    member (codes "fields") (list (fields_shown l.documents)) (
     member (codes "limit") (whole (pos l.limit)) (
     member (codes "selector") (selector_of l) (
     member (codes "skip") (whole (pos l.skip)) (
-    member (codes "sort") (sort_by (direction_of l)) no_members))))))
+    member (codes "sort") (sort_by (direction_of l)) no_members)))))
 
 -- ---- `offset`
 

@@ -170,8 +170,8 @@ fn absent_json(alloc: Global, id: &str) -> Result<Json, NoMemory>
     Ok(row)
 }
 
-/// Makes the value with these rows. Errors: `NoMemory` if an allocation fails, or as for `count_json`.
-pub(crate) fn rows_json(
+// Makes the value with these rows. Errors: `NoMemory` if an allocation fails, or as for `count_json`.
+fn rows_json(
     alloc: Global,
     offset: usize,
     total: usize,

@@ -35,6 +35,7 @@ mod read;
 mod refusal;
 mod reply;
 mod reshard;
+mod rows;
 mod shards;
 mod state;
 

@@ -1,39 +1,38 @@
 //! The rows of a range of ids.
 ghost use Rattle.std.specs.Prelude.{◌≡◌, IfOk, Ok, Some, filter, length, map, min, option_map, string_bytes};
-ghost use Rattle.mg_value.specs.View.{view};
 ghost use Rattle.mg_shard.specs.Dealt.{Placing, ShardsStandFor};
 ghost use Rattle.mg_shard.specs.Documents.{docs_of};
 ghost use Rattle.mg_shard.specs.Histories.{Histories};
 ghost use Rattle.mg_shard.specs.Shard.{HaveIndexes, shards_view};
 ghost use Rattle.mg_query.specs.Page.{candidates_of};
+ghost use Rattle.mg_query.specs.Paged.{shown_value};
 ghost use Rattle.mg_query.specs.Served.{HaveIdsAndRevs};
 ghost use Rattle.mg_query.specs.View.{query_view};
 ghost use Rattle.mg_engine.specs.Answering.{MakesAnswer};
 ghost use Rattle.mg_engine.specs.Bodies.{line_of};
 ghost use Rattle.mg_engine.specs.Counted.{counted_before};
 ghost use Rattle.mg_engine.specs.Listing.{comes_before, count_before, offset_of, opposite};
-ghost use Rattle.mg_engine.specs.Questions.{doc_count, listed_row, member_or_null, range_answer, range_found, rows_value};
+ghost use Rattle.mg_engine.specs.Questions.{doc_count, listed_row, range_answer, range_found, rows_value};
 ghost use Rattle.mg_engine.specs.QuestionView.{listing_view};
 ghost use Rattle.mg_engine.specs.Stands.{StateStandsFor};
 ghost use Rattle.mg_engine.specs.View.{reply_view};
 ghost use Rattle.mg_engine.specs.World.{World};
 
-use crate::body::line;
 use crate::context::Context;
 use crate::database::{add, count_docs};
 use crate::fault::Fault;
-use crate::keys::rows_json;
 use crate::listing::Listing;
 use crate::query::make_reply;
 use crate::range_query::range_json;
 use crate::reply::Reply;
+use crate::rows::write_rows;
 use crate::state::State;
 use mg_collate::Direction;
 use mg_index::Catalog;
-use mg_query::{Query, page_by};
+use mg_query::{Query, Shown, lend_page};
 use mg_scan::Gate;
 use mg_shard::Shard;
-use mg_value::{Json, NoMemory};
+use mg_value::NoMemory;
 use std::alloc::Global;
 use std::sync::Arc;
 use std::thread::Threads;
@@ -41,8 +40,8 @@ use std::thread::Threads;
 impl State {
     /// Makes the reply with the rows of a range of ids.
     ///
-    /// Errors: `NoMemory` if an allocation fails, or if there are more than 9,223,372,036,854,775,807 documents. Cost: that of the query, and
-    /// in each shard that of `Shard::count_docs_beyond`.
+    /// Errors: `NoMemory` if an allocation fails, or as for `add`. Cost: that of the query, in each shard that of `Shard::count_docs_beyond`,
+    /// and for each row a look-up of its `_id` and its `_rev` and a copy of the row's text.
     pub(crate) fn list_range<R: Threads + Sync, G: Gate + Sync>(
         &self,
         context: &Context<'_, R, G>,
@@ -74,7 +73,7 @@ fn range_line<R: Threads + Sync, G: Gate + Sync>(
     listed_line(context, catalog, shards, listing, &query)
 }
 
-// Writes the line with the rows of the documents that a query finds. Errors: those of `page_by` and of `rows_line`, as faults.
+// Writes the line with the rows of the documents that a query finds. Errors: those of `lend_page` and of `rows_line`, as faults.
 fn listed_line<R: Threads + Sync, G: Gate + Sync>(
     context: &Context<'_, R, G>,
     catalog: &Catalog,
@@ -94,33 +93,31 @@ fn listed_line<R: Threads + Sync, G: Gate + Sync>(
         workers,
         gate,
     } = context;
-    match page_by(*rt, *alloc, query, catalog, shards, *workers, *gate) {
+    match lend_page(*rt, *alloc, query, catalog, shards, *workers, *gate) {
         Ok(page) => {
-            let line = rows_line(*alloc, shards, listing, page.docs)?;
+            let line = rows_line(*alloc, shards, listing, &page.docs)?;
             Ok(line)
         }
         Err(fault) => Err(Fault::from(fault)),
     }
 }
 
-// Writes the line with the rows of these documents. Errors: `NoMemory` if an allocation fails, or as for `count_json`.
+// Writes the line with the rows of these documents. Errors: `NoMemory` if an allocation fails, or as for `add`.
 fn rows_line(
     alloc: Global,
     shards: &[Arc<Shard>],
     listing: &Listing,
-    documents: Vec<Json>,
+    docs: &[Shown<'_>],
 ) -> Result<Vec<u8>, NoMemory>
     ensures { IfOk result (λ line. (place : Placing) (hs : Histories) → ShardsStandFor place (shards_view shards.now) hs
         → line.items ≡ line_of (rows_value (offset_of hs (listing_view listing.now)) (doc_count hs)
-        (map (listed_row listing.now.documents) (map view documents.items)))) }
+        (map (listed_row listing.now.documents) (map shown_value docs.now)))) }
 {
     let total = count_docs(shards)?;
     let before = count_before(shards, listing.direction(), &listing.start)?;
     let passed = add(before, listing.skip as usize)?;
     let offset = least(total, passed);
-    let rows = listed_rows(alloc, documents, listing.documents)?;
-    let listed = rows_json(alloc, offset, total, rows)?;
-    let line = line(alloc, &listed)?;
+    let line = write_rows(alloc, offset, total, docs, listing.documents)?;
     Ok(line)
 }
 
@@ -177,45 +174,5 @@ fn opposite(direction: Direction) -> Direction
     match direction {
         Direction::Asc => Direction::Desc,
         Direction::Desc => Direction::Asc,
-    }
-}
-
-// Makes the rows of these documents. Errors: `NoMemory` if an allocation fails.
-fn listed_rows(alloc: Global, found: Vec<Json>, documents: bool) -> Result<Vec<Json>, NoMemory>
-    ensures { IfOk result (λ rows. map view rows.items ≡ map (listed_row documents) (map view found.items)) }
-{
-    let mut rows = Vec::with_capacity(alloc, found.len())?;
-    for document in found {
-        let row = listed_row(alloc, document, documents)?;
-        rows.push(row)?;
-    }
-    Ok(rows)
-}
-
-// Makes the row of a document. Errors: `NoMemory` if an allocation fails.
-fn listed_row(alloc: Global, document: Json, documents: bool) -> Result<Json, NoMemory>
-    ensures { IfOk result (λ row. view row ≡ listed_row documents (view document)) }
-{
-    let mut revision = Json::empty_object(alloc);
-    revision.insert(alloc, "rev", copy_member(alloc, &document, "_rev")?)?;
-    let mut row = Json::empty_object(alloc);
-    row.insert(alloc, "id", copy_member(alloc, &document, "_id")?)?;
-    row.insert(alloc, "key", copy_member(alloc, &document, "_id")?)?;
-    row.insert(alloc, "value", revision)?;
-    if !documents {
-        return Ok(row);
-    }
-    let mut shown = row;
-    shown.insert(alloc, "doc", document)?;
-    Ok(shown)
-}
-
-// Copies a member of a document; null if it is absent. Errors: `NoMemory` if an allocation fails.
-fn copy_member(alloc: Global, document: &Json, name: &str) -> Result<Json, NoMemory>
-    ensures { IfOk result (λ v. view v ≡ member_or_null name.now (view document.now)) }
-{
-    match document.member(name) {
-        Some(value) => value.copy(alloc),
-        None => Ok(Json::Null),
     }
 }

@@ -1,8 +1,8 @@
 //! The query that finds the documents of a range of ids.
 ghost use Rattle.std.specs.Prelude.{◌≡◌, IfOk, option_map, string_bytes};
-ghost use Rattle.mg_value.specs.Value.{list, text, with_member};
+ghost use Rattle.mg_value.specs.Value.{text, with_member};
 ghost use Rattle.mg_value.specs.View.{view};
-ghost use Rattle.mg_engine.specs.Listing.{direction_of, fields_shown, from_id, ids_in, range_query, selector_of, sort_by, up_to_id};
+ghost use Rattle.mg_engine.specs.Listing.{direction_of, from_id, ids_in, range_query, selector_of, sort_by, up_to_id};
 ghost use Rattle.mg_engine.specs.QuestionView.{listing_view};
 
 use crate::listing::Listing;
@@ -17,25 +17,11 @@ pub(crate) fn range_json(alloc: Global, listing: &Listing) -> Result<Json, NoMem
     let conflicts = listing.documents && listing.conflicts;
     let mut query = Json::empty_object(alloc);
     query.insert(alloc, "conflicts", Json::Flag(conflicts))?;
-    query.insert(alloc, "fields", fields_json(alloc, listing.documents)?)?;
     query.insert(alloc, "limit", Json::Whole(i64::from(listing.limit)))?;
     query.insert(alloc, "selector", selector_json(alloc, listing)?)?;
     query.insert(alloc, "skip", Json::Whole(i64::from(listing.skip)))?;
     query.insert(alloc, "sort", sort_json(alloc, listing.direction())?)?;
     Ok(query)
-}
-
-// Makes the fields that a row needs of its document. Errors: `NoMemory` if an allocation fails.
-fn fields_json(alloc: Global, documents: bool) -> Result<Json, NoMemory>
-    ensures { IfOk result (λ v. view v ≡ list (fields_shown documents)) }
-{
-    let mut fields = Vec::new(alloc);
-    if documents {
-        return Ok(Json::List(fields));
-    }
-    fields.push(text_json(alloc, "_id")?)?;
-    fields.push(text_json(alloc, "_rev")?)?;
-    Ok(Json::List(fields))
 }
 
 // Makes the sort by ids. Errors: `NoMemory` if an allocation fails.

@@ -2,6 +2,7 @@
 use Rattle.std.specs.Prelude.{◌≡◌, ℕ, ◌+◌, ◌≤◌, List, length, map, min, string_bytes, All, Result, Ok, Err}
 use Rattle.std.specs.List.{range_with_len, sum}
 use Rattle.mg_value.specs.Text.{compact}
+use Rattle.mg_value.specs.Value.{Value}
 use Rattle.mg_value.specs.View.{view}
 use Rattle.mg_index.specs.Definition.{IndexDefinition, Steps}
 use Rattle.mg_merge.specs.Work.{WorkView}
@@ -9,11 +10,23 @@ use Rattle.mg_shard.specs.Dealt.{Placing, histories_on}
 use Rattle.mg_shard.specs.Histories.{Histories}
 use Rattle.mg_query.specs.Page.{Page, Unanswered, candidates_of, source_columns, candidates_found, if_served, page_value, served_by}
 use Rattle.mg_query.specs.Query.{Query}
+use Rattle.mg_query.specs.declared.shown.LentPage as lent
 use Rattle.mg_query.specs.declared.shown.Page as code
+use Rattle.mg_query.specs.declared.shown.Shown.{Shown}
+use Rattle.mg_query.specs.declared.shown.Shown.TheVariants.{Lent, Made}
 
 -- the page that the code's `Page` stands for
 abbrev pub page_view : code.Page → Page
 page_view p = record { docs = map view p.docs.items; bookmark = string_bytes p.bookmark }
+
+-- the value that is shown of a document
+abbrev pub shown_value : Shown → Value
+shown_value (Lent v) = v
+shown_value (Made v) = v
+
+-- the page that the code's `LentPage` stands for
+abbrev pub lent_page_view : lent.LentPage → Page
+lent_page_view p = record { docs = map shown_value p.docs.items; bookmark = string_bytes p.bookmark }
 
 -- the compact text of the answer's page, or why there is none
 abbrev pub text_of : Result Page Unanswered → Result (List ℕ) Unanswered

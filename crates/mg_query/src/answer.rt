@@ -1,4 +1,4 @@
-//! The page that answers a query, as values and as text.
+//! The page that answers a query: as values, as text, and lent.
 ghost use Rattle.std.specs.Prelude.{◌≡◌, ◌+◌, ◌<◌, ◌≤◌, List, Err, IfOk, length, map, string_bytes};
 ghost use Rattle.mg_value.specs.Text.{compact};
 ghost use Rattle.mg_value.specs.View.{view};
@@ -9,7 +9,7 @@ ghost use Rattle.mg_shard.specs.Shard.{HaveIndexes, shards_view};
 ghost use Rattle.mg_shard.specs.Dealt.{Placing, ShardsStandFor};
 ghost use Rattle.mg_shard.specs.Histories.{Histories};
 ghost use Rattle.mg_query.specs.Page.{Candidate, Unanswered, answer_of, bookmark_after, candidates_of, source_columns, ddoc_of, name_of, page_of, page_value, served_by, shown_of};
-ghost use Rattle.mg_query.specs.Paged.{IsWorkWithin, handed_of, page_view, text_of};
+ghost use Rattle.mg_query.specs.Paged.{IsWorkWithin, handed_of, lent_page_view, page_view, shown_value, text_of};
 ghost use Rattle.mg_query.specs.Lent.{LendEach};
 ghost use Rattle.mg_query.specs.View.{query_view};
 ghost use Rattle.mg_query.specs.Served.{PageAnswers, HaveIdsAndRevs, error_of, source_view};
@@ -17,7 +17,7 @@ ghost use Rattle.mg_query.specs.Served.{PageAnswers, HaveIdsAndRevs, error_of, s
 use crate::error::PageError;
 use crate::found::{after_skip, find, find_page};
 use crate::query::Query;
-use crate::shown::{Page, bookmark_of, show};
+use crate::shown::{LentPage, Page, Shown, bookmark_of, lend, show};
 use crate::source::Source;
 use crate::text::text_with;
 use mg_collate::Direction;
@@ -111,30 +111,33 @@ pub fn page_text<R: Threads + Sync, G: Gate + Sync>(
     Ok(write_page(alloc, query, found.source, hits)?)
 }
 
-/// Returns the page that answers a query, as values. The shards and documents must be as for `page`, and the search is that of `page_text`.
+/// Returns the page that answers a query, as `page` does, but documents that are shown as they are served are lent by their shards. The shards
+/// and documents must be as for `page`, and the search is that of `page_text`.
 ///
-/// Errors: those of `page`. Cost: that of `page_text`, but each document that is shown is made a value.
-pub fn page_by<R: Threads + Sync, G: Gate + Sync>(
+/// Errors: those of `page`. Cost: that of `page_text`, but no text is copied, and each document that is shown in part or with its conflicts is
+/// made a block.
+pub fn lend_page<'a, R: Threads + Sync, G: Gate + Sync>(
     rt: &R,
     alloc: Global,
-    query: &Query<'_>,
-    catalog: &Catalog,
-    shards: &[Arc<Shard>],
+    query: &'a Query<'_>,
+    catalog: &'a Catalog,
+    shards: &'a [Arc<Shard>],
     workers: Workers,
     gate: &G,
-) -> Result<Page, PageError>
+) -> Result<LentPage<'a>, PageError>
     requires indexes { HaveIndexes catalog.now (shards_view shards.now) }
     ensures answers { (place : Placing) (hs : Histories)
         → ShardsStandFor place (shards_view shards.now) hs → HaveIdsAndRevs (candidates_of hs)
-        → PageAnswers page_view result (answer_of catalog.now (query_view query.now) (candidates_of hs)) }
+        → PageAnswers lent_page_view result
+        (answer_of catalog.now (query_view query.now) (candidates_of hs)) }
     ensures refused { (why : Unanswered) → served_by catalog.now (query_view query.now) ≡ Err why
         → result ≡ Err (error_of why) }
 {
     let listed = find_page(rt, alloc, query, catalog, shards, workers, gate)?;
     let hits = after_skip(&listed.hits, listed.skip);
-    let docs = show_all(alloc, query, hits)?;
+    let docs = lend_all(alloc, query, hits)?;
     let bookmark = last_bookmark(alloc, query, listed.source, hits)?;
-    Ok(Page { docs, bookmark })
+    Ok(LentPage { docs, bookmark })
 }
 
 // Writes the text of the page that shows the documents of these hits. Errors: `NoMemory` if an allocation fails.
@@ -160,6 +163,23 @@ fn show_all(alloc: Global, query: &Query<'_>, hits: &[Hit<'_>]) -> Result<Vec<Js
     let mut docs = Vec::with_capacity(alloc, hits.len())?;
     for hit in hits {
         let doc = show(alloc, query, hit.form(), hit.document().tree())?;
+        docs.push(doc)?;
+    }
+    Ok(docs)
+}
+
+// Lends or makes what the page shows of the documents of these hits. Errors: `NoMemory` if an allocation fails.
+fn lend_all<'a>(
+    alloc: Global,
+    query: &Query<'_>,
+    hits: &[Hit<'a>],
+) -> Result<Vec<Shown<'a>>, NoMemory>
+    ensures { IfOk result (λ v. (columns : List Steps) (cs : List Candidate) → LendEach columns hits.now cs
+        → map shown_value v.items ≡ map (shown_of (query_view query.now)) cs) }
+{
+    let mut docs = Vec::with_capacity(alloc, hits.len())?;
+    for hit in hits {
+        let doc = lend(alloc, query, hit)?;
         docs.push(doc)?;
     }
     Ok(docs)

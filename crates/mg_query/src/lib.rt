@@ -2,12 +2,13 @@
 //!
 //! Promises. `Query::read` returns the query or its first fault, and never `NoMemory` in place of a fault that
 //! is found without memory: a wrong shape, a fault of the selector, a letter that no bookmark has, and a sort in
-//! both directions without a bookmark (`refused`). `page` and `page_by` return the definition's answer as values, `page_text`
-//! as text, for all histories that the shards represent (`answers`). They require that the shards have the
+//! both directions without a bookmark (`refused`). `page` returns the definition's answer as values, `page_text`
+//! as text, and `lend_page` as parts of blocks, which shards lend of the documents that are shown as they are
+//! served, for all histories that the shards represent (`answers`). They require that the shards have the
 //! indexes of the catalog; they may have others (`indexes`). Each shard hands over the rows that the query
 //! finds there, but at most as many as the page skips and shows (`handed`, `work`). `explain` is the
 //! definition's. A query that no index serves, or whose bookmark is of another index, is refused for that by
-//! `page`, `page_text` and `explain`, and never with `NoMemory` (`refused`). Laws: `pages_join`,
+//! `page`, `page_text`, `lend_page` and `explain`, and never with `NoMemory` (`refused`). Laws: `pages_join`,
 //! `pages_that_read_back_join`, `bookmarks_change_nothing_else`.
 #![tactic(auto)]
 
@@ -26,8 +27,8 @@ mod shown;
 mod source;
 mod text;
 
-pub use answer::{page, page_by, page_text};
+pub use answer::{lend_page, page, page_text};
 pub use error::{PageError, QueryError};
 pub use explanation::explain;
 pub use query::Query;
-pub use shown::Page;
+pub use shown::{LentPage, Page, Shown};

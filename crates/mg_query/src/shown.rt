@@ -1,10 +1,13 @@
 //! What a page shows of a document, and the bookmark of a row.
 ghost use Rattle.std.specs.Prelude.{◌≡◌, ℕ, List, IfOk, string_bytes};
+ghost use Rattle.mg_index.specs.Definition.{Steps};
 ghost use Rattle.mg_value.specs.View.{view, items_view};
 ghost use Rattle.mg_revtree.specs.History.{Paths};
 ghost use Rattle.mg_revtree.specs.Tree.{StandsFor};
 ghost use Rattle.mg_bookmark.specs.Bookmark.{spelled};
-ghost use Rattle.mg_query.specs.Page.{ddoc_of, name_of, projected, shown_of};
+ghost use Rattle.mg_query.specs.Lent.{Lends, shows_whole};
+ghost use Rattle.mg_query.specs.Page.{Candidate, ddoc_of, name_of, projected, shown_of};
+ghost use Rattle.mg_query.specs.Paged.{shown_value};
 ghost use Rattle.mg_query.specs.View.{query_view};
 ghost use Rattle.mg_query.specs.Served.{source_view};
 
@@ -13,9 +16,10 @@ use crate::source::Source;
 use mg_bookmark::{BookmarkParts, RowKey};
 use mg_collate::Direction;
 use mg_doc::with_conflicts;
-use mg_packed::Part;
+use mg_packed::{Packed, Part};
 use mg_path::{Path, project};
 use mg_revtree::RevTree;
+use mg_scan::Hit;
 use mg_value::{Json, NoMemory};
 use std::alloc::Global;
 
@@ -24,6 +28,72 @@ use std::alloc::Global;
 pub struct Page {
     pub docs: Vec<Json>,
     pub bookmark: String,
+}
+
+/// A page whose documents are lent where they are shown as they are served, and the bookmark of `Page`.
+#[derive(Drop)]
+pub struct LentPage<'a> {
+    pub docs: Vec<Shown<'a>>,
+    pub bookmark: String,
+}
+
+/// What a page shows of a document: lent by its shard where it is shown as it is served, made where it is not.
+#[derive(Drop)]
+pub enum Shown<'a> {
+    Lent(Part<'a>),
+    Made(Packed),
+}
+
+impl<'a> Shown<'a> {
+    /// Lends the value that is shown. Cost: constant; no memory is taken.
+    pub fn part(&self) -> Part<'_>
+        ensures { result ≡ shown_value self.now }
+    {
+        match self {
+            Shown::Lent(part) => lend_part(part),
+            Shown::Made(block) => block.part(),
+        }
+    }
+}
+
+// Lends a part for as long as it is borrowed here, which may be shorter than its shard lends it.
+fn lend_part<'b>(part: &'b Part<'_>) -> Part<'b>
+    ensures { result ≡ part.now }
+{
+    part.lend()
+}
+
+// Whether the query shows documents as they are served.
+pub(crate) fn is_shown_whole(query: &Query<'_>) -> bool
+    ensures { result ≡ shows_whole (query_view query.now) }
+{
+    !query.conflicts && query.fields.is_empty()
+}
+
+// Lends or makes what a query shows of a hit's document. Errors: `NoMemory` if an allocation fails.
+pub(crate) fn lend<'a>(
+    alloc: Global,
+    query: &Query<'_>,
+    hit: &Hit<'a>,
+) -> Result<Shown<'a>, NoMemory>
+    ensures { IfOk result (λ s. (columns : List Steps) (c : Candidate) → Lends columns hit.now c
+        → shown_value s ≡ shown_of (query_view query.now) c) }
+{
+    if is_shown_whole(query) {
+        Ok(Shown::Lent(hit.form()))
+    } else {
+        let block = show_packed(alloc, query, hit)?;
+        Ok(Shown::Made(block))
+    }
+}
+
+// Makes what a query shows of a hit's document, in one block. Errors: `NoMemory` if an allocation fails.
+fn show_packed(alloc: Global, query: &Query<'_>, hit: &Hit<'_>) -> Result<Packed, NoMemory>
+    ensures { IfOk result (λ block. (columns : List Steps) (c : Candidate) → Lends columns hit.now c
+        → block ≡ shown_of (query_view query.now) c) }
+{
+    let doc = show(alloc, query, hit.form(), hit.document().tree())?;
+    Packed::of(alloc, &doc)
 }
 
 // Makes what a query shows of a document with this form and tree: with its conflicts if they are asked for, and only its parts at the

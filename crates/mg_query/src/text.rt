@@ -8,11 +8,11 @@ ghost use Rattle.mg_value.specs.View.{items_of};
 ghost use Rattle.mg_index.specs.Definition.{Steps};
 ghost use Rattle.mg_scan.specs.Hit.{hit_text};
 ghost use Rattle.mg_query.specs.Page.{Candidate, page_value, shown_of};
-ghost use Rattle.mg_query.specs.Lent.{LendEach, Lends, shows_whole};
+ghost use Rattle.mg_query.specs.Lent.{LendEach, Lends};
 ghost use Rattle.mg_query.specs.View.{query_view};
 
 use crate::query::Query;
-use crate::shown::show;
+use crate::shown::{is_shown_whole, show};
 use json::Writer;
 use mg_scan::Hit;
 use mg_value::{NoMemory, write};
@@ -119,11 +119,4 @@ fn with_shown(
     let text = write(alloc, &doc)?;
     out.extend_from_slice(&text)?;
     Ok(out)
-}
-
-// Whether the query shows documents as they are served.
-fn is_shown_whole(query: &Query<'_>) -> bool
-    ensures { result ≡ shows_whole (query_view query.now) }
-{
-    !query.conflicts && query.fields.is_empty()
 }
