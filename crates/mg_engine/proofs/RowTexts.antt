@@ -6,7 +6,7 @@ use Rattle.json.specs.Print.{escape_byte}
 use Rattle.mg_value.specs.Text.{compact, compact_items}
 use Rattle.mg_value.specs.Value.{Value, list, whole}
 use Rattle.mg_value.specs.View.{items_of}
-use Rattle.mg_query.specs.Paged.{shown_value}
+use Rattle.mg_query.specs.Paged.{shown_view}
 use Rattle.mg_query.specs.declared.shown.Shown.{Shown}
 use Rattle.mg_engine.specs.Bodies.{line_of}
 use Rattle.mg_engine.specs.Questions.{listed_row, member_or_null, rows_value}
@@ -40,14 +40,14 @@ row_parts false v out =
 
 -- the text of these rows, and the closing bracket; `later`: the first row of the array is not among them
 abbrev pub rows_left : Bool → Bool → List Shown → List ℕ
-rows_left documents later docs = compact_items later (items_of (map (listed_row documents) (map shown_value docs)))
+rows_left documents later docs = compact_items later (items_of (map (listed_row documents) (map shown_view docs)))
 
 -- the text of one more row
 pub rows_more : (documents : Bool) (docs : List Shown) (i : ℕ) (d : Shown) (all out comma text : List ℕ) → i < length docs → d ≡ get_or docs i d
-    → comma ≡ cond (nat_lt 0 i) (44 ∷ []) [] → text ≡ (out ++ comma) ++ compact (listed_row documents (shown_value d))
+    → comma ≡ cond (nat_lt 0 i) (44 ∷ []) [] → text ≡ (out ++ comma) ++ compact (listed_row documents (shown_view d))
     → all ≡ out ++ rows_left documents (nat_lt 0 i) (drop i docs) → all ≡ text ++ rows_left documents (nat_lt 0 (i + 1)) (drop (i + 1) docs)
 rows_more documents docs i d all out comma text less is so s e =
-    let row = compact (listed_row documents (shown_value d)) in
+    let row = compact (listed_row documents (shown_view d)) in
     let more = rows_left documents true (drop (i + 1) docs) in
     let later : nat_lt 0 (i + 1) ≡ true = grind (arith, nat_tests) in
     e ∙ ap (λ ds. out ++ rows_left documents (nat_lt 0 i) ds) (drop_more docs i d less ∙ ap (λ x. x ∷ drop (i + 1) docs) (sym is))

@@ -171,12 +171,7 @@ fn absent_json(alloc: Global, id: &str) -> Result<Json, NoMemory>
 }
 
 // Makes the value with these rows. Errors: `NoMemory` if an allocation fails, or as for `count_json`.
-fn rows_json(
-    alloc: Global,
-    offset: usize,
-    total: usize,
-    rows: Vec<Json>,
-) -> Result<Json, NoMemory>
+fn rows_json(alloc: Global, offset: usize, total: usize, rows: Vec<Json>) -> Result<Json, NoMemory>
     ensures { IfOk result (λ v. view v ≡ rows_value offset total (map view rows.items)) }
 {
     let mut listed = Json::empty_object(alloc);

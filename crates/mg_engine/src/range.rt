@@ -5,7 +5,7 @@ ghost use Rattle.mg_shard.specs.Documents.{docs_of};
 ghost use Rattle.mg_shard.specs.Histories.{Histories};
 ghost use Rattle.mg_shard.specs.Shard.{HaveIndexes, shards_view};
 ghost use Rattle.mg_query.specs.Page.{candidates_of};
-ghost use Rattle.mg_query.specs.Paged.{shown_value};
+ghost use Rattle.mg_query.specs.Paged.{shown_view};
 ghost use Rattle.mg_query.specs.Served.{HaveIdsAndRevs};
 ghost use Rattle.mg_query.specs.View.{query_view};
 ghost use Rattle.mg_engine.specs.Answering.{MakesAnswer};
@@ -111,7 +111,7 @@ fn rows_line(
 ) -> Result<Vec<u8>, NoMemory>
     ensures { IfOk result (λ line. (place : Placing) (hs : Histories) → ShardsStandFor place (shards_view shards.now) hs
         → line.items ≡ line_of (rows_value (offset_of hs (listing_view listing.now)) (doc_count hs)
-        (map (listed_row listing.now.documents) (map shown_value docs.now)))) }
+        (map (listed_row listing.now.documents) (map shown_view docs.now)))) }
 {
     let total = count_docs(shards)?;
     let before = count_before(shards, listing.direction(), &listing.start)?;

@@ -4,7 +4,7 @@ ghost use Rattle.std.specs.Prelude.{◌≡◌, ◌++◌, [], ◌∷◌, IfOk, ma
 ghost use Rattle.mg_value.specs.Text.{compact};
 ghost use Rattle.mg_value.specs.Value.{list, whole};
 ghost use Rattle.mg_value.specs.View.{items_of};
-ghost use Rattle.mg_query.specs.Paged.{shown_value};
+ghost use Rattle.mg_query.specs.Paged.{shown_view};
 ghost use Rattle.mg_engine.specs.Bodies.{line_of};
 ghost use Rattle.mg_engine.specs.Questions.{listed_row, member_or_null, rows_value};
 ghost use Rattle.mg_engine.specs.Rows.{row_front};
@@ -26,7 +26,7 @@ pub(crate) fn write_rows(
     documents: bool,
 ) -> Result<Vec<u8>, NoMemory>
     ensures { IfOk result (λ line. line.items
-        ≡ line_of (rows_value offset total (map (listed_row documents) (map shown_value docs.now)))) }
+        ≡ line_of (rows_value offset total (map (listed_row documents) (map shown_view docs.now)))) }
 {
     let mut out = Vec::with_capacity(alloc, FIRST_ROOM)?;
     out.extend_from_slice(b"{\"offset\":")?;
@@ -50,7 +50,7 @@ fn with_count(alloc: Global, mut out: Vec<u8>, count: usize) -> Result<Vec<u8>, 
 // Appends the rows of these documents, as an array.
 fn with_rows(mut out: Vec<u8>, docs: &[Shown<'_>], documents: bool) -> Result<Vec<u8>, NoMemory>
     ensures { IfOk result (λ b. b.items ≡ out.items
-        ++ compact (list (items_of (map (listed_row documents) (map shown_value docs.now))))) }
+        ++ compact (list (items_of (map (listed_row documents) (map shown_view docs.now))))) }
 {
     out.push(b'[')?;
     for (place, shown) in docs.iter().enumerate() {

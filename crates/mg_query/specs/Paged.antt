@@ -20,13 +20,13 @@ abbrev pub page_view : code.Page → Page
 page_view p = record { docs = map view p.docs.items; bookmark = string_bytes p.bookmark }
 
 -- the value that is shown of a document
-abbrev pub shown_value : Shown → Value
-shown_value (Lent v) = v
-shown_value (Made v) = v
+abbrev pub shown_view : Shown → Value
+shown_view (Lent v) = v
+shown_view (Made v) = v
 
 -- the page that the code's `LentPage` stands for
 abbrev pub lent_page_view : lent.LentPage → Page
-lent_page_view p = record { docs = map shown_value p.docs.items; bookmark = string_bytes p.bookmark }
+lent_page_view p = record { docs = map shown_view p.docs.items; bookmark = string_bytes p.bookmark }
 
 -- the compact text of the answer's page, or why there is none
 abbrev pub text_of : Result Page Unanswered → Result (List ℕ) Unanswered

@@ -9,7 +9,7 @@ ghost use Rattle.mg_shard.specs.Shard.{HaveIndexes, shards_view};
 ghost use Rattle.mg_shard.specs.Dealt.{Placing, ShardsStandFor};
 ghost use Rattle.mg_shard.specs.Histories.{Histories};
 ghost use Rattle.mg_query.specs.Page.{Candidate, Unanswered, answer_of, bookmark_after, candidates_of, source_columns, ddoc_of, name_of, page_of, page_value, served_by, shown_of};
-ghost use Rattle.mg_query.specs.Paged.{IsWorkWithin, handed_of, lent_page_view, page_view, shown_value, text_of};
+ghost use Rattle.mg_query.specs.Paged.{IsWorkWithin, handed_of, lent_page_view, page_view, shown_view, text_of};
 ghost use Rattle.mg_query.specs.Lent.{LendEach};
 ghost use Rattle.mg_query.specs.View.{query_view};
 ghost use Rattle.mg_query.specs.Served.{PageAnswers, HaveIdsAndRevs, error_of, source_view};
@@ -175,7 +175,7 @@ fn lend_all<'a>(
     hits: &[Hit<'a>],
 ) -> Result<Vec<Shown<'a>>, NoMemory>
     ensures { IfOk result (λ v. (columns : List Steps) (cs : List Candidate) → LendEach columns hits.now cs
-        → map shown_value v.items ≡ map (shown_of (query_view query.now)) cs) }
+        → map shown_view v.items ≡ map (shown_of (query_view query.now)) cs) }
 {
     let mut docs = Vec::with_capacity(alloc, hits.len())?;
     for hit in hits {

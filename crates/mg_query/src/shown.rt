@@ -7,7 +7,7 @@ ghost use Rattle.mg_revtree.specs.Tree.{StandsFor};
 ghost use Rattle.mg_bookmark.specs.Bookmark.{spelled};
 ghost use Rattle.mg_query.specs.Lent.{Lends, shows_whole};
 ghost use Rattle.mg_query.specs.Page.{Candidate, ddoc_of, name_of, projected, shown_of};
-ghost use Rattle.mg_query.specs.Paged.{shown_value};
+ghost use Rattle.mg_query.specs.Paged.{shown_view};
 ghost use Rattle.mg_query.specs.View.{query_view};
 ghost use Rattle.mg_query.specs.Served.{source_view};
 
@@ -47,7 +47,7 @@ pub enum Shown<'a> {
 impl<'a> Shown<'a> {
     /// Lends the value that is shown. Cost: constant; no memory is taken.
     pub fn part(&self) -> Part<'_>
-        ensures { result ≡ shown_value self.now }
+        ensures { result ≡ shown_view self.now }
     {
         match self {
             Shown::Lent(part) => lend_part(part),
@@ -77,7 +77,7 @@ pub(crate) fn lend<'a>(
     hit: &Hit<'a>,
 ) -> Result<Shown<'a>, NoMemory>
     ensures { IfOk result (λ s. (columns : List Steps) (c : Candidate) → Lends columns hit.now c
-        → shown_value s ≡ shown_of (query_view query.now) c) }
+        → shown_view s ≡ shown_of (query_view query.now) c) }
 {
     if is_shown_whole(query) {
         Ok(Shown::Lent(hit.form()))

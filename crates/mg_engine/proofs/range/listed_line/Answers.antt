@@ -1,7 +1,7 @@
 use Rattle.std.proofs.Common.{◌≡◌, ◌∙◌, Err, List, ap, map, sym, subst}
 use Rattle.mg_index.specs.Definition.{IndexDefinition}
 use Rattle.mg_query.specs.Page.{answer_of, candidates_of}
-use Rattle.mg_query.specs.Paged.{lent_page_view, shown_value}
+use Rattle.mg_query.specs.Paged.{lent_page_view, shown_view}
 use Rattle.mg_query.specs.declared.shown.Shown.{Shown}
 use Rattle.mg_query.specs.View.{query_view}
 use Rattle.mg_engine.specs.Answering.{MakesAnswer}
@@ -23,7 +23,7 @@ returns-in_ok-line-in-Ok g c = λ place w st whole ix.
     let body = c.in_ok-line-in-Ok.line.items in
     subst (λ (ds : List IndexDefinition). shown_or_refused (range_value w.docs l) (answer_of ds q cs) ≡ record { status = 200; body = body }) (sym ix)
     (value_shown (range_value w.docs l) (answer_of c.args.catalog.now q cs) (lent_page_view c.in-Ok.page) body (c.in-Ok.ensures.answers place w.docs st whole)
-    (c.in_ok-line-in-Ok.ensures place w.docs st ∙ ap (λ (ds : List Shown). line_of (rows_value (offset_of w.docs l) (doc_count w.docs) (map (listed_row l.documents) (map shown_value ds)))) c.deref.ensures.value))
+    (c.in_ok-line-in-Ok.ensures place w.docs st ∙ ap (λ (ds : List Shown). line_of (rows_value (offset_of w.docs l) (doc_count w.docs) (map (listed_row l.documents) (map shown_view ds)))) c.deref.ensures.value))
 
 pub returns-in-Err : goal.returns-in-Err
 returns-in-Err g c = λ place w st whole ix.

@@ -1,7 +1,7 @@
 use Rattle.std.proofs.Common.{◌≡◌, ◌++◌, List, map, drop}
 use Rattle.mg_index.specs.Definition.{Steps}
 use Rattle.mg_query.specs.Page.{Candidate, shown_of}
-use Rattle.mg_query.specs.Paged.{shown_value}
+use Rattle.mg_query.specs.Paged.{shown_view}
 use Rattle.mg_query.specs.Lent.{LendEach}
 use Rattle.mg_query.specs.View.{query_view}
 use Rattle.mg_query.proofs.answer.lend_all.Given as goal
@@ -9,4 +9,4 @@ use Rattle.mg_query.proofs.answer.lend_all.Given as goal
 -- the values so far, and those of the hits that are left, are the values of all hits
 abbrev pub invariant-loop-hit : goal.invariant-loop-hit
 invariant-loop-hit l =
-    (columns : List Steps) (cs : List Candidate) → LendEach columns l.hits cs → map shown_value l.docs.items ++ map (shown_of (query_view l.query)) (drop l.hit-index cs) ≡ map (shown_of (query_view l.query)) cs
+    (columns : List Steps) (cs : List Candidate) → LendEach columns l.hits cs → map shown_view l.docs.items ++ map (shown_of (query_view l.query)) (drop l.hit-index cs) ≡ map (shown_of (query_view l.query)) cs
