@@ -283,7 +283,8 @@ def write_until_refused(port, most):
 
 def failing_disk(program, folder, name, fail, tally):
     """The disk fails while it is written to: the write is answered 503, the program ends, and what was answered before is there."""
-    folder = folder / name
+    # a list of libraries to preload has no blanks in its names
+    folder = folder / name.replace(" ", "_")
     folder.mkdir()
     disk, file = Disk(folder), folder / "db"
     with Server(program, file, env=disk.environment) as server:
@@ -292,7 +293,7 @@ def failing_disk(program, folder, name, fail, tally):
         with contextlib.closing(Client(server.port)) as client:
             client.exchange("POST", "/db/_bulk_docs", {"docs": [{"_id": f"e{n}"} for n in range(3)]})
         fail(disk)
-        done, answer = write_until_refused(server.port, 2000)
+        done, answer = write_until_refused(server.port, 200)
         tally.expect(f"{name}: the answer", answer, STORAGE)
         tally.expect(f"{name}: the end", server.ended(), (1, LOST))
     _, soundness = copied_rows(file)
