@@ -4,9 +4,10 @@
 usage: face.py --program PATH
 
 PATH is mango_server. The form of the conversations is described in tests/common/conversation.py, that of the examples in
-tests/common/reference.py; each has a file of its own, which is empty at the start. The fields of replies are compared here: `ETag`, `Location`,
-`Allow`, `Cache-Control` and `Date`, what a client that has a document gets, ids, of which no two are the same, and ranges of `_all_docs`. The last line is
-'N passed, M failed'.
+tests/common/reference.py; each has a file of its own, which is empty at the start. The conversations of mangod are sent too: what it answers
+with 200 or 201 has the same body here. The fields of replies are compared here (`ETag`, `Location`, `Allow`, `Cache-Control`, `Date`), what
+`HEAD` says, revisions that `If-Match` names, what a client that has a document gets, each parameter that a request does not answer, ids, of
+which no two are the same, and ranges of `_all_docs`. The last line is 'N passed, M failed'.
 """
 import contextlib
 import email.utils
@@ -47,8 +48,15 @@ class Client:
     def send(self, message):
         """Sends the bytes of a request as a request of this client."""
         head, _, body = message.partition(b"\r\n\r\n")
-        method, target, _ = head.split(b"\r\n")[0].decode().split(" ")
-        return self.ask(method, target, body or None)
+        line, *fields = head.decode().split("\r\n")
+        method, target, _ = line.split(" ")
+        given = dict(field.split(": ", 1) for field in fields)
+        given.pop("Content-Length", None)
+        return self.ask(method, target, body or None, given)
+
+    def shown(self, names):
+        """Returns those of these fields that the last reply has."""
+        return {name: self.fields[name.lower()] for name in names if name.lower() in self.fields}
 
 
 @contextlib.contextmanager
@@ -76,9 +84,42 @@ def examples(program, tally):
     for heading, shown in sections_of(text):
         with database(program) as client:
             for example in shown:
-                tally.expect(f"{heading}, {example.request}", client.send(example.message), example.reply)
+                reply = client.send(example.message)
+                tally.expect(f"{heading}, {example.request}", (reply, client.shown(example.fields)), (example.reply, example.fields))
                 sent += 1
     tally.expect("the examples that were sent", sent, text.count("```http-request"))
+
+
+def gives_ids(target, body):
+    """Whether a request is a bulk with a document that has no id. This program gives it another one than mangod does."""
+    try:
+        documents = json.loads(body)["docs"] if target.endswith("/_bulk_docs") else []
+        return any("_id" not in document for document in documents if isinstance(document, dict))
+    except (ValueError, KeyError, TypeError):
+        return False
+
+
+def as_mangod(program, tally):
+    """What mangod answers with 200 or 201 to a request without a parameter has the same body here: the conversations of mangod, each up to the
+    first message that gives an id, is no whole request, or is a write that is done here alone."""
+    compared = 0
+    for conversation in select([], FOLDER):
+        faults = []
+        with database(program) as client:
+            for exchange in conversation.exchanges:
+                head, _, body = exchange.message.partition(b"\r\n\r\n")
+                target = head.split(b" ")[1].decode() if exchange.text[:3] != '> "' and exchange.is_complete else None
+                if target is None or gives_ids(target, body):
+                    break
+                reply, expected = client.send(exchange.message), exchange.expected_at(3)
+                if all(one.status in (200, 201) for one in expected):
+                    faults += [f"{exchange.text}: replied {reply}, mangod {one.text}" for one in expected if "?" not in target and not one.is_met_by(reply)]
+                    compared += 1
+                elif reply.status in (200, 201) and not head.startswith(b"GET") and not target.endswith(("_find", "_explain")):
+                    break
+        tally.count(f"as mangod: {conversation.name}", faults)
+    # 798 of the messages are answered so, 774 of them before a message that gives an id or is no whole request
+    tally.expect("most of what mangod answers with 200 or 201 is compared", compared > 650, True)
 
 
 def fields(program, tally):
@@ -105,7 +146,100 @@ def fields(program, tally):
             client.ask(method, target, body)
             made = email.utils.parsedate_to_datetime(client.fields.get("date", "Thu, 01 Jan 1970 00:00:00 GMT")).timestamp()
             tally.expect(f"the date of {method} {target}", abs(time.time() - made) < 5, True)
-        tally.expect("a method that is not there", (client.ask("POST", "/_up").status, client.fields.get("allow")), (405, "GET, HEAD"))
+
+
+# each resource, and its methods: those of the table of docs/MANGO_SERVER.md, and of that of docs/REFERENCE.md
+METHODS = {
+    "/": "GET HEAD", "/_up": "GET HEAD", "/_all_dbs": "GET HEAD", "/_uuids": "GET HEAD", "/db": "DELETE GET HEAD POST PUT",
+    "/db/_all_docs": "GET HEAD POST", "/db/_ensure_full_commit": "POST", "/db/_bulk_docs": "POST", "/db/_find": "POST", "/db/_explain": "POST",
+    "/db/_index": "GET HEAD POST", "/db/_index/by/json/n": "DELETE", "/db/_index/_design/by/json/n": "DELETE", "/db/_placement": "POST",
+    "/db/_design/by": "GET HEAD PUT", "/db/a": "DELETE GET HEAD PUT",
+}
+REFUSED_METHOD = Reply(405, b'{"error":"method_not_allowed","reason":"Method not allowed."}\n')
+
+
+def methods(program, tally):
+    """A resource refuses each method that it does not have, and says which it has (RFC 9110, sections 10.2.1 and 15.5.6)."""
+    with database(program) as client:
+        for target, names in METHODS.items():
+            for method in {"PATCH", "OPTIONS", "POST", "PUT", "DELETE", "GET"} - set(names.split()):
+                reply = client.ask(method, target)
+                tally.expect(f"{method} {target}", (reply, set(client.fields.get("allow", "").split(", "))), (REFUSED_METHOD, set(names.split())))
+        tally.expect("HEAD of what has no GET", (client.ask("HEAD", "/db/_find").status, client.fields.get("allow")), (405, "POST"))
+
+
+def heads(program, tally):
+    """`HEAD` has the status and the fields of `GET`, and no content (RFC 9110, section 9.3.2)."""
+    with database(program) as client:
+        client.ask("PUT", "/db/a", '{"n":1}')
+        client.ask("POST", "/db/_index", '{"ddoc":"by","index":{"fields":["n"]},"name":"n"}')
+        for target in ("/", "/_up", "/_all_dbs", "/_uuids", "/_uuids?count=0", "/db", "/db/", "/db/_all_docs", "/db/_all_docs?key=1", "/db/_index", "/db/a",
+                       "/db/a?revs=true", "/db/a?rev=1-x", "/db/b", "/db/_design/by", "/db/_design/other", "/db/_nothing", "/other"):
+            status, fields = client.ask("GET", target).status, client.fields
+            head = client.ask("HEAD", target)
+            without_date = [{name: value for name, value in one.items() if name != "date"} for one in (client.fields, fields)]
+            tally.expect(f"HEAD {target}", (head, without_date[0]), (Reply(status, b""), without_date[1]))
+
+
+def revisions(program, tally):
+    """`If-Match` names the revision that an edit replaces, and the `ETag` of an edit is the revision that it made, not the one before."""
+    with database(program) as client:
+        def edited(name, method, target, body, given, status):
+            reply = client.ask(method, target, body, {"If-Match": given} if given else {})
+            made = json.loads(reply.body).get("rev")
+            tally.expect(name, (reply.status, client.fields.get("etag")), (status, made and f'"{made}"'))
+            return made
+
+        first = edited("a first edit", "PUT", "/db/a", '{"n":1}', None, 201)
+        second = edited("an edit by its revision", "PUT", "/db/a", '{"n":2}', f'"{first}"', 201)
+        tally.expect("the revision of the edit", (first[:2], second[:2], client.ask("GET", "/db/a").body.count(second.encode())), ("1-", "2-", 1))
+        edited("an edit by the revision before", "PUT", "/db/a", '{"n":3}', f'"{first}"', 409)
+        third = edited("an edit by a tag without quotes", "PUT", "/db/a", '{"n":3}', second, 201)
+        edited("an edit by no revision", "PUT", "/db/a", '{"n":4}', "*", 400)
+        edited("an edit by two revisions", "PUT", f"/db/a?rev={third}", '{"n":4}', f'"{second}"', 400)
+        edited("an edit by a revision twice", "PUT", f"/db/a?rev={third}", json.dumps({"_rev": third, "n": 4}), f'"{third}"', 201)
+        fourth = json.loads(client.ask("GET", "/db/a").body)["_rev"]
+        fifth = edited("an edit of a posted document", "POST", "/db", '{"_id":"a","n":5}', f'"{fourth}"', 201)
+        edited("a posted document without its revision", "POST", "/db", '{"_id":"a","n":6}', None, 409)
+        edited("a deletion by the revision before", "DELETE", "/db/a", None, f'"{fourth}"', 409)
+        edited("a deletion by no revision", "DELETE", "/db/a", None, None, 409)
+        tally.expect("the document after refused edits", json.loads(client.ask("GET", "/db/a").body), {"_id": "a", "_rev": fifth, "n": 5})
+        sixth = edited("a deletion by its revision", "DELETE", "/db/a", None, f'"{fifth}"', 200)
+        tally.expect("the revision of the deletion", sixth[:2], "6-")
+        tally.expect("a deletion of what is deleted", client.ask("DELETE", "/db/a", fields={"If-Match": f'"{sixth}"'}).status, 404)
+
+
+# parameters that change a meaning in CouchDB, and the requests that answer some of them, as docs/MANGO_SERVER.md lists them
+PARAMETERS = ("attachments att_encoding_info atts_since batch deleted_conflicts latest local_seq meta new_edits open_revs rev revs revs_info "
+              "update_seq").split()
+ANSWERED = {
+    ("GET", "/db/a", None): {"deleted_conflicts", "latest", "meta", "rev", "revs", "revs_info"},
+    ("PUT", "/db/a", '{"n":2}'): {"new_edits", "rev"},
+    ("POST", "/db", '{"_id":"b"}'): {"new_edits"},
+    ("DELETE", "/db/a", None): {"rev"},
+    ("GET", "/", None): set(), ("GET", "/db", None): set(), ("GET", "/db/_all_docs", None): set(), ("POST", "/db/_all_docs", "{}"): set(),
+    ("GET", "/db/_index", None): set(), ("GET", "/db/_design/by", None): set(), ("POST", "/db/_find", '{"selector":{}}'): set(),
+    ("POST", "/db/_bulk_docs", '{"docs":[{"_id":"b"}]}'): set(),
+}
+
+
+def parameters(program, tally):
+    """A parameter that a request does not answer is refused by its name, and nothing is done; with its default it changes nothing."""
+    with database(program) as client:
+        client.ask("PUT", "/db/a", '{"n":1}')
+        before = client.ask("GET", "/db").body, client.ask("GET", "/db/_all_docs?include_docs=true").body
+        for (method, target, body), answered in ANSWERED.items():
+            for name in sorted(set(PARAMETERS) - answered):
+                refusal = f'{{"error":"bad_request","reason":"{name}: this server does not answer this parameter."}}\n'
+                for query in (f"{name}=1", f"x=y&{name}=%5B%5D", f"{name}"):
+                    tally.expect(f"{method} {target}?{query}", client.ask(method, f"{target}?{query}", body), Reply(400, refusal.encode()))
+                if method == "GET" or target.endswith("_find"):
+                    default = f"{name}={'true' if name == 'new_edits' else 'false'}"
+                    asked = [client.ask(method, one, body) for one in (f"{target}?{default}", target)]
+                    tally.expect(f"{method} {target}?{default}", asked[0], asked[1])
+        after = client.ask("GET", "/db").body, client.ask("GET", "/db/_all_docs?include_docs=true").body
+        tally.expect("the database after refused parameters", after, before)
+        tally.expect("a parameter of no meaning", client.ask("GET", "/db/a?r=w&w=1&stale=ok").status, 200)
 
 
 def ids(program, tally):
@@ -158,7 +292,7 @@ def ranges(program, tally):
 
 def main():
     args, tally = arguments(__doc__), Tally()
-    for check in (conversations, examples, fields, ids, ranges):
+    for check in (conversations, examples, as_mangod, fields, methods, heads, revisions, parameters, ids, ranges):
         check(args.program, tally)
     return tally.end()
 

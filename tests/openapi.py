@@ -43,9 +43,9 @@ INNER = ("rows", "value", "vendor", "indexes")
 
 
 def reference_examples(file):
-    """Yields the examples of a document: method, target, body, and the status and text of the reply."""
+    """Yields the examples of a document whose replies have a body: method, target, body, and the status and text of the reply."""
     for _, examples in sections_of((TOP / file).read_text(encoding="utf-8")):
-        for example in examples:
+        for example in (one for one in examples if one.reply.body):
             method, _, target = example.request.partition(" ")
             yield method, target, body_of(example.message).decode(), example.reply.status, example.reply.body.decode()
 

@@ -1,16 +1,19 @@
 #!/usr/bin/env python3
-"""Runs unchanged clients of CouchDB on the program that keeps its data: LightCouch (Java), Monolog's handler (PHP), Moneta (Ruby), Node's
-fetch with a body in chunks, and curl; and HAProxy's health check and nginx with pooled connections in front of it.
+"""Runs unchanged clients of CouchDB on the program that keeps its data: LightCouch and log4j's appender (Java), Monolog's handler (PHP), Moneta
+(Ruby), Node's fetch, Python's http.client and curl with bodies in chunks; and HAProxy's health checks and nginx with pooled connections in
+front of it.
 
 usage: strangers.py --program PATH
 
 PATH is mango_server. What each client prints, and what the database has afterwards, is written out here. Needs `java`, `php`, `ruby`, `node`,
 `curl`, `haproxy`, `nginx` and the clients' Debian packages, which tests/setup installs. The last line is 'N passed, M failed'.
 """
+import concurrent.futures
 import contextlib
 import http.client
 import json
 import os
+import socket
 import subprocess
 import sys
 import tempfile
@@ -20,11 +23,14 @@ from pathlib import Path
 from common.arguments import arguments
 from common.server import free_port, keeping
 from common.tally import Tally
+from common.wait import wait_until
 from common.wire import Client
 
 FOLDER = Path(__file__).resolve().parent / "strangers"
-JARS = ":".join(f"/usr/share/java/{name}.jar" for name in ("lightcouch", "gson", "httpclient", "httpcore", "commons-codec", "commons-logging"))
+LIBRARIES = ("lightcouch", "gson", "httpclient", "httpcore", "commons-codec", "commons-logging", "log4j-api", "log4j-core", "log4j-couchdb")
+JARS = ":".join(f"/usr/share/java/{name}.jar" for name in LIBRARIES)
 SECONDS = 60
+TURNS = 10
 
 # each client: its command, to which the port is added, and what it prints
 CLIENTS = {
@@ -42,6 +48,7 @@ bulk 2
 findDocs 1
 end
 """),
+    "log4j": (["java", "-cp", JARS, str(FOLDER / "Log4j.java"), str(FOLDER / "log4j.xml")], ""),
     "Monolog": (["php", str(FOLDER / "monolog.php")], ""),
     "Moneta": (["ruby", str(FOLDER / "moneta.rb")], """\
 store one
@@ -55,6 +62,13 @@ bulk 201 2
 head 200 true
 absent 404 missing
 """),
+    "http.client": (["python3", str(FOLDER / "requests.py")], """\
+put 201
+replicas 201 []
+bodies c b a
+merged [True, True, True]
+resolved 200 cba False
+"""),
 }
 
 
@@ -67,20 +81,20 @@ def each_client(port, tally):
 
 
 def what_is_there(port, tally):
-    """The documents that the clients left: two of a bulk, two records, two of the fetch."""
+    """The documents that the clients left: two of a bulk, two of the fetch, two of http.client, and two records of each logger."""
     with contextlib.closing(Client(port)) as client:
         _, page = client.ask("POST", "/db/_find", {"selector": {}, "limit": 100})
         named = sorted(doc["_id"] for doc in page["docs"] if "message" not in doc)
-        tally.expect("the documents", named, ["c", "d", "n1", "n2"])
+        tally.expect("the documents", named, ["c", "d", "n1", "n2", "p1", "p2"])
         records = [doc for doc in page["docs"] if "message" in doc]
-        tally.expect("the records", sorted(doc["message"] for doc in records), ["first", "second"])
-        tally.expect("the length of their ids", [len(doc["_id"]) for doc in records], [32, 32])
+        tally.expect("the records", sorted(doc["message"] for doc in records), ["a pear", "an apple", "first", "second"])
+        tally.expect("the length of their ids", [len(doc["_id"]) for doc in records], [32] * 4)
 
 
 def by_curl(port, tally):
-    """curl puts, reads, asks for the head of, and deletes a document, with a body that it announces by `Expect`."""
-    def curl(*words):
-        done = subprocess.run(["curl", "-s", "-o", "-", "-w", " %{http_code}", *words], capture_output=True, text=True, timeout=SECONDS)
+    """curl puts, reads, asks for the head of, and deletes a document, with a body that it announces by `Expect`, and with one in chunks."""
+    def curl(*words, given=None):
+        done = subprocess.run(["curl", "-s", "-o", "-", "-w", " %{http_code}", *words], input=given, capture_output=True, text=True, timeout=SECONDS)
         return done.stdout
 
     url = f"http://127.0.0.1:{port}/db/curl"
@@ -91,37 +105,82 @@ def by_curl(port, tally):
     tally.expect("a read that knows the revision", curl(url, "-H", f'If-None-Match: "{revision}"'), " 304")
     tally.expect("a deletion", curl("-X", "DELETE", f"{url}?rev={revision}").endswith(" 200"), True)
     tally.expect("a read of what is deleted", curl(url), '{"error":"not_found","reason":"deleted"}\n 404')
+    # a body from standard input has no length, so that curl sends it in chunks
+    piped = curl("-T", "-", url, given=json.dumps({"text": "y" * 100_000}))
+    tally.expect("a put in chunks", (json.loads(piped.rpartition("\n")[0])["id"], piped.rpartition(" ")[2]), ("curl", "201"))
+    tally.expect("what came in chunks", json.loads(curl(url).rpartition("\n")[0])["text"], "y" * 100_000)
+
+
+# how HAProxy asks whether a server is up: as CouchDB's own configuration (rel/haproxy.cfg) has it, and in other forms
+CHECKS = (
+    "option httpchk GET /_up",
+    "option httpchk HEAD /_up HTTP/1.1\\r\\nHost:\\ localhost",
+    "option httpchk\n  http-check send meth GET uri /_up ver HTTP/1.1 hdr Host localhost\n  http-check expect status 200",
+    "option httpchk\n  http-check send meth GET uri /db\n  http-check expect string doc_count",
+)
+
+
+def started(port, command):
+    """Starts a proxy, and waits until it listens at a port."""
+    proxy = subprocess.Popen(command, stdin=subprocess.DEVNULL, stdout=subprocess.DEVNULL, stderr=subprocess.DEVNULL)
+    wait_until(lambda: is_open(port))
+    return proxy
+
+
+def is_open(port):
+    with contextlib.suppress(OSError), socket.create_connection(("127.0.0.1", port), timeout=1):
+        return True
+    return False
 
 
 def behind_haproxy(port, folder, tally):
-    """HAProxy's health check finds the program up, and requests pass."""
-    front, file = free_port(), Path(folder) / "haproxy.cfg"
-    file.write_text(f"""\
-defaults
-  mode http
-  timeout connect 5s
-  timeout client 5s
-  timeout server 5s
-frontend front
-  bind 127.0.0.1:{front}
-  default_backend servers
-backend servers
-  option httpchk HEAD /_up HTTP/1.1\\r\\nHost:\\ localhost
-  server one 127.0.0.1:{port} check inter 100ms rise 1 fall 1
-""")
-    proxy = subprocess.Popen(["haproxy", "-f", str(file)], stdin=subprocess.DEVNULL, stdout=subprocess.DEVNULL, stderr=subprocess.DEVNULL)
+    """Each of HAProxy's health checks finds the program up, and requests pass."""
+    fronts, file = [free_port() for _ in CHECKS], Path(folder) / "haproxy.cfg"
+    text = "defaults\n  mode http\n  timeout connect 5s\n  timeout client 20s\n  timeout server 20s\n  timeout check 5s\n"
+    for place, (front, check) in enumerate(zip(fronts, CHECKS)):
+        text += f"frontend front{place}\n  bind 127.0.0.1:{front}\n  default_backend back{place}\n"
+        text += f"backend back{place}\n  {check}\n  server one 127.0.0.1:{port} check inter 200ms rise 1 fall 1\n"
+    file.write_text(text)
+    proxy = started(fronts[-1], ["haproxy", "-f", str(file)])
     try:
+        # a server counts as up until its first check has failed
         time.sleep(2)
-        statuses = []
-        for _ in range(20):
-            connection = http.client.HTTPConnection("127.0.0.1", front, timeout=SECONDS)
-            connection.request("GET", "/_up")
-            statuses.append(connection.getresponse().status)
-            connection.close()
-        tally.expect("behind HAProxy", statuses, [200] * 20)
+        for front, check in zip(fronts, CHECKS):
+            statuses = []
+            for _ in range(10):
+                with contextlib.closing(Client(front)) as client:
+                    statuses.append(client.ask("GET", "/_up")[0])
+            tally.expect(f"behind HAProxy with {check}", statuses, [200] * 10)
     finally:
         proxy.kill()
         proxy.wait()
+
+
+def long_head(front):
+    """A request whose head is longer than 16 kB, of fields that nginx passes on. Returns the status of the reply."""
+    with contextlib.closing(http.client.HTTPConnection("127.0.0.1", front, timeout=SECONDS)) as connection:
+        connection.request("GET", "/_up", headers={f"X-{place}": "x" * 6000 for place in range(3)})
+        return connection.getresponse().status
+
+
+def long_body(front):
+    with contextlib.closing(Client(front)) as client:
+        return client.exchange("POST", "/db/_find", "{" + " " * 8_388_608 + "}")[0]
+
+
+def no_body(front):
+    with contextlib.closing(Client(front)) as client:
+        return client.exchange("POST", "/db/_find", "{")[0]
+
+
+def innocent(front):
+    """A read and a query of one client. Returns their statuses."""
+    with contextlib.closing(Client(front)) as client:
+        return client.ask("GET", "/_up")[0], client.ask("POST", "/db/_find", {"selector": {"_id": "c"}})[0]
+
+
+# what clients ask for at the same time, and what each gets
+BESIDE = ((long_head, 431), (long_body, 413), (no_body, 400), (innocent, (200, 200)), (innocent, (200, 200)))
 
 
 def behind_nginx(port, folder, tally):
@@ -143,18 +202,12 @@ http {{
   }}
 }}
 """)
-    proxy = subprocess.Popen(["nginx", "-c", str(file), "-p", folder], stdin=subprocess.DEVNULL, stdout=subprocess.DEVNULL, stderr=subprocess.DEVNULL)
+    proxy = started(front, ["nginx", "-c", str(file), "-p", folder])
     try:
-        time.sleep(2)
-        refused, innocent = [], []
-        for turn in range(10):
-            with contextlib.closing(Client(front)) as client:
-                refused.append(client.ask("POST", "/db/_find", "{" + " " * 8_388_608 + "}")[0])
-                refused.append(client.ask("POST", "/db/_find", "{")[0])
-                innocent.append(client.ask("GET", "/_up")[0])
-                innocent.append(client.ask("POST", "/db/_find", {"selector": {"_id": "c"}})[0])
-        tally.expect("the refused requests", refused, [413, 400] * 10)
-        tally.expect("the innocent requests", innocent, [200, 200] * 10)
+        with concurrent.futures.ThreadPoolExecutor(len(BESIDE)) as threads:
+            asked = [threads.submit(lambda ask=ask: [ask(front) for _ in range(TURNS)]) for ask, _ in BESIDE]
+            for (ask, answer), found in zip(BESIDE, asked):
+                tally.expect(f"through nginx, {ask.__name__}", found.result(), [answer] * TURNS)
     finally:
         proxy.terminate()
         proxy.wait()

@@ -31,9 +31,10 @@ class Reply:
         return f"{self.status} {self.body.decode('utf-8', 'backslashreplace').removesuffix(chr(10))}"
 
 
-def message(method, target, body=b""):
-    """Returns a request with a length. The target begins with `/`."""
-    return b"%s %s HTTP/1.1\r\nContent-Length: %d\r\n\r\n%s" % (method.encode(), target.encode(), len(body), body)
+def message(method, target, body=b"", fields=None):
+    """Returns a request with these fields and a length. The target begins with `/`."""
+    lines = "".join(f"{name}: {value}\r\n" for name, value in (fields or {}).items())
+    return b"%s %s HTTP/1.1\r\n%sContent-Length: %d\r\n\r\n%s" % (method.encode(), target.encode(), lines.encode(), len(body), body)
 
 
 def post(target, body):

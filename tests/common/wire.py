@@ -131,12 +131,17 @@ class Client:
     def __init__(self, port):
         self.connection = http.client.HTTPConnection("127.0.0.1", port, timeout=SECONDS)
 
-    def ask(self, method, target, body=None):
-        """Sends a request. Returns the status and the value of the reply."""
+    def exchange(self, method, target, body=None):
+        """Sends a request. Returns the status and the bytes of the reply's body."""
         text = body if body is None or isinstance(body, str) else json.dumps(body)
         self.connection.request(method, target, text and text.encode())
         reply = self.connection.getresponse()
-        return reply.status, json.loads(reply.read())
+        return reply.status, reply.read()
+
+    def ask(self, method, target, body=None):
+        """Sends a request. Returns the status and the value of the reply."""
+        status, body = self.exchange(method, target, body)
+        return status, json.loads(body)
 
     def close(self):
         self.connection.close()
