@@ -1,5 +1,5 @@
 -- What a path names, and what each method asks of it, after the CouchDB 3.x API reference.
-use Rattle.std.specs.Prelude.{ℕ, Bool, true, false, ◌&&◌, ◌||◌, ◌==◌, List, [], ◌∷◌, ◌++◌, length, filter, bytes_eq, codes, Option, Some, None, is_some, if◌then◌else◌}
+use Rattle.std.specs.Prelude.{ℕ, Bool, true, false, ◌&&◌, ◌||◌, ◌==◌, List, [], ◌∷◌, ◌++◌, drop, length, filter, bytes_eq, codes, Option, Some, None, is_some, if◌then◌else◌}
 use Rattle.std.specs.List.{slice_split}
 use Rattle.percent_encoding.specs.Percent.{percent_decode}
 use Rattle.mg_face.specs.declared.route.Resource.{Resource}
@@ -11,10 +11,11 @@ use Rattle.mg_face.specs.declared.action.Action.TheVariants as Does
 
 -- ---- paths
 
--- the segments of a path, still percent-encoded; a path that does not begin with a slash has none
+-- the segments of a path, still percent-encoded; that of a target in absolute form begins with its scheme and its authority, which are none of them
+-- (RFC 9112, section 3.2.2)
 abbrev pub segments_of : List ℕ → List (List ℕ)
 segments_of [] = []
-segments_of (b ∷ rest) = if b == 47 then slice_split (λ c. c == 47) rest else []
+segments_of (b ∷ rest) = if b == 47 then slice_split (λ c. c == 47) rest else drop 3 (slice_split (λ c. c == 47) (b ∷ rest))
 
 -- the segment is of the server, not of a client: it begins with an underscore
 abbrev pub is_reserved : List ℕ → Bool

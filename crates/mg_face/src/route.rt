@@ -1,5 +1,5 @@
 //! What a path names.
-ghost use Rattle.std.specs.Prelude.{◌≡◌, ◌==◌, ◌||◌, bytes_eq, map, IfOk};
+ghost use Rattle.std.specs.Prelude.{◌≡◌, ◌==◌, ◌||◌, bytes_eq, drop, map, IfOk};
 ghost use Rattle.std.specs.List.{slice_split};
 ghost use Rattle.percent_encoding.specs.Percent.{percent_decode};
 ghost use Rattle.mg_face.specs.Routes.{segments_of, is_reserved, server_resource, database_resource, three_resource, index_resource, design_resource, resource_of, is_nowhere, is_of_server, names};
@@ -54,7 +54,14 @@ fn split_at_slashes(alloc: Global, bytes: &[u8]) -> Result<Vec<&[u8]>, AllocErro
     bytes.split(|b| *b == b'/').collect(alloc)
 }
 
-/// Returns the segments of a path; none if it does not begin with a slash.
+/// Splits the bytes at each slash, and leaves out what comes before the third one.
+fn split_after_authority(alloc: Global, bytes: &[u8]) -> Result<Vec<&[u8]>, AllocError>
+    ensures { IfOk result (λ v. map (λ s. s.now) v.items ≡ drop 3 (slice_split (λ c. c == 47) bytes.now)) }
+{
+    bytes.split(|b| *b == b'/').skip(3).collect(alloc)
+}
+
+/// Returns the segments of a path; that of a target in absolute form begins with its scheme and its authority.
 ///
 /// Errors: out of memory.
 pub(crate) fn segments_of(alloc: Global, path: &[u8]) -> Result<Vec<&[u8]>, AllocError>
@@ -62,7 +69,8 @@ pub(crate) fn segments_of(alloc: Global, path: &[u8]) -> Result<Vec<&[u8]>, Allo
 {
     match path.split_first() {
         Some((b'/', rest)) => split_at_slashes(alloc, rest),
-        _ => Ok(Vec::new(alloc)),
+        Some(_) => split_after_authority(alloc, path),
+        None => Ok(Vec::new(alloc)),
     }
 }
 
