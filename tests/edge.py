@@ -93,6 +93,7 @@ CONVERSATIONS = {
     "a chunk of no length": (b"POST /db/_find HTTP/1.1\r\nHost: h\r\nTransfer-Encoding: chunked\r\n\r\nx\r\n" + UP, [INVALID]),
     "an unknown coding": (b"POST /db/_find HTTP/1.1\r\nHost: h\r\nTransfer-Encoding: gzip, chunked\r\n\r\n0\r\n\r\n" + UP, [CODING]),
     "a tunnel": (b"CONNECT h:80 HTTP/1.1\r\nHost: h\r\n\r\n" + UP, [TUNNEL]),
+    "a target in absolute form": (b"GET http://h:5984/_up HTTP/1.1\r\nHost: h\r\n\r\n" + UP, [(200, OK, False), (200, OK, False)]),
     "a target of no form": (b"GET db HTTP/1.1\r\nHost: h\r\n\r\n" + UP, [TARGET]),
     "a refusal of HEAD": (b"HEAD db HTTP/1.1\r\nHost: h\r\n\r\n" + UP, [(400, "", True)]),
     "a long line": (b"GET /" + b"a" * 20_000 + b" HTTP/1.1\r\nHost: h\r\n\r\n", [LONG_LINE]),
