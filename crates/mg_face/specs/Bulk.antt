@@ -1,10 +1,10 @@
 -- A bulk some of whose documents have a number that is not whole: each of these is refused by itself, and the others are executed.
-use Rattle.std.specs.Prelude.{ℕ, List, [], ◌∷◌, ◌++◌, codes, Option, Some, None, option_and_then, if◌then◌else◌}
+use Rattle.std.specs.Prelude.{ℕ, Bool, true, ◌&&◌, List, [], ◌∷◌, ◌++◌, codes, Option, Some, None, is_some, option_and_then, if◌then◌else◌}
 use Rattle.std.specs.Option.{option_to_list}
 use Rattle.std.specs.Str.{is_utf8}
 use Rattle.serde_json.specs.Data as parsed
 use Rattle.serde_json.specs.Data.{Data, put}
-use Rattle.serde_json.specs.Find.{as_array, as_str, get, get_member}
+use Rattle.serde_json.specs.Find.{as_array, as_object, as_str, get, get_member}
 use Rattle.serde_json.specs.Read.{read}
 use Rattle.mg_value.specs.Value.{Value, text, list, object, member, no_members, with_member}
 use Rattle.mg_value.specs.View.{items_of}
@@ -39,9 +39,15 @@ abbrev pub executed : parsed.Items → List Value
 executed parsed.no_items = []
 executed (parsed.item d ds) = option_to_list (value_of d) ++ executed ds
 
--- the bulk of those of these documents that are executed, with the rest of a body, and the entries of the others
+-- each item is a document: an object
+abbrev pub are_documents : parsed.Items → Bool
+are_documents parsed.no_items = true
+are_documents (parsed.item d ds) = is_some (as_object d) && are_documents ds
+
+-- the bulk of those of these documents that are executed, with the rest of a body, and the entries of the others; `None`: an item is no document
 abbrev pub partial_with : Option parsed.Items → Option Value → Option (Value × List (Option Value))
-partial_with (Some ds) (Some rest) = Some (with_member (codes "docs") (list (items_of (executed ds))) rest, refusals_of ds)
+partial_with (Some ds) (Some rest) =
+    if are_documents ds then Some (with_member (codes "docs") (list (items_of (executed ds))) rest, refusals_of ds) else None
 partial_with ds rest = None
 
 -- the same of a body; `None`: it has no array of documents, or beside them a number that is not whole

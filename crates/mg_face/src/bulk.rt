@@ -6,7 +6,7 @@ ghost use Rattle.serde_json.specs.Data as parsed;
 ghost use Rattle.serde_json.specs.Find.{as_array};
 ghost use Rattle.serde_json.specs.View.{view as data_view, items_view as data_items, members_view as data_members};
 ghost use Rattle.mg_value.specs.View.{view};
-ghost use Rattle.mg_face.specs.Bulk.{not_whole_entry, id_in, refusals_of, executed, partial_with, partial_of, partial_in};
+ghost use Rattle.mg_face.specs.Bulk.{are_documents, not_whole_entry, id_in, refusals_of, executed, partial_with, partial_of, partial_in};
 ghost use Rattle.mg_face.specs.Sorting.{IsSortedOut};
 
 use crate::number::value_of;
@@ -116,7 +116,15 @@ fn array_of(value: Option<Value>) -> Option<Vec<Value>>
     }
 }
 
-/// Returns the bulk of those of these documents that are executed, with the rest of a body, and the entries of the others.
+/// Whether each item of a bulk is a document: an object.
+fn are_documents(items: &[Value]) -> bool
+    ensures { result ≡ are_documents (data_items items.now) }
+{
+    items.iter().all(|item| item.is_object())
+}
+
+/// Returns the bulk of those of these documents that are executed, with the rest of a body, and the entries of the others; `None`: an item is no
+/// document.
 ///
 /// Errors: out of memory.
 fn partial_with(
@@ -130,6 +138,9 @@ fn partial_with(
     let (Some(documents), Some(rest)) = (documents, rest) else {
         return Ok(None);
     };
+    if !are_documents(&documents) {
+        return Ok(None);
+    }
     let (found, refusals) = sorted(alloc, documents)?;
     let mut body = rest;
     body.insert(alloc, "docs", Json::List(found))?;
