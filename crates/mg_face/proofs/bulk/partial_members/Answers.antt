@@ -28,5 +28,6 @@ returns c =
     let rest : option_map view c.in_ok-rest.rest ≡ value_of (parsed.object (put (codes "docs") parsed.null ms)) = c.in_ok-rest.ensures ∙ ap value_of left in
     let documents : option_map (λ v. data_items v.items) c.array_of-documents.result ≡ option_and_then as_array (get_member (codes "docs") ms) =
     c.array_of-documents.ensures ∙ ap (option_and_then as_array) found in
-    let same : partial_with _ _ ≡ partial_of (parsed.object ms) = ap₂ partial_with documents rest in
+    let same : partial_with (option_map (λ v. data_items v.items) c.array_of-documents.result) (option_map view c.in_ok-rest.rest) ≡ partial_of (parsed.object ms) =
+    ap₂ partial_with documents rest in
     rw (← same) c.partial_with.ensures
