@@ -226,7 +226,8 @@ impl<C: Drop, K: Drop> Edge<C, K> {
         }
     }
 
-    /// Waits for one event, as long as given, and passes it on to the connection.
+    /// Waits for one event, as long as given, and passes it on to the connection. Then closes the connections whose time is over, however many events
+    /// others have.
     pub(crate) fn look<H: Wait + Clock>(
         &self,
         rt: &H,
@@ -236,18 +237,19 @@ impl<C: Drop, K: Drop> Edge<C, K> {
         if watch.poll.poll(&mut watch.events, Some(wait)).is_err() {
             return Found::Failed;
         }
+        let mut found = Found::Nothing;
         match watch.token() {
             Some(token) if token == LISTENER => watch.is_accepting = true,
             Some(token) => {
                 if let Some(hand) = self.table.lock(rt).call(token.0) {
-                    return Found::Came(hand);
+                    found = Found::Came(hand);
                 }
             }
             None if watch.has_shortage => self.close_stillest(rt),
             None => {}
         }
         self.close_overdue(rt, watch);
-        Found::Nothing
+        found
     }
 }
 
