@@ -237,17 +237,22 @@ impl<C: Drop, K: Drop> Edge<C, K> {
         if watch.poll.poll(&mut watch.events, Some(wait)).is_err() {
             return Found::Failed;
         }
-        let mut found = Found::Nothing;
-        match watch.token() {
-            Some(token) if token == LISTENER => watch.is_accepting = true,
-            Some(token) => {
-                if let Some(hand) = self.table.lock(rt).call(token.0) {
-                    found = Found::Came(hand);
-                }
+        let found = match watch.token() {
+            Some(token) if token == LISTENER => {
+                watch.is_accepting = true;
+                Found::Nothing
             }
-            None if watch.has_shortage => self.close_stillest(rt),
-            None => {}
-        }
+            Some(token) => match self.table.lock(rt).call(token.0) {
+                Some(hand) => Found::Came(hand),
+                None => Found::Nothing,
+            },
+            None => {
+                if watch.has_shortage {
+                    self.close_stillest(rt);
+                }
+                Found::Nothing
+            }
+        };
         self.close_overdue(rt, watch);
         found
     }
