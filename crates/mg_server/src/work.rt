@@ -171,7 +171,8 @@ fn goes_on<S: Learner, C: Conversation<S> + Drop>(
     waits_for::<S, C>(edge, connection, is_steady) && connection.wait()
 }
 
-/// Returns what is done after a visit. `is_steady`: the client was quick in some visits before. `last`: when others have their turn.
+/// Returns what is done after a visit: a connection that waits for its client is closed if its time is over, whatever the client sends.
+/// `is_steady`: the client was quick in some visits before. `last`: when others have their turn.
 fn after_visit<H: Clock, S: Learner, C: Conversation<S> + Drop>(
     rt: &H,
     edge: &Edge<C, S::Seen>,
@@ -189,6 +190,7 @@ fn after_visit<H: Clock, S: Learner, C: Conversation<S> + Drop>(
     note::<S, C>(connection, visited.moved, now);
     let end = visited.end;
     match end {
+        End::Waits if connection.deadline() <= now => AfterVisit::Closes,
         End::Waits | End::GoesOn
             if now < last && goes_on::<S, C>(edge, connection, end, is_steady) => {
             AfterVisit::Again
