@@ -3,13 +3,15 @@ use Rattle.std.proofs.Common.{◌≡◌, ℕ, List, Bool, true, false, Option, S
 use Rattle.std.specs.Prelude.{is_some, option_and_then, if◌then◌else◌, IsUtf8}
 use Rattle.std.specs.Str.{is_utf8}
 use Rattle.std.proofs.lemmas.Str.{is_utf8-from_IsUtf8, IsUtf8-from_is_utf8}
+use Rattle.json.specs.Json.{document}
+use Rattle.json.specs.Find.{as_str, get}
 use Rattle.serde_json.specs.Data as parsed
 use Rattle.serde_json.specs.Data.{Data, Num, unsigned, negative, float}
 use Rattle.serde_json.specs.Find.{as_i64}
 use Rattle.serde_json.specs.Read.{read}
 use Rattle.mg_value.specs.Value.{Value, whole, list, object, Items, item, Members, member}
 use Rattle.mg_value.specs.Text.{whole_of, whole_items, whole_members, IsText, Reads}
-use Rattle.mg_face.specs.Json.{json_of, is_json}
+use Rattle.mg_face.specs.Json.{json_of, is_json, text_at}
 use Rattle.mg_face.specs.Numbers.{whole_number, value_of, value_items, value_members}
 
 mapped : {A B : Type 0} (f : A → B) (o : Option A) (b : B) → option_map f o ≡ Some b → (a : A) × (o ≡ Some a) × (f a ≡ b)
@@ -72,6 +74,18 @@ no_data (Some d) never = absurd (never d refl)
 -- nor have bytes that are no JSON text
 pub not_json : (bytes : List ℕ) → ((d : Data) → ¬ (IsText bytes d)) → json_of bytes ≡ None
 not_json bytes never = no_json bytes (λ utf8. no_data (read bytes) (λ d same. never d (utf8, same)))
+
+-- the text at a name of bytes in UTF-8 is that of their parse tree
+pub text_at_utf8 : (name bytes : List ℕ) → IsUtf8 bytes → text_at name bytes ≡ option_and_then (λ j. option_and_then as_str (get name j)) (document bytes)
+text_at_utf8 name bytes utf8 = rw (is_utf8-from_IsUtf8 bytes utf8) refl
+
+no_text_at_if : (name bytes : List ℕ) (b : Bool) → is_utf8 bytes ≡ b → ¬ (IsUtf8 bytes) → (if b then option_and_then (λ j. option_and_then as_str (get name j)) (document bytes) else None) ≡ None
+no_text_at_if name bytes true is not = absurd (not (IsUtf8-from_is_utf8 bytes is))
+no_text_at_if name bytes false is not = refl
+
+-- other bytes have no text at a name
+pub no_text_at : (name bytes : List ℕ) → ¬ (IsUtf8 bytes) → text_at name bytes ≡ None
+no_text_at name bytes not = no_text_at_if name bytes (is_utf8 bytes) refl not
 
 -- bytes that have data are a JSON text
 pub is_text : (bytes : List ℕ) (d : Data) → IsText bytes d → is_json bytes ≡ true

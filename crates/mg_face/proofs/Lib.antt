@@ -6,6 +6,7 @@ pub mod SeatLemmas
 pub mod SegmentLemmas
 pub mod EntryLemmas
 pub mod BulkLemmas
+mod RevisionLemmas
 pub mod LineLemmas
 pub mod CountLemmas
 pub mod ItemLemmas

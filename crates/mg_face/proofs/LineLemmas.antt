@@ -17,11 +17,12 @@ use Rattle.mg_wire.specs.declared.status.Status.TheVariants as Status
 use Rattle.mg_face.specs.declared.edited.Change.{Change}
 use Rattle.mg_face.specs.Answer.{document_answer, json}
 use Rattle.mg_face.specs.Edited.{only_item, edited, answer_with, list_with, made_answer, no_entry, one_entry}
-use Rattle.mg_face.specs.Json.{json_of, string_at, value_of_line}
+use Rattle.mg_face.specs.Json.{json_of, string_at, text_at, value_of_line}
 use Rattle.mg_face.specs.Shown.{shown}
 use Rattle.mg_face.specs.Replica.{made_entry}
 use Rattle.mg_face.specs.Way as Way
 use Rattle.mg_face.proofs.JsonLemmas.{reads_json}
+use Rattle.mg_face.proofs.RevisionLemmas.{text_at_compact}
 
 front : (s : List ℕ) (b : ℕ) → take (length (s ++ b ∷ []) - 1) (s ++ b ∷ []) ≡ s
 front s b =
@@ -34,7 +35,8 @@ read_line v held deep utf8 = ap json_of (front (compact v) 10) ∙ reads_json (c
 pub tag_shown : (db : List ℕ) (fields : List Header) (v : Value) → IsHeld v → depth v ≤ 127 → IsUtf8 (compact v)
     → shown db fields Way.document (ok_answer v) ≡ document_answer fields (string_at (codes "_rev") v) (json Status.Ok (line_of v))
 tag_shown db fields v held deep utf8 =
-    ap (λ (o : Option Value). document_answer fields (option_and_then (string_at (codes "_rev")) o) (json Status.Ok (line_of v))) (read_line v held deep utf8)
+    ap (λ (o : Option (List ℕ)). document_answer fields o (json Status.Ok (line_of v)))
+    (ap (text_at (codes "_rev")) (front (compact v) 10) ∙ text_at_compact (codes "_rev") v held deep utf8)
 
 pub made_shown : (db id : List ℕ) (change : Change) (r : Revision) → IsUtf8 (compact (list_with (done_entry id r)))
     → edited db change None (one_entry (done_entry id r)) ≡ made_answer db change (done_entry id r) (revision_text r)

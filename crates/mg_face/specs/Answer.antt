@@ -1,5 +1,5 @@
 -- What is answered: the response for each thing that is said, and for each answer of the database.
-use Rattle.std.specs.Prelude.{◌≡◌, ℕ, Bool, false, ◌==◌, List, [], ◌∷◌, ◌++◌, length, map, nat_le, codes, decimal, Option, Some, None, option_and_then, if◌then◌else◌}
+use Rattle.std.specs.Prelude.{◌≡◌, ℕ, Bool, false, ◌==◌, List, [], ◌∷◌, ◌++◌, ◌-◌, length, take, map, nat_le, codes, decimal, Option, Some, None, option_and_then, if◌then◌else◌}
 use Rattle.http1.specs.Fields.{Header}
 use Rattle.mg_value.specs.Value.{text, list, item, no_items, object, member, no_members}
 use Rattle.mg_value.specs.View.{items_of}
@@ -21,7 +21,7 @@ use Rattle.mg_face.specs.declared.said.Clash.TheVariants as Clash
 use Rattle.mg_face.specs.declared.said.Said.{Said}
 use Rattle.mg_face.specs.Edit.{field_of}
 use Rattle.mg_face.specs.Ids.{id_list}
-use Rattle.mg_face.specs.Json.{value_of_line, string_at}
+use Rattle.mg_face.specs.Json.{text_at}
 use Rattle.mg_face.specs.Parameters.{name_of}
 use Rattle.mg_face.specs.Place.{Fraction}
 use Rattle.mg_face.specs.Routes.{allowed}
@@ -139,9 +139,9 @@ answer_of_said db (Said.Refuses refusal) = passed (refused refusal)
 abbrev pub quoted : List ℕ → List ℕ
 quoted s = 34 ∷ (s ++ 34 ∷ [])
 
--- the revision of the document that a body shows: its `_rev`
+-- the revision of the document that a body, which is a line, shows: its `_rev`
 abbrev pub revision_in : List ℕ → Option (List ℕ)
-revision_in body = option_and_then (string_at (codes "_rev")) (value_of_line body)
+revision_in body = text_at (codes "_rev") (take (length body - 1) body)
 
 -- the field, unless its value is so long that the fields of a response might have no room for it
 abbrev pub if_short : List ℕ → Header → List Header

@@ -1,6 +1,8 @@
 -- The value of a JSON text (RFC 8259), as `serde_json` reads it, where a number whose value is whole is whole.
 use Rattle.std.specs.Prelude.{ℕ, ◌-◌, Bool, false, List, length, take, Option, Some, None, is_some, option_and_then, if◌then◌else◌}
 use Rattle.std.specs.Str.{is_utf8}
+use Rattle.json.specs.Json.{document}
+use Rattle.json.specs.Find.{as_str, get}
 use Rattle.serde_json.specs.Read.{read}
 use Rattle.mg_value.specs.Value.{Value, text, member_of}
 use Rattle.mg_face.specs.Numbers.{value_of}
@@ -25,3 +27,7 @@ string_of v = None
 -- the text that an object has at a name
 abbrev pub string_at : List ℕ → Value → Option (List ℕ)
 string_at name v = option_and_then string_of (member_of name v)
+
+-- the text that the object of a JSON text (RFC 8259) has at a name, whatever its numbers; of members with one name the last counts
+abbrev pub text_at : List ℕ → List ℕ → Option (List ℕ)
+text_at name bytes = if is_utf8 bytes then option_and_then (λ j. option_and_then as_str (get name j)) (document bytes) else None

@@ -63,7 +63,7 @@ impl<D: Database, S: Drop> Model for Face<D, S> {
 impl<D: Database, S: Store + Drop> Face<D, S> {
     /// Makes the face of a store; `db` is the name of the database, and the clock is the system's. The seed is a secret of the system's random
     /// source, and no other face gets it, so that ids of two faces are the same only by chance. Allocates nothing. From request to request it
-    /// keeps a `ReadBuffer`: a table of 16 KiB in itself, and as many bytes as the longest text that it read, less than 128 KiB.
+    /// keeps a `ReadBuffer`: a table of 16 KiB in itself, and five bytes for each byte of the longest text that it read, less than 640 KiB.
     pub fn new(
         alloc: Global,
         clock: HostRuntime,

@@ -1,14 +1,17 @@
 //! Reads JSON, with a buffer that is kept from text to text.
-ghost use Rattle.std.specs.Prelude.{◌≡◌, ◌-◌, take, length, IfOk};
+ghost use Rattle.std.specs.Prelude.{◌≡◌, ◌-◌, take, length, option_and_then, IfOk};
+ghost use Rattle.json.specs.Json.{Json as Tree};
+ghost use Rattle.json.specs.Find.{BeginsWith, as_str, get};
 ghost use Rattle.std.specs.Option.{option_map};
 ghost use Rattle.std.specs.String.{string_bytes};
 ghost use Rattle.mg_value.specs.View.{view};
-ghost use Rattle.mg_face.specs.Json.{json_of, is_json, string_of, string_at};
+ghost use Rattle.mg_face.specs.Json.{json_of, is_json, text_at};
 ghost use Rattle.mg_face.specs.Answer.{revision_in};
 
 use crate::number::value_of;
-use mg_packed::{Kind, Packed, Part};
-use mg_value::{Json, NoMemory, ReadBuffer, ReadError, read_in};
+use json::{Error, Scratch, Tape};
+use mg_packed::Packed;
+use mg_value::{Json, LONGEST_KEPT, NoMemory, ReadBuffer, ReadError, read_in};
 use serde_json::Value;
 use std::alloc::Global;
 
@@ -109,33 +112,48 @@ pub(crate) fn text_of_line(line: &[u8]) -> &[u8]
     }
 }
 
-/// Copies the text of a part; `None`: it is no text.
+/// Copies the text that the object which the tape begins with has at a name.
 ///
 /// Errors: out of memory.
-fn string_of(alloc: Global, part: &Part<'_>) -> Result<Option<String>, NoMemory>
-    ensures { IfOk result (λ o. option_map string_bytes o ≡ string_of part.now) }
+fn text_in(alloc: Global, tape: &Tape<'_>, name: &str) -> Result<Option<String>, NoMemory>
+    ensures { (j : Tree) → BeginsWith tape.now j
+        → IfOk result (λ o. option_map string_bytes o ≡ option_and_then as_str (get name.now j)) }
 {
-    match part.kind() {
-        Kind::Text(text) => Ok(Some(String::from_str(alloc, text)?)),
-        _ => Ok(None),
+    let root = tape.root();
+    let Some(part) = root.get(name) else {
+        return Ok(None);
+    };
+    let Some(text) = part.as_str() else {
+        return Ok(None);
+    };
+    Ok(Some(String::from_str(alloc, text)?))
+}
+
+/// Copies the text that the object of a JSON text has at a name; `None`: the bytes are no text of an object with a text there.
+///
+/// Errors: out of memory. Cost: the length of the text, and 24 bytes for each of its tokens.
+#[tactic(auto, using(crate::proofs::JsonLemmas::text_at_utf8, crate::proofs::JsonLemmas::no_text_at))]
+fn text_at(
+    alloc: Global,
+    bytes: &[u8],
+    name: &str,
+    scratch: &mut Scratch,
+) -> Result<Option<String>, NoMemory>
+    ensures { IfOk result (λ o. option_map string_bytes o ≡ text_at name.now bytes.now) }
+{
+    let Ok(text) = str::from_utf8(bytes) else {
+        return Ok(None);
+    };
+    match Tape::parse(text, scratch, Vec::new(alloc)) {
+        Ok(tape) => text_in(alloc, &tape, name),
+        Err(Error::Invalid) => Ok(None),
+        Err(_) => Err(NoMemory),
     }
 }
 
-/// Copies the text that an object has at a name.
+/// Returns the `_rev` of the document that a body shows. No value is made of the body.
 ///
-/// Errors: out of memory.
-fn string_at(alloc: Global, value: &Packed, name: &str) -> Result<Option<String>, NoMemory>
-    ensures { IfOk result (λ o. option_map string_bytes o ≡ string_at name.now value.now) }
-{
-    match value.part().member(name) {
-        Some(part) => string_of(alloc, &part),
-        None => Ok(None),
-    }
-}
-
-/// Returns the `_rev` of the document that a body shows.
-///
-/// Errors: out of memory.
+/// Errors: out of memory. Cost: the length of the body. A body of more than `LONGEST_KEPT` bytes is read with memory of its own.
 pub(crate) fn revision_in(
     alloc: Global,
     body: &[u8],
@@ -143,8 +161,10 @@ pub(crate) fn revision_in(
 ) -> Result<Option<String>, NoMemory>
     ensures { IfOk result (λ o. option_map string_bytes o ≡ revision_in body.now) }
 {
-    match read_packed(alloc, text_of_line(body), buffer)? {
-        Some(value) => string_at(alloc, &value, "_rev"),
-        None => Ok(None),
+    let text = text_of_line(body);
+    if text.len() > LONGEST_KEPT {
+        let mut scratch = Scratch::new(alloc);
+        return text_at(alloc, text, "_rev", &mut scratch);
     }
+    text_at(alloc, text, "_rev", buffer.scratch())
 }

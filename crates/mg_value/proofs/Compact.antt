@@ -1,22 +1,23 @@
 -- The compact text of a value reads as the value.
-use Rattle.std.proofs.Common.{◌≡◌, ℕ, suc, ◌≤◌, ◌<◌, ◌^◌, ◌==◌, pos, negsuc, List, [], ◌∷◌, false, cond, IsUtf8, decimal, drop, get_or, option_and_then, sym, ap, ◌∙◌, arith}
+use Rattle.std.proofs.Common.{◌≡◌, ℕ, suc, ◌≤◌, ◌<◌, ◌^◌, ◌==◌, pos, negsuc, List, [], ◌∷◌, Some, false, cond, IsUtf8, decimal, drop, get_or, option_and_then, sym, ap, ◌∙◌, arith}
 use Rattle.std.specs.Fmt.{signed_decimal}
 use Rattle.std.proofs.lemmas.Bool.{ne_eqb}
 use Rattle.std.proofs.lemmas.Fmt.{first_decimal}
+use Rattle.json.specs.Json.{document}
 use Rattle.json.specs.Lex.{tokens}
 use Rattle.json.specs.Print.{IsNumber, print}
 use Rattle.json.specs.Tree.{HasNumbers, ItemsHaveNumbers, MembersHaveNumbers}
 use Rattle.json.specs.Word.{after_exponent, after_fraction, after_number, after_whole, head}
 use Rattle.json.proofs.Printed.Decimals.{IsNumber-decimal}
 use Rattle.json.proofs.Printed.Tokens.{tokens-print}
-use Rattle.json.proofs.Printed.Trees.{ArePrintable-json_tokens}
+use Rattle.json.proofs.Printed.Trees.{ArePrintable-json_tokens, document-print}
 use Rattle.serde_json.specs.Written.{items_outline, members_outline, outline}
 use Rattle.serde_json.proofs.Texts.{print-outline}
 use Rattle.mg_value.specs.Value.{Value, null, flag, whole, text, list, object, Items, no_items, item, Members, no_members, member, depth}
 use Rattle.mg_value.specs.Held.{IsHeld, ItemsAreHeld, MembersAreHeld, tokens_of}
 use Rattle.mg_value.specs.Text.{Reads, compact, data_items, data_members, data_of}
 use Rattle.mg_value.proofs.Texts.{compact_text-data_of}
-use Rattle.mg_value.proofs.Written.{read-tokens_of, whole_of-data_of}
+use Rattle.mg_value.proofs.Written.{depth-outline, read-tokens_of, whole_of-data_of}
 
 -- ---- the decimal text of each number is a JSON number
 
@@ -52,6 +53,10 @@ mutual
 -- the tokens of a value are printed as its compact text
 pub printed : (v : Value) → print (tokens_of v) ≡ compact v
 printed v = print-outline (data_of v) ∙ compact_text-data_of v
+
+-- the compact text of a value is a JSON text of the value's outline
+pub document_compact : (v : Value) → IsHeld v → depth v ≤ 127 → document (compact v) ≡ Some (outline (data_of v))
+document_compact v held shallow = ap document (sym (printed v)) ∙ document-print (outline (data_of v)) (numbers v held) (omega (arith, depth-outline v))
 
 -- the compact text of a value reads as the value, where it is UTF-8 and nests at most 127 deep
 pub reads_compact : (v : Value) → IsHeld v → depth v ≤ 127 → IsUtf8 (compact v) → Reads (compact v) v

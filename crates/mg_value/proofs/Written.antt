@@ -121,8 +121,9 @@ mutual
   whole_members-data_members no_members h = refl
   whole_members-data_members (member k v ms) h = rw (whole_of-data_of v h.1, whole_members-data_members ms h.2)
 
+-- the outline of a value nests as deep as the value
 mutual
-  depth-outline : (v : Value) → tree.depth (outline (data_of v)) ≡ depth v
+  pub depth-outline : (v : Value) → tree.depth (outline (data_of v)) ≡ depth v
   depth-outline null = refl
   depth-outline (flag b) = refl
   depth-outline (whole z) = refl

@@ -16,7 +16,8 @@ use std::alloc::Global;
 use std::io;
 use std::io::{ErrorKind, Read};
 
-/// The least room that a read is given.
+/// The least room that a read is given: as much as was received already, within these bounds, since new room is cleared.
+const FIRST_READ: usize = 1024;
 const READ_ROOM: usize = 16384;
 
 /// Why a connection ends, once all of it is sent.
@@ -166,7 +167,8 @@ impl Connection {
         if self.end.is_some() {
             return Err(ErrorKind::NotConnected.into());
         }
-        if self.input.reserve(READ_ROOM).is_err() {
+        let room = self.input.len().clamp(FIRST_READ, READ_ROOM);
+        if self.input.reserve(room).is_err() {
             self.is_starved = true;
             return Ok(None);
         }
