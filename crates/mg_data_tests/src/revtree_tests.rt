@@ -1,9 +1,9 @@
-//! The list of leaves, and the served document as a `Json`. The program shows only the winner, read from its block, and the conflicts.
+//! Trees and documents by values: the list of leaves, a made revision, an edit, and the served document as a `Json`. The program shows only
+//! the winner, read from its block, and the conflicts.
 //! Other tests of trees are in tests/trees.py and tests/conversations/revisions.txt.
-use crate::given::{json, packed, string};
-use mg_doc::served;
-use mg_packed::Packed;
-use mg_revtree::{Body, History, RevTree};
+use crate::given::{json, string};
+use mg_doc::{Edit, rev_id, served};
+use mg_revtree::{History, Rev, RevTree, TreeError};
 use mg_value::Json;
 use std::alloc::Global;
 use std::process::Abort;
@@ -21,8 +21,7 @@ fn tree_of_roots<R: Abort>(rt: &R, alloc: Global) -> RevTree {
     let mut tree = RevTree::new(alloc);
     for (id, deleted) in ROOTS {
         let path = path_of(rt, alloc, id);
-        let body = Body::of(Packed::of(alloc, &Json::Null).expect(rt, "memory"));
-        let _ = tree.merge(&path, *deleted, body);
+        let _ = tree.merge(&path, *deleted, Json::Null);
     }
     tree
 }
@@ -49,7 +48,7 @@ fn leaves_are_listed_best_first(rt: HostRuntime) {
 fn tree_of_one<R: Abort>(rt: &R, alloc: Global, deleted: bool, body: &str) -> RevTree {
     let mut tree = RevTree::new(alloc);
     let path = path_of(rt, alloc, "x");
-    let merged = tree.merge(&path, deleted, Body::of(packed(rt, alloc, body)));
+    let merged = tree.merge(&path, deleted, json(rt, alloc, body));
     assert!(rt; merged.is_ok());
     tree
 }
@@ -68,4 +67,43 @@ fn a_deleted_document_is_not_served(rt: HostRuntime) {
     let tree = tree_of_one(&rt, alloc, true, "{}");
     let form = served(alloc, "pear", &tree).expect(&rt, "memory");
     assert!(rt; form.is_none());
+}
+
+#[test]
+fn a_revision_is_made_over_its_leaf(rt: HostRuntime) {
+    let alloc = rt.alloc();
+    let mut tree = tree_of_one(&rt, alloc, false, "{}");
+    let parent = Rev::new(1, string(&rt, alloc, "x"));
+    let body = r#"{"price":4}"#;
+    let made = tree.extend(
+        Some(&parent),
+        string(&rt, alloc, "y"),
+        false,
+        json(&rt, alloc, body),
+    );
+    assert!(rt; made.is_ok());
+    let leaf = tree.winner().expect(&rt, "a winner");
+    assert!(rt; leaf.rev.pos == 2 && leaf.rev.id.as_str() == "y");
+    assert!(rt; leaf.json(alloc).expect(&rt, "memory") == json(&rt, alloc, body));
+    let refused = tree.extend(Some(&parent), string(&rt, alloc, "z"), false, Json::Null);
+    assert!(rt; refused.err() == Some(TreeError::NotLeaf));
+}
+
+// The MD5 of the text `[false,null,{"price":3}]`, by another implementation.
+const ID: &str = "749749be10568cff86006de27e59812b";
+
+#[test]
+fn an_edit_makes_the_revision_of_its_body(rt: HostRuntime) {
+    let alloc = rt.alloc();
+    let Json::Object(members) = json(&rt, alloc, r#"{"_id":"pear","price":3}"#) else {
+        rt.panic("an object")
+    };
+    let edit = Edit::read(alloc, Json::Object(members), true).expect(&rt, "an edit");
+    assert!(rt; edit.id() == Some("pear"));
+    let mut tree = RevTree::new(alloc);
+    let made = edit.apply(alloc, &mut tree).expect(&rt, "a revision");
+    assert!(rt; made.pos == 1 && made.id.as_str() == ID);
+    let body = json(&rt, alloc, r#"{"price":3}"#);
+    let id = rev_id(alloc, false, None, &body).expect(&rt, "memory");
+    assert!(rt; id.as_str() == ID);
 }

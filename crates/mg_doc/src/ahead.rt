@@ -4,14 +4,14 @@ ghost use Rattle.mg_revtree.specs.Changes.{position_below};
 ghost use Rattle.mg_doc.specs.Ahead.{ahead_of};
 
 use crate::change::Change;
-use crate::digest::rev_id;
+use crate::digest::part_rev_id;
 use mg_packed::Packed;
 use mg_revtree::{Body, Rev, RevId};
 use mg_value::NoMemory;
 use std::alloc::Global;
 
 // Makes the id of a new edit's revision before the tree is known. The id is right if the edit extends the revision that it names, or
-// makes the first revision of its document. `None` for a replica's change. Errors: those of `rev_id`.
+// makes the first revision of its document. `None` for a replica's change. Errors: those of `part_rev_id`.
 pub(crate) fn id_ahead(
     alloc: Global,
     change: &Change,
@@ -22,7 +22,7 @@ pub(crate) fn id_ahead(
         (λ o. option_map string_bytes o ≡ ahead_of change.now deleted body.now) }
 {
     match change {
-        Change::New(named) => Ok(Some(rev_id(alloc, deleted, named.as_ref(), &body.part())?)),
+        Change::New(named) => Ok(Some(part_rev_id(alloc, deleted, named.as_ref(), &body.part())?)),
         Change::Replica(_) => Ok(None),
     }
 }
@@ -66,7 +66,7 @@ fn form_ahead(
     Body::in_form(alloc, body, id, &rev.text(alloc)?)
 }
 
-// Returns the position over a base, or 1 without a base. For a base at the last position, returns that position; `RevTree::extend`
+// Returns the position over a base, or 1 without a base. For a base at the last position, returns that position; `RevTree::extend_with`
 // refuses such a base.
 pub(crate) fn position_over(base: Option<&Rev>) -> u32
     ensures { (position_below (option_copied base.entry) == 4294967295) ≡ false

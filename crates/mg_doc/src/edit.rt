@@ -1,4 +1,5 @@
 ghost use Rattle.std.specs.Prelude.{◌≡◌, Err, IfOk, None, Some, option_map, string_bytes, true};
+ghost use Rattle.mg_value.specs.View.{view};
 ghost use Rattle.mg_doc.specs.Document.{ReadsAs, edit_of, is_object, members_read};
 
 mod apply;
@@ -10,9 +11,9 @@ use crate::fault::gives_change;
 use crate::members::{checked_mark, id_in, own_body};
 use crate::revisions::change_asked;
 pub use apply::{Look, ReadyEdit};
-use mg_packed::{Kind, Object, Part};
+use mg_packed::{Kind, Object, Packed, Part};
 use mg_revtree::Body;
-use mg_value::NoMemory;
+use mg_value::{Json, NoMemory};
 use std::alloc::Global;
 use std::marker::Model;
 
@@ -65,7 +66,7 @@ impl Edit {
     /// `_revisions`, or if a replica gives neither; `NoMemory` if an allocation fails and the document has no fault.
     /// Cost: the number of the members, and copies of the id, of the path and of the body's bytes; for a new edit also the length
     /// of its body's text, because the id of its revision is made here, and that of `Body::form`. Source: CouchDB's `_bulk_docs`.
-    pub fn read(alloc: Global, document: Part<'_>, new_edit: bool) -> Result<Edit, DocError>
+    pub fn read_part(alloc: Global, document: Part<'_>, new_edit: bool) -> Result<Edit, DocError>
         requires { is_object document ≡ true }
         ensures edit { ReadsAs (edit_of new_edit document.entry) result }
         ensures refused { (e : DocError) → edit_of new_edit document.entry ≡ Err e → result ≡ Err e }
@@ -74,6 +75,18 @@ impl Edit {
             Kind::Object(members) => edit_in(alloc, &members, new_edit),
             _ => Err(DocError::BadMember),
         }
+    }
+
+    /// Reads a document of a bulk as `read_part` does, from a `Json`, which is packed into a block.
+    ///
+    /// Errors: `NoMemory` if an allocation fails, or if the block would be longer than 4,294,967,295 bytes, whatever fault the document
+    /// has; else those of `read_part`. Cost: that of `read_part`, and the size of the document.
+    pub fn read(alloc: Global, document: Json, new_edits: bool) -> Result<Edit, DocError>
+        requires { is_object (view document) ≡ true }
+        ensures { ReadsAs (edit_of new_edits (view document)) result }
+    {
+        let packed = Packed::of(alloc, &document)?;
+        Edit::read_part(alloc, packed.part(), new_edits)
     }
 
     /// Returns the id of the edit, if it has one. Takes no memory.
@@ -128,7 +141,7 @@ fn copy_id(alloc: Global, id: Option<&str>) -> Result<Option<String>, NoMemory>
     }
 }
 
-// Reads the edit that a document with these members asks for. Errors: those of `Edit::read`.
+// Reads the edit that a document with these members asks for. Errors: those of `Edit::read_part`.
 fn edit_in(alloc: Global, members: &Object<'_>, new_edit: bool) -> Result<Edit, DocError>
     ensures edit { ReadsAs (members_read new_edit members.now) result }
     ensures refused { (e : DocError) → members_read new_edit members.now ≡ Err e → result ≡ Err e }

@@ -42,7 +42,7 @@ pub enum EditError {
     /// The path gives a known revision a parent other than the known one, or the extended leaf has the last position.
     #[error("Revision history does not fit the document.")]
     BadHistory,
-    /// An allocation failed, or a limit of the revision tree was reached: `RevTree::merge` lists the limits.
+    /// An allocation failed, or a limit of the revision tree was reached: `RevTree::merge_with` lists the limits.
     #[error("out of memory")]
     NoMemory,
 }

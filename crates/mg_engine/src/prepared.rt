@@ -47,7 +47,7 @@ impl Prepared {
     /// Prepares a command: the documents of a bulk are read into edits, and its body is dropped. Other commands stay as they are. This
     /// needs no engine, and therefore no lock on one. If the body of a bulk has a fault, the prepared bulk is refused when it is executed.
     ///
-    /// Errors: `NoMemory` if an allocation fails; the command is then dropped. Cost: that of `Edit::read` for each document of a bulk;
+    /// Errors: `NoMemory` if an allocation fails; the command is then dropped. Cost: that of `Edit::read_part` for each document of a bulk;
     /// constant for any other command.
     pub fn of(alloc: Global, command: Command) -> Result<Prepared, NoMemory>
         ensures { IfOk result (λ p. p ≡ command_view command) }

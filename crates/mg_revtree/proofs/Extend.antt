@@ -10,7 +10,7 @@ use Rattle.mg_revtree.specs.declared.error.TreeRefusal.TheVariants.{NotLeaf, Ful
 use Rattle.mg_revtree.specs.Revision.{Revision, run_from}
 use Rattle.mg_revtree.specs.History.{Paths, Link, all_links, Leaf, is_known}
 use Rattle.mg_revtree.specs.Tree.{AreLeaves}
-use Rattle.mg_revtree.specs.Changes.{Decides, error_of, may_extend, next_position, next_revision, position_below, refusal_of, run_over}
+use Rattle.mg_revtree.specs.Changes.{Decides, error_of, may_extend, next_position, next_revision, position_below, position_unless, refusal_of, run_over}
 use Rattle.mg_revtree.specs.Steps.{base_in, ids_over}
 use Rattle.mg_revtree.proofs.Same.{two}
 use Rattle.mg_revtree.proofs.Winners.{no_winner, first_wins}
@@ -69,11 +69,26 @@ refused_known h base id n e k = (let t : Some Known ≡ refusal_at (Ok n) id (al
 pub not_refused : (h : Paths) (base : Option Revision) (id : List ℕ) (n : ℕ) → Ok n ≡ next_position h base → is_known (n, id) (all_links h) ≡ false → None ≡ refusal_of h base id
 not_refused h base id n e k = (let t : None ≡ refusal_at (Ok n) id (all_links h) = rw k refl in t) ∙ ap (λ p. refusal_at p id (all_links h)) e ∙ refusal_is h base id
 
+-- ---- where a new revision is made
+
+pub open_refused : (o : Option TreeRefusal) (base : Option Revision) (refusal : TreeRefusal) (r : Result ℕ TreeError) → Some refusal ≡ o → IsErrAnd r (λ e. e ≡ error_of refusal) → r ≡ position_unless o base
+open_refused o base refusal (Ok n) is h = absurd h
+open_refused o base refusal (Err e) is h = subst (λ (x : Option TreeRefusal). Err e ≡ position_unless x base) is (ap Err h)
+
+pub open_above : (o : Option TreeRefusal) (base : Option Revision) (n : ℕ) → None ≡ o → n ≡ position_below base + 1 → Ok n ≡ position_unless o base
+open_above o base n is e = subst (λ (x : Option TreeRefusal). Ok n ≡ position_unless x base) is (ap Ok e)
+
+-- there is a position only without a refusal
+pub unrefused : (o : Option TreeRefusal) (base : Option Revision) (n : ℕ) → Ok n ≡ position_unless o base → None ≡ o
+unrefused None base n e = refl
+unrefused (Some refusal) base n e = cc
+
 -- ---- the result of an extension
 
-pub decides_refused : (o : Option TreeRefusal) (refusal : TreeRefusal) (r : Result (Unit {0}) TreeError) → Some refusal ≡ o → IsErrAnd r (λ e. e ≡ error_of refusal) → Decides o r
-decides_refused o refusal (Ok u) is h = absurd h
-decides_refused o refusal (Err e) is h = subst (λ (x : Option TreeRefusal). Decides x (Err e)) is (ap Err h)
+pub decides_refused : (o : Option TreeRefusal) (base : Option Revision) (e : TreeError) (r : Result (Unit {0}) TreeError) → Err e ≡ position_unless o base → IsErrAnd r (λ f. f ≡ e) → Decides o r
+decides_refused None base e r is h = cc
+decides_refused (Some refusal) base e (Ok u) is h = absurd h
+decides_refused (Some refusal) base e (Err f) is h = ap Err h ∙ is
 
 pub decides_made : (o : Option TreeRefusal) (r : Result (Unit {0}) TreeError) → None ≡ o → IsOkUnless r no_memory → Decides o r
 decides_made o r is h = subst (λ (x : Option TreeRefusal). Decides x r) is h

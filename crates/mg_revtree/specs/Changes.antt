@@ -75,6 +75,15 @@ error_of NotLeaf = not_leaf
 error_of Full = full
 error_of Known = known
 
+-- the position above a base, unless there is this refusal
+abbrev pub position_unless : Option TreeRefusal → Option Revision → Result ℕ TreeError
+position_unless None base = Ok (position_below base + 1)
+position_unless (Some refusal) base = Err (error_of refusal)
+
+-- the position at which the revision of this id may be made over a base, or the error that reports why it is refused
+abbrev pub open_position : Paths → Option Revision → List ℕ → Result ℕ TreeError
+open_position h base id = position_unless (refusal_of h base id) base
+
 -- the result reports this refusal; without a refusal it succeeds or runs out of memory
 abbrev pub Decides : Option TreeRefusal → Result (Unit {0}) TreeError → Type 0
 Decides None result = IsOkUnless result no_memory

@@ -57,6 +57,15 @@ impl Body {
         Body { block }
     }
 
+    /// Packs a value, and makes a body of it as `of` does.
+    ///
+    /// Errors and cost: those of `Packed::of`.
+    pub fn of_json(alloc: Global, value: &Json) -> Result<Body, NoMemory>
+        ensures { IfOk result (λ body. body ≡ view value.now) }
+    {
+        Ok(Body::of(Packed::of(alloc, value)?))
+    }
+
     /// Makes a body of a packed value, in the block of its form with this id and this revision. A value that has `_id` or `_rev` as a
     /// member, and the object without members, are kept as `of` keeps them.
     ///

@@ -38,7 +38,7 @@ pub enum MergeError {
     /// The path gives a known revision a parent other than the known one.
     #[error("revision history does not fit the document")]
     BadHistory,
-    /// An allocation failed, or a limit was reached: `RevTree::merge` lists the limits.
+    /// An allocation failed, or a limit was reached: `RevTree::merge_with` lists the limits.
     #[error("out of memory")]
     NoMemory,
 }
@@ -77,7 +77,7 @@ pub enum TreeError {
     /// The new revision is already known.
     #[error("the new revision is known")]
     Known,
-    /// An allocation failed, or a limit was reached: `RevTree::merge` lists the limits.
+    /// An allocation failed, or a limit was reached: `RevTree::merge_with` lists the limits.
     #[error("out of memory")]
     NoMemory,
 }

@@ -165,7 +165,7 @@ impl Growth {
 
     /// Accepts a run that fits, given by its start and its ids, newest first. The tree is then a pair or a line if it has one leaf and
     /// never had more; otherwise it is `Grown`. Returns whether the newest revision of the run was new or known. Errors: `NoMemory`, as
-    /// for `RevTree::merge`; the tree is then as it was.
+    /// for `RevTree::merge_with`; the tree is then as it was.
     pub fn accept(
         &mut self,
         alloc: Global,
@@ -204,7 +204,7 @@ impl Growth {
         }
     }
 
-    // Makes a copy that has accepted a run, and returns what `accept` does. Errors: `NoMemory`, as for `RevTree::merge`.
+    // Makes a copy that has accepted a run, and returns what `accept` does. Errors: `NoMemory`, as for `RevTree::merge_with`.
     fn accept_in_copy(
         &self,
         alloc: Global,
@@ -266,7 +266,7 @@ fn growth_of(alloc: Global, grown: Grown) -> Result<Growth, NoMemory>
 }
 
 // Accepts a run on a line, which is given by its leaf and all known revisions. If there are then several leaves, also returns the lists
-// that replace the line; `known` is then empty. Errors: `NoMemory`, as for `RevTree::merge`; the line is then as it was.
+// that replace the line; `known` is then empty. Errors: `NoMemory`, as for `RevTree::merge_with`; the line is then as it was.
 fn accept_on_line(
     alloc: Global,
     leaf: &mut SharedLeaf,

@@ -1,7 +1,8 @@
-ghost use Rattle.std.specs.Prelude.{◌≡◌, ◌<◌, ◌≤◌, IfOk, Some, length, map, string_bytes};
+ghost use Rattle.std.specs.Prelude.{◌≡◌, ◌<◌, ◌≤◌, IfOk, Some, length, map, option_copied, string_bytes};
 ghost use Rattle.std.specs.List.{list_all};
 ghost use Rattle.mg_revtree.specs.Revision.{is_revision_id, run_from, run_of};
 ghost use Rattle.mg_revtree.specs.History.{newest_of};
+ghost use Rattle.mg_revtree.specs.Steps.{ids_over};
 
 use crate::rev_id::RevId;
 use crate::revision::{Rev, is_rev_id};
@@ -87,4 +88,21 @@ fn are_ids(ids: &[String]) -> bool
     ensures { result ≡ list_all (λ id. is_revision_id (string_bytes id)) ids.now }
 {
     ids.iter().all(|id| is_rev_id(id))
+}
+
+/// Lists the ids of a new revision and of its parent, if there is one. Errors: `NoMemory` if an allocation fails.
+pub(crate) fn ids_over(
+    alloc: Global,
+    id: String,
+    parent: Option<&Rev>,
+) -> Result<Vec<String>, NoMemory>
+    ensures { IfOk result
+        (λ ids. map string_bytes ids.items ≡ ids_over (string_bytes id) (option_copied parent.entry)) }
+{
+    let mut ids = Vec::with_capacity(alloc, 2)?;
+    ids.push(id)?;
+    if let Some(parent) = parent {
+        ids.push(String::from_str(alloc, parent.id.as_str())?)?;
+    }
+    Ok(ids)
 }

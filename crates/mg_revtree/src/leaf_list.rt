@@ -3,9 +3,11 @@ ghost use Rattle.std.specs.List.{insert};
 ghost use Rattle.mg_revtree.specs.Revision.{run_from, same_revision};
 ghost use Rattle.mg_revtree.specs.History.{has_child, links, ranked_with};
 ghost use Rattle.mg_revtree.specs.Tree.{AreApart, AreRanked, leaf_in};
-ghost use Rattle.mg_revtree.specs.Steps.{IsBetween, IsLeafAt, IsTied, marked_as};
+ghost use Rattle.mg_revtree.specs.Changes.{position_below};
+ghost use Rattle.mg_revtree.specs.Steps.{IsBetween, IsLeafAt, IsTied, base_in, marked_as};
 
 use crate::leaf::{Leaf, SharedLeaf};
+use crate::revision::Rev;
 use mg_value::NoMemory;
 use std::alloc::Global;
 
@@ -154,4 +156,20 @@ pub fn copy_leaves(alloc: Global, leaves: &[SharedLeaf]) -> Result<Vec<SharedLea
         made.push(leaf.share()?)?;
     }
     Ok(made)
+}
+
+/// Finds the position below a new revision: that of its parent, or 0 without a parent. `None` if the parent is not a leaf, or if there is
+/// no parent but there are leaves.
+pub fn position_under(leaves: &[SharedLeaf], parent: Option<&Rev>) -> Option<u32>
+    ensures asked { AreRanked leaves.now → base_in leaves.now (option_copied parent.entry) ≡ is_some result }
+    ensures below { IfSome result (λ n. n ≡ position_below (option_copied parent.entry)) }
+{
+    match parent {
+        None => if leaves.is_empty() { Some(0) } else { None },
+        Some(parent) => if is_leaf(leaves, parent.pos, parent.id.as_bytes()) {
+            Some(parent.pos)
+        } else {
+            None
+        },
+    }
 }

@@ -5,7 +5,8 @@
 //! `merge` will return, and what `extend` will return unless the new revision is already known. `merge`
 //! returns `BadHistory` exactly for a path that does not fit (`refused`, `fitting`); otherwise the tree
 //! then represents those paths and this one (`accepted`). `extend` makes a revision over a leaf
-//! (`accepted`) or returns the refusal (`decided`). A refusal changes nothing (`err`). A `Body` represents
+//! (`accepted`) or returns the refusal (`decided`). A refusal changes nothing (`err`). `merge_with` and
+//! `extend_with` do the same with a `Body` in place of a `Json`. A `Body` represents
 //! the body of a leaf. It is kept in a block of its own, in the block of the form in which its document is
 //! served, or, as the object without members, in no block. A `RevId` is the id of a revision; one of 32
 //! bytes has no block, and is copied without memory (`inline`). `move_body_into` moves the winner's body

@@ -120,3 +120,14 @@ fn lend(held: &HeldRevId) -> &str
         HeldRevId::Block(id) => id,
     }
 }
+
+/// Copies the id of a known revision, which was a text when its path was accepted. Errors: `NoMemory` if an allocation fails, or if the bytes
+/// are not a text.
+pub(crate) fn text_of(alloc: Global, id: &[u8]) -> Result<String, NoMemory>
+    ensures { IfOk result (λ text. string_bytes text ≡ id.now) }
+{
+    match str::from_utf8(id) {
+        Ok(text) => Ok(String::from_str(alloc, text)?),
+        Err(_) => Err(NoMemory),
+    }
+}

@@ -1,66 +1,26 @@
-ghost use Rattle.std.specs.Prelude.{◌≡◌, ◌+◌, ◌<◌, ◌≤◌, [], Err, IfOk, IfSome, IsOk, IsOkUnless, Ok, OnErr, OnOk, false, is_some, length, map, option_copied, string_bytes, true};
+ghost use Rattle.std.specs.Prelude.{◌≡◌, ◌+◌, ◌<◌, ◌≤◌, [], Err, IfOk, IfSome, IsOk, IsOkUnless, Ok, OnErr, OnOk, false, length, map, option_copied, string_bytes, true};
+ghost use Rattle.mg_value.specs.View.{view};
 ghost use Rattle.mg_revtree.specs.Revision.{run_from};
 ghost use Rattle.mg_revtree.specs.Body.{IsFormOf};
 ghost use Rattle.mg_revtree.specs.History.{Paths, first_of, fits, is_known_whole, leaf_of, leaves_of, winner_of};
 ghost use Rattle.mg_revtree.specs.Ancestry.{ancestry};
 ghost use Rattle.mg_revtree.specs.Growth.{empty_tree, first_tree};
-ghost use Rattle.mg_revtree.specs.Tree.{AreLeaves, AreLosers, AreRanked, StandsFor};
+ghost use Rattle.mg_revtree.specs.Tree.{AreLeaves, AreLosers, StandsFor};
 ghost use Rattle.mg_revtree.specs.Losers.{losers_of};
-ghost use Rattle.mg_revtree.specs.Changes.{Decides, extension, found_of, next_position, path_of, position_below, refusal_of, with_path};
-ghost use Rattle.mg_revtree.specs.Steps.{base_in, ids_over};
+ghost use Rattle.mg_revtree.specs.Changes.{Decides, extension, found_of, next_position, open_position, path_of, position_below, refusal_of, with_path};
 
 use crate::body::Body;
 use crate::error::{MergeError, Merged, TreeError, TreeRefusal};
 use crate::form::Form;
 use crate::growth::Growth;
-use crate::history::History;
-use crate::leaf::{Leaf, SharedLeaf};
-use crate::leaf_list::{is_leaf, leaf_of, lent_leaves, undeleted_among};
-use crate::rev_id::RevId;
+use crate::history::{History, ids_over};
+use crate::leaf::Leaf;
+use crate::leaf_list::{leaf_of, lent_leaves, position_under, undeleted_among};
+use crate::rev_id::{RevId, text_of};
 use crate::revision::Rev;
-use mg_value::NoMemory;
+use mg_value::{Json, NoMemory};
 use std::alloc::Global;
 use std::marker::Model;
-
-// Finds the position below a new revision: that of its parent, or 0 without a parent. `None` if the parent is not a leaf, or if there is
-// no parent but there are leaves.
-fn position_under(leaves: &[SharedLeaf], parent: Option<&Rev>) -> Option<u32>
-    ensures asked { AreRanked leaves.now → base_in leaves.now (option_copied parent.entry) ≡ is_some result }
-    ensures below { IfSome result (λ n. n ≡ position_below (option_copied parent.entry)) }
-{
-    match parent {
-        None => if leaves.is_empty() { Some(0) } else { None },
-        Some(parent) => if is_leaf(leaves, parent.pos, parent.id.as_bytes()) {
-            Some(parent.pos)
-        } else {
-            None
-        },
-    }
-}
-
-// Lists the ids of a new revision and of its parent, if there is one. Errors: `NoMemory` if an allocation fails.
-fn ids_over(alloc: Global, id: String, parent: Option<&Rev>) -> Result<Vec<String>, NoMemory>
-    ensures { IfOk result
-        (λ ids. map string_bytes ids.items ≡ ids_over (string_bytes id) (option_copied parent.entry)) }
-{
-    let mut ids = Vec::with_capacity(alloc, 2)?;
-    ids.push(id)?;
-    if let Some(parent) = parent {
-        ids.push(String::from_str(alloc, parent.id.as_str())?)?;
-    }
-    Ok(ids)
-}
-
-// Copies the id of a known revision, which was a text when its path was accepted. Errors: `NoMemory` if an allocation fails, or if the bytes
-// are not a text.
-fn text_of(alloc: Global, id: &[u8]) -> Result<String, NoMemory>
-    ensures { IfOk result (λ text. string_bytes text ≡ id.now) }
-{
-    match str::from_utf8(id) {
-        Ok(text) => Ok(String::from_str(alloc, text)?),
-        Err(_) => Err(NoMemory),
-    }
-}
 
 /// The revision tree of a document: its known revisions with their parents, and its leaves with their deletion marks
 /// and bodies. Contracts speak of every list of accepted paths that the tree stands for.
@@ -226,6 +186,29 @@ impl RevTree {
         }
     }
 
+    /// Accepts a path as `merge_with` does, with a `Json` as the body, which is packed into a block.
+    ///
+    /// Errors: those of `merge_with`, and `NoMemory` if the body cannot be packed. Cost: that of `merge_with`, and the size of the body.
+    pub fn merge(&mut self, path: &History, deleted: bool, body: Json) -> Result<Merged, MergeError>
+        ensures accepted { OnOk result ((h : Paths) → StandsFor self.old h
+            → StandsFor self.new (with_path h (path_of path.now deleted (view body)))) }
+        ensures found { IfOk result (λ m. (h : Paths) → StandsFor self.old h → m ≡ found_of h path.now) }
+        ensures fitting { (h : Paths) → StandsFor self.old h → fits h path.now ≡ true
+            → IsOkUnless result MergeError.NoMemory }
+        ensures refused { (h : Paths) → StandsFor self.old h → fits h path.now ≡ false
+            → result ≡ Err MergeError.BadHistory }
+        ensures whole { (h : Paths) → StandsFor self.old h → is_known_whole h path.now ≡ true
+            → (result ≡ Ok Merged.Known) × (self.new ≡ self.old) }
+        ensures err { OnErr result (self.new ≡ self.old) }
+    {
+        if self.is_merged(path)? {
+            return Ok(Merged::Known);
+        }
+        let body = Body::of_json(self.alloc, &body)?;
+        let (start, ids) = path.run();
+        Ok(self.accept(start, ids, deleted, body)?)
+    }
+
     /// Accepts a path as a replica sends it, with the mark and the body of its newest revision. Unknown revisions become known, and known
     /// ones without a parent get the parent that the path gives them. If the newest revision is already known, the given mark and body
     /// are ignored. A path that is known whole changes nothing. Returns whether the newest revision was new or known.
@@ -240,7 +223,12 @@ impl RevTree {
     /// known revision. The body keeps its block and is not copied. If the newer revisions and those of the path are more than 64, and
     /// more than about four times the square root of the number of older ones, all known revisions are copied too. Source: the
     /// replication model of CouchDB.
-    pub fn merge(&mut self, path: &History, deleted: bool, body: Body) -> Result<Merged, MergeError>
+    pub fn merge_with(
+        &mut self,
+        path: &History,
+        deleted: bool,
+        body: Body,
+    ) -> Result<Merged, MergeError>
         ensures accepted { OnOk result ((h : Paths) → StandsFor self.old h
             → StandsFor self.new (with_path h (path_of path.now deleted body))) }
         ensures found { IfOk result (λ m. (h : Paths) → StandsFor self.old h → m ≡ found_of h path.now) }
@@ -252,17 +240,34 @@ impl RevTree {
             → (result ≡ Ok Merged.Known) × (self.new ≡ self.old) }
         ensures err { OnErr result (self.new ≡ self.old) }
     {
+        if self.is_merged(path)? {
+            return Ok(Merged::Known);
+        }
+        let (start, ids) = path.run();
+        Ok(self.accept(start, ids, deleted, body)?)
+    }
+
+    // Whether a path is known whole, so that a merge has nothing to do. Takes no memory. Errors: `BadHistory` if the path does not fit.
+    fn is_merged(&self, path: &History) -> Result<bool, MergeError>
+        ensures whole { IfOk result
+            (λ whole. (h : Paths) → StandsFor self.now h → whole ≡ is_known_whole h path.now) }
+        ensures fitting { (h : Paths) → StandsFor self.now h → fits h path.now ≡ true → IsOk result }
+        ensures refused { (h : Paths) → StandsFor self.now h → fits h path.now ≡ false
+            → result ≡ Err MergeError.BadHistory }
+        ensures known { IfOk result (λ whole. (h : Paths) → StandsFor self.now h → whole ≡ true
+            → Merged.Known ≡ found_of h path.now) }
+    {
         let (start, ids) = path.run();
         if self.growth.knows_whole(start, ids) {
-            return Ok(Merged::Known);
+            return Ok(true);
         }
         if !self.growth.fits(start, ids) {
             return Err(MergeError::BadHistory);
         }
-        Ok(self.accept(start, ids, deleted, body)?)
+        Ok(false)
     }
 
-    // Accepts a run that fits, given by its start and its ids, newest first. Errors: `NoMemory`, as for `merge`; the tree is then as it
+    // Accepts a run that fits, given by its start and its ids, newest first. Errors: `NoMemory`, as for `merge_with`; the tree is then as it
     // was.
     fn accept(
         &mut self,
@@ -303,13 +308,36 @@ impl RevTree {
         Ok(())
     }
 
+    /// Makes a new revision as `extend_with` does, with a `Json` as the body, which is packed into a block.
+    ///
+    /// Errors: those of `extend_with`, and `NoMemory` if the body cannot be packed. Cost: that of `extend_with`, and the size of the body.
+    pub fn extend(
+        &mut self,
+        parent: Option<&Rev>,
+        id: String,
+        deleted: bool,
+        body: Json,
+    ) -> Result<(), TreeError>
+        ensures accepted { OnOk result ((h : Paths) → StandsFor self.old h
+            → StandsFor self.new
+            (with_path h (extension (option_copied parent.entry) (string_bytes id) deleted (view body)))) }
+        ensures decided { (h : Paths) → StandsFor self.old h
+            → Decides (refusal_of h (option_copied parent.entry) (string_bytes id)) result }
+        ensures err { OnErr result (self.new ≡ self.old) }
+    {
+        let pos = self.open_position(parent, &id)?;
+        let body = Body::of_json(self.alloc, &body)?;
+        self.make_revision(pos, parent, id, deleted, body)?;
+        Ok(())
+    }
+
     /// Makes a new revision over the leaf `parent`; without a parent, at position 1 in a tree without leaves. `id` should be one that
     /// `is_rev_id` allows; this is not checked.
     ///
     /// Errors, in this order: those of `next_position`, then `Known` if the revision is already known, all found without memory;
-    /// else `NoMemory`, as for `merge`. An error leaves the tree as it was. Cost: as for `merge`, with a path of the new revision
+    /// else `NoMemory`, as for `merge_with`. An error leaves the tree as it was. Cost: as for `merge_with`, with a path of the new revision
     /// and its parent.
-    pub fn extend(
+    pub fn extend_with(
         &mut self,
         parent: Option<&Rev>,
         id: String,
@@ -323,15 +351,26 @@ impl RevTree {
             → Decides (refusal_of h (option_copied parent.entry) (string_bytes id)) result }
         ensures err { OnErr result (self.new ≡ self.old) }
     {
-        let pos = self.next_position(parent)?;
-        if self.growth.knows(pos, &id) {
-            return Err(TreeError::Known);
-        }
+        let pos = self.open_position(parent, &id)?;
         self.make_revision(pos, parent, id, deleted, body)?;
         Ok(())
     }
 
-    // Makes a new revision at position `pos` over its parent, or without one. Errors: `NoMemory`, as for `merge`; the tree is then as it
+    // Returns the position at which a new revision may be made over its parent, or without one. Takes no memory. Errors: those of
+    // `next_position`, then `Known`.
+    fn open_position(&self, parent: Option<&Rev>, id: &String) -> Result<u32, TreeError>
+        ensures decided { (h : Paths) → StandsFor self.now h
+            → result ≡ open_position h (option_copied parent.entry) (string_bytes id.now) }
+        ensures above { IfOk result (λ n. n ≡ position_below (option_copied parent.entry) + 1) }
+    {
+        let pos = self.next_position(parent)?;
+        if self.growth.knows(pos, id) {
+            return Err(TreeError::Known);
+        }
+        Ok(pos)
+    }
+
+    // Makes a new revision at position `pos` over its parent, or without one. Errors: `NoMemory`, as for `merge_with`; the tree is then as it
     // was.
     fn make_revision(
         &mut self,

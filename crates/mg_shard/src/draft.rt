@@ -69,7 +69,7 @@ impl<'a> Draft<'a> {
     /// Applies one edit that has an id, and moves its body into the tree of its document. An edit that is refused, or whose path is
     /// known whole, touches no document.
     ///
-    /// Errors: `NoMemory` if an allocation fails, or at a limit that `RevTree::merge` lists. The draft must then not be used again. A
+    /// Errors: `NoMemory` if an allocation fails, or at a limit that `RevTree::merge_with` lists. The draft must then not be used again. A
     /// refused edit is not an error: the reply is `Conflict` or `BadHistory`. Lack of memory never hides a refusal that `Edit::look` finds.
     /// Cost: that of `Edit::look` and `ReadyEdit::apply`, and a copy of the document's tree if the draft has not touched the
     /// document yet. No copy of the body.

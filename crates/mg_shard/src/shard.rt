@@ -227,7 +227,7 @@ impl Shard {
 
     /// Applies edits that have ids, in order, and returns the shard after them and the outcome of each. This shard does not change.
     ///
-    /// Errors: `NoMemory` if an allocation fails, or at a limit that `RevTree::merge` or `serve_form` has. A refused edit is not an
+    /// Errors: `NoMemory` if an allocation fails, or at a limit that `RevTree::merge_with` or `serve_form` has. A refused edit is not an
     /// error. Cost: that of `Draft::apply_all`, which copies each edit and moves the copy's body into the tree of its document; and that of
     /// `Draft::finish` or, if the edits touch no document, that of `share`. `Draft::apply` takes an edit by value, and does not copy it.
     pub fn apply(&self, alloc: Global, edits: &[Edit]) -> Result<(Shard, Vec<EditReply>), NoMemory>

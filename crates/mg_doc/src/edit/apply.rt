@@ -70,7 +70,7 @@ impl Edit {
     ///
     /// Errors: `Conflict` if the named revision is not a leaf, if none is named but the winner is not deleted, or if the made revision is
     /// already known; `BadHistory` if the extended leaf has the last position, 4,294,967,295, or if a replica's path does not fit; else
-    /// `NoMemory` if an allocation fails, or at a limit that `RevTree::merge` lists. Only the refusal of a made revision that is already
+    /// `NoMemory` if an allocation fails, or at a limit that `RevTree::merge_with` lists. Only the refusal of a made revision that is already
     /// known needs memory. An error leaves the tree as it was. Cost: that of `look`; and, unless a path is known whole, a copy of the
     /// edit and the cost of `ReadyEdit::apply`. Source: CouchDB's `_bulk_docs` with `new_edits` true and false.
     pub fn apply(&self, alloc: Global, tree: &mut RevTree) -> Result<Rev, EditError>
@@ -109,9 +109,9 @@ impl ReadyEdit {
 
     /// Applies the edit to the tree that was looked at, or to a copy of it, and returns what `Edit::apply` returns. Does not look again.
     ///
-    /// Errors: `Conflict` if the made revision is already known; `NoMemory` if an allocation fails, or at a limit that `RevTree::merge`
+    /// Errors: `Conflict` if the made revision is already known; `NoMemory` if an allocation fails, or at a limit that `RevTree::merge_with`
     /// lists. Lack of memory hides the `Conflict` only if the edit names no revision and a deleted winner is extended: then the revision's
-    /// id has to be made here. An error leaves the tree as it was. Cost: that of `RevTree::extend` or `RevTree::merge`, and the length of
+    /// id has to be made here. An error leaves the tree as it was. Cost: that of `RevTree::extend_with` or `RevTree::merge_with`, and the length of
     /// the body's text if the id has to be made here.
     pub fn apply(self, alloc: Global, tree: &mut RevTree) -> Result<Rev, EditError>
         requires { (h : Paths) → StandsFor tree.old h → IsReady h self }
@@ -153,14 +153,14 @@ fn look_for(tree: &RevTree, path: &History) -> Result<Option<Rev>, EditError>
 }
 
 // Merges the path of a replica, and returns the path's newest revision. Errors: `NoMemory` if the revision cannot be copied, and those of
-// `RevTree::merge`; the tree is then as it was.
+// `RevTree::merge_with`; the tree is then as it was.
 fn merge(tree: &mut RevTree, path: &History, deleted: bool, body: Body) -> Result<Rev, EditError>
     ensures accepts { (h : Paths) → StandsFor tree.old h
         → AcceptsAs h deleted body (replicated h path.now) result tree.new }
     ensures unchanged { OnErr result (tree.new ≡ tree.old) }
 {
     let rev = path.newest()?;
-    tree.merge(path, deleted, body)?;
+    tree.merge_with(path, deleted, body)?;
     Ok(rev)
 }
 
@@ -269,7 +269,7 @@ fn extend_unnamed(
 }
 
 // Makes a revision over a base, or the first revision of a document. `id` is the revision's id, of 32 bytes. Errors: those of
-// `RevTree::extend`; the tree is then as it was.
+// `RevTree::extend_with`; the tree is then as it was.
 fn extend_over(
     alloc: Global,
     tree: &mut RevTree,
@@ -289,6 +289,6 @@ fn extend_over(
         pos: position_over(base),
         id: RevId::copy_of(alloc, &id)?,
     };
-    tree.extend(base, id, deleted, body)?;
+    tree.extend_with(base, id, deleted, body)?;
     Ok(rev)
 }

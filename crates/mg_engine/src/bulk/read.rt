@@ -32,9 +32,9 @@ struct Bulk<'a> {
 impl PreparedBulk {
     /// Reads the body of a bulk: first its shape, and then its documents in order, up to the first fault.
     ///
-    /// The documents are read in place. Only what `Edit::read` keeps of them is copied.
+    /// The documents are read in place. Only what `Edit::read_part` keeps of them is copied.
     ///
-    /// Errors: `NoMemory` if an allocation fails. Cost: a step for each document, and then that of `Edit::read` for each.
+    /// Errors: `NoMemory` if an allocation fails. Cost: a step for each document, and then that of `Edit::read_part` for each.
     pub(crate) fn of(alloc: Global, body: &Packed) -> Result<PreparedBulk, NoMemory>
         ensures { IfOk result (λ read. Determines read (bulk body.now)) }
     {
@@ -124,7 +124,7 @@ fn read_edits(alloc: Global, new_edits: bool, documents: Array<'_>) -> Result<Ve
     let count = documents.len();
     let mut edits = Vec::with_capacity(alloc, count)?;
     for index in 0..count {
-        let edit = Edit::read(alloc, documents.item(index), new_edits)?;
+        let edit = Edit::read_part(alloc, documents.item(index), new_edits)?;
         edits.push(edit)?;
     }
     Ok(edits)

@@ -9,22 +9,22 @@ pub returns-clause-accepts : goal.returns-clause-accepts
 returns-clause-accepts c = λ h stands.
     let base = option_copied c.args.base in
     let id = string_bytes c.args.id in
-    let t = c.extend.new.self in
-    extended_over_base h c.args.deleted c.args.body base id c.in_ok-copy_of.field-0 c.position_over.result t c.requires (c.in_ok-copy_of.ensures.copy ∙ c.deref.ensures) (no_refusal _ _ (c.in_ok-extend.ensures.decided h stands)) c.position_over.ensures
-    (c.in_ok-extend.ensures.accepted h stands)
+    let t = c.extend_with.new.self in
+    extended_over_base h c.args.deleted c.args.body base id c.in_ok-copy_of.field-0 c.position_over.result t c.requires (c.in_ok-copy_of.ensures.copy ∙ c.deref.ensures) (no_refusal _ _ (c.in_ok-extend_with.ensures.decided h stands)) c.position_over.ensures
+    (c.in_ok-extend_with.ensures.accepted h stands)
 
 pub returns-clause-refused : goal.returns-clause-refused
 returns-clause-refused c = λ h stands x said.
-    absurd (not_refused_over h c.args.deleted c.args.body (option_copied c.args.base) (string_bytes c.args.id) x c.requires (no_refusal _ _ (c.in_ok-extend.ensures.decided h stands)) said)
+    absurd (not_refused_over h c.args.deleted c.args.body (option_copied c.args.base) (string_bytes c.args.id) x c.requires (no_refusal _ _ (c.in_ok-extend_with.ensures.decided h stands)) said)
 
 pub returns-in_err-copy_of-clause-refused : goal.returns-in_err-copy_of-clause-refused
 returns-in_err-copy_of-clause-refused c = λ h stands x said.
     let wrong = c.in_err-copy_of.ensures.inline (ap length (c.deref.ensures ∙ c.requires) ∙ length-digest c.args.deleted (option_copied c.args.base) c.args.body) in
     absurd (cc wrong)
 
-pub returns-in_err-extend-clause-refused : goal.returns-in_err-extend-clause-refused
-returns-in_err-extend-clause-refused c = λ h stands x said.
-    let y = c.in_err-extend.field-0.0 in
-    let p = err_from_is_err_and c.from_residual-in_err-extend.result c.from_residual-in_err-extend.ensures.1 in
-    let is : c.from_residual-in_err-extend.result ≡ Err (error_of_tree y) = cc (p.1, p.2) in
-    is ∙ ap Err (refused_over h c.args.deleted c.args.body (option_copied c.args.base) (string_bytes c.args.id) y x c.requires (c.in_err-extend.ensures.decided h stands) said)
+pub returns-in_err-extend_with-clause-refused : goal.returns-in_err-extend_with-clause-refused
+returns-in_err-extend_with-clause-refused c = λ h stands x said.
+    let y = c.in_err-extend_with.field-0.0 in
+    let p = err_from_is_err_and c.from_residual-in_err-extend_with.result c.from_residual-in_err-extend_with.ensures.1 in
+    let is : c.from_residual-in_err-extend_with.result ≡ Err (error_of_tree y) = cc (p.1, p.2) in
+    is ∙ ap Err (refused_over h c.args.deleted c.args.body (option_copied c.args.base) (string_bytes c.args.id) y x c.requires (c.in_err-extend_with.ensures.decided h stands) said)
