@@ -112,7 +112,7 @@ impl<P: Placement + Drop> Point<P> {
             → IsAfter P.place name self.now cs → HasShardsAfter shards self.now cs
             → HasShardsAfter shards r.1 (after_write name cs seat (command_view command.now))) }
     {
-        let prepared = Prepared::of(alloc, command.copy(alloc)?)?;
+        let prepared = Prepared::of(alloc, command)?;
         self.write_prepared(rt, alloc, prepared, workers)
     }
 

@@ -20,7 +20,7 @@ pub(crate) const PAGE: &str =
 
 // Makes an engine with these documents on two shards.
 pub(crate) fn two_shards<R: Threads + Sync + Abort>(rt: &R, alloc: Global) -> Engine<Md5Placement> {
-    let bulk = Command::Bulk(packed(rt, alloc, DOCUMENTS));
+    let bulk = Command::PackedBulk(packed(rt, alloc, DOCUMENTS));
     let mut engine = Engine::new(alloc, "db", Md5Placement, 2).expect(rt, "memory");
     assert!(rt; engine.step(rt, alloc, &bulk, 1).status() == 201);
     engine
