@@ -132,7 +132,7 @@ fn get_l1<R: Abort>(rt: &R, alloc: Global) -> Event {
 // Seat 1 enters, seat 0 writes, and seat 1 reads before and after it learns of the write. Then seat 1 drops an index that does not exist,
 // and seat 0 lists the indexes.
 fn telling<R: Abort>(rt: &R, alloc: Global) -> Vec<Event> {
-    let write = Command::PackedBulk(packed(rt, alloc, ONE_DOCUMENT));
+    let write = Command::Bulk(json(rt, alloc, ONE_DOCUMENT));
     let drop = Command::DropIndex {
         ddoc: string(rt, alloc, "x"),
         name: string(rt, alloc, "ia"),
