@@ -121,7 +121,7 @@ fn count_rows<R: Threads + Sync + Abort>(
         rt,
         alloc,
         shards,
-        all,
+        &all,
         &normal,
         &range,
         None,
