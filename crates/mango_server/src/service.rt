@@ -42,12 +42,7 @@ impl<D: Database, C: Keeper> Service for StoredService<D, C> {
     ghost answers = { λ old command answer new.
         StoredAnswer D.db old.service.seat command answer new.service.seat };
 
-    fn ask<H: Wait + Threads + Sync>(
-        &mut self,
-        rt: &H,
-        alloc: Global,
-        command: &Command,
-    ) -> Reply {
+    fn ask<H: Wait + Threads + Sync>(&mut self, rt: &H, alloc: Global, command: &Command) -> Reply {
         match command.copy(alloc) {
             Ok(command) => self.execute(rt, alloc, command),
             Err(_) => Reply::NoMemory,

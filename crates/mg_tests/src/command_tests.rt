@@ -22,12 +22,7 @@ struct Asked {
 impl Service for Asked {
     ghost answers = { λ _ _ _ _. Unit {0} };
 
-    fn ask<H: Wait + Threads + Sync>(
-        &mut self,
-        rt: &H,
-        alloc: Global,
-        command: &Command,
-    ) -> Reply {
+    fn ask<H: Wait + Threads + Sync>(&mut self, rt: &H, alloc: Global, command: &Command) -> Reply {
         self.engine.step(rt, alloc, command, 1)
     }
 }

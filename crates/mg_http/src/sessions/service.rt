@@ -57,12 +57,7 @@ impl<P: Placement + Drop> Service for Solo<P> {
         EngineAnswers P.place old.engine command answer new.engine
         × IfNone answer (new.engine ≡ old.engine) };
 
-    fn ask<H: Wait + Threads + Sync>(
-        &mut self,
-        rt: &H,
-        alloc: Global,
-        command: &Command,
-    ) -> Reply {
+    fn ask<H: Wait + Threads + Sync>(&mut self, rt: &H, alloc: Global, command: &Command) -> Reply {
         self.engine.step(rt, alloc, command, self.workers)
     }
 
@@ -117,12 +112,7 @@ where
     // those that it had seen. A command for which memory ran out makes no commit.
     ghost answers = { λ old command answer new. Answered D.db old.seat command answer new.seat };
 
-    fn ask<H: Wait + Threads + Sync>(
-        &mut self,
-        rt: &H,
-        alloc: Global,
-        command: &Command,
-    ) -> Reply {
+    fn ask<H: Wait + Threads + Sync>(&mut self, rt: &H, alloc: Global, command: &Command) -> Reply {
         match command.copy(alloc) {
             Ok(command) => self.seat.answer(rt, command, self.workers),
             Err(_) => Reply::NoMemory,
