@@ -34,7 +34,7 @@ impl Ready {
             return Err(Stopped);
         }
         let given = Snapshot::of(&command);
-        match Prepared::of(alloc, command) {
+        match Prepared::of(alloc, &command) {
             Ok(prepared) => Ok(Ready {
                 command: given,
                 prepared,

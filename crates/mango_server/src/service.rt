@@ -42,9 +42,21 @@ impl<D: Database, C: Keeper> Service for StoredService<D, C> {
     ghost answers = { λ old command answer new.
         StoredAnswer D.db old.service.seat command answer new.service.seat };
 
-    fn ask<H: Wait + Threads + Sync>(&mut self, rt: &H, alloc: Global, command: Command) -> Reply {
+    fn ask<H: Wait + Threads + Sync>(&mut self, rt: &H, alloc: Global, command: &Command) -> Reply {
+        match command.copy(alloc) {
+            Ok(command) => self.execute(rt, alloc, command),
+            Err(_) => Reply::NoMemory,
+        }
+    }
+
+    fn execute<H: Wait + Threads + Sync>(
+        &mut self,
+        rt: &H,
+        alloc: Global,
+        command: Command,
+    ) -> Reply {
         let is_write = command.is_write();
-        let reply = self.service.ask(rt, alloc, command);
+        let reply = self.service.execute(rt, alloc, command);
         if is_write && self.lost.load(Ordering::SeqCst) {
             storage_reply(alloc, reply)
         } else {

@@ -1,5 +1,6 @@
 //! Executes bulks of edits.
 ghost use Rattle.std.specs.Prelude.{◌≡◌, IfOk, Some, true, length, unwrap_or};
+ghost use Rattle.mg_value.specs.View.{view};
 ghost use Rattle.mg_engine.specs.Commands.{Asked, bulk, edits_effect, next, reply_of};
 ghost use Rattle.mg_engine.specs.Objects.{BringObjects};
 ghost use Rattle.mg_engine.specs.Prepared.{Determines};
@@ -19,18 +20,38 @@ use apply::apply_edits;
 use mg_doc::Edit;
 use mg_packed::Packed;
 use mg_shard::Placement;
-use mg_value::NoMemory;
+use mg_value::{Json, NoMemory};
 use number::number_edits;
 pub(crate) use read::PreparedBulk;
 use reply::entries_line;
 use std::alloc::Global;
 
 impl State {
+    /// Executes a bulk, whose body is packed first. Returns the reply, and the next state (`None` if the bulk is refused).
+    ///
+    /// Errors and cost: those of `Packed::of` and of `packed_bulk`.
+    pub(crate) fn bulk<P: Placement>(
+        &self,
+        alloc: Global,
+        placement: &P,
+        body: &Json,
+    ) -> Result<(Reply, Option<State>), NoMemory>
+        ensures does { IfOk result (λ r. (w : World) → StateStandsFor (P.place placement.now) self.now w
+            → (reply_view r.0 ≡ Some (reply_of w (bulk (view body.now))))
+            × StateStandsFor (P.place placement.now) (unwrap_or r.1 self.now)
+            (next w (bulk (view body.now)))) }
+        ensures settled { IfOk result (λ r. IsSettled r.0 r.1) }
+        ensures number { IfOk result (λ r. length (unwrap_or r.1 self.now).shards ≡ length self.now.shards) }
+    {
+        let body = Packed::of(alloc, body)?;
+        self.packed_bulk(alloc, placement, &body)
+    }
+
     /// Executes a bulk, whose documents are read in place. Returns the reply, and the next state (`None` if the bulk is refused).
     ///
     /// Errors: `NoMemory` if an allocation fails, or if there are too many references to a part of this state. Cost: that of
     /// `PreparedBulk::of` and of `apply`.
-    pub(crate) fn bulk<P: Placement>(
+    pub(crate) fn packed_bulk<P: Placement>(
         &self,
         alloc: Global,
         placement: &P,

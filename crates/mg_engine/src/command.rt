@@ -6,11 +6,13 @@ use mg_packed::Packed;
 use mg_value::{Json, NoMemory};
 use std::alloc::Global;
 
-/// One command to the engine. Each `Packed` or `Json` is the body of a request.
+/// One command to the engine. Each `Json` or `Packed` is the body of a request.
 #[derive(Debug, Drop)]
 pub enum Command {
     /// Applies a bulk of edits: `{"docs":[..],"new_edits":..}`.
-    Bulk(Packed),
+    Bulk(Json),
+    /// Does what `Bulk` does. The body is in one block, as a session reads it.
+    PackedBulk(Packed),
     /// Creates an index: `{"index":{"fields":[..]},"ddoc":..,"name":..}`, where `ddoc` and `name` may be absent. It replaces an index of
     /// the same design document and name. `mg_index::IndexDef::read` lists all members.
     CreateIndex(Json),
@@ -36,6 +38,7 @@ impl Command {
     {
         match self {
             Command::Bulk(_) => true,
+            Command::PackedBulk(_) => true,
             Command::CreateIndex(_) => true,
             Command::DropIndex { ddoc: _, name: _ } => true,
             Command::ListIndexes => false,
@@ -55,6 +58,7 @@ impl Command {
     {
         match self {
             Command::Bulk(body) => Ok(Command::Bulk(body.copy(alloc)?)),
+            Command::PackedBulk(body) => Ok(Command::PackedBulk(body.copy(alloc)?)),
             Command::CreateIndex(body) => Ok(Command::CreateIndex(body.copy(alloc)?)),
             Command::DropIndex { ddoc, name } => {
                 let ddoc = String::from_str(alloc, ddoc)?;

@@ -125,7 +125,11 @@ impl<P: Placement + Drop> Engine<P> {
         if !command.is_write() {
             return self.step(rt, alloc, &command, workers);
         }
-        let (reply, next) = self.commit(rt, alloc, command, workers);
+        let Ok(prepared) = Prepared::of(alloc, &command) else {
+            return Reply::NoMemory;
+        };
+        drop(command);
+        let (reply, next) = self.commit_prepared(rt, alloc, prepared, Workers::most(workers));
         if let Some(next) = next {
             *self = next;
         }
@@ -214,17 +218,17 @@ impl<P: Placement + Drop> Engine<P> {
         &self,
         rt: &R,
         alloc: Global,
-        command: Command,
+        command: &Command,
         workers: usize,
     ) -> (Reply, Option<Engine<P>>)
-        requires write { is_write (command_view command) ≡ true }
+        requires write { is_write (command_view command.now) ≡ true }
         requires some { 1 ≤ workers }
         requires most { workers ≤ 32 }
         ensures answers { (w : World) → Stands P.place self.now w
-            → Answers w (command_view command) (reply_view result.0) (Stands P.place (unwrap_or result.1 self.now)) }
+            → Answers w (command_view command.now) (reply_view result.0) (Stands P.place (unwrap_or result.1 self.now)) }
         ensures next { IsSettled result.0 result.1 }
         ensures shards { IfSome (reply_view result.0) (λ _. shard_count (unwrap_or result.1 self.now)
-            ≡ shards_after (shard_count self.now) (command_view command)) }
+            ≡ shards_after (shard_count self.now) (command_view command.now)) }
         ensures placement { IfSome result.1 (λ next. next.0 ≡ self.now.0) }
     {
         match Prepared::of(alloc, command) {

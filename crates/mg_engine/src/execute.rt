@@ -37,6 +37,11 @@ impl State {
     {
         match command {
             Command::Bulk(body) => answer_write(self.bulk(context.alloc, placement, body)),
+            Command::PackedBulk(body) => answer_write(self.packed_bulk(
+                context.alloc,
+                placement,
+                body,
+            )),
             Command::CreateIndex(body) => answer_write(self.create_index(context, body)),
             Command::DropIndex { ddoc, name } => answer_write(self.drop_index(
                 context.alloc,

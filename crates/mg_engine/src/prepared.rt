@@ -5,6 +5,7 @@ ghost use Rattle.mg_engine.specs.View.{command_view};
 
 use crate::bulk::PreparedBulk;
 use crate::command::Command;
+use mg_packed::Packed;
 use mg_value::NoMemory;
 use std::alloc::Global;
 use std::marker::Model;
@@ -44,15 +45,16 @@ impl Model for Prepared {
 }
 
 impl Prepared {
-    /// Prepares a command: the documents of a bulk are read into edits, and its body is dropped. Other commands stay as they are. This
-    /// needs no engine, and therefore no lock on one. If the body of a bulk has a fault, the prepared bulk is refused when it is executed.
+    /// Prepares a command: the documents of a bulk are read into edits, for which its body is no longer needed. Other commands are copied.
+    /// This needs no engine, and therefore no lock on one. If the body of a bulk has a fault, the prepared bulk is refused when it is
+    /// executed.
     ///
-    /// Errors: `NoMemory` if an allocation fails; the command is then dropped. Cost: that of `Edit::read_part` for each document of a bulk;
-    /// constant for any other command.
-    pub fn of(alloc: Global, command: Command) -> Result<Prepared, NoMemory>
-        ensures { IfOk result (λ p. p ≡ command_view command) }
+    /// Errors: `NoMemory` if an allocation fails. Cost: that of `Edit::read_part` for each document of a bulk, which is packed first if its body
+    /// is a `Json`; that of `Command::copy` for any other command.
+    pub fn of(alloc: Global, command: &Command) -> Result<Prepared, NoMemory>
+        ensures { IfOk result (λ p. p ≡ command_view command.now) }
     {
-        let given = Snapshot::of(&command);
+        let given = Snapshot::of(command);
         let task = Task::of(alloc, command)?;
         Ok(Prepared { given, task })
     }
@@ -60,12 +62,16 @@ impl Prepared {
 
 impl Task {
     // Returns what is to be done for a command. Reads the documents of a bulk into edits.
-    fn of(alloc: Global, command: Command) -> Result<Task, NoMemory>
-        ensures { IfOk result (λ t. Does t (command_view command)) }
+    fn of(alloc: Global, command: &Command) -> Result<Task, NoMemory>
+        ensures { IfOk result (λ t. Does t (command_view command.now)) }
     {
         match command {
-            Command::Bulk(body) => Ok(Task::Apply(PreparedBulk::of(alloc, &body)?)),
-            other => Ok(Task::Execute(other)),
+            Command::Bulk(body) => {
+                let body = Packed::of(alloc, body)?;
+                Ok(Task::Apply(PreparedBulk::of(alloc, &body)?))
+            }
+            Command::PackedBulk(body) => Ok(Task::Apply(PreparedBulk::of(alloc, body)?)),
+            other => Ok(Task::Execute(other.copy(alloc)?)),
         }
     }
 }

@@ -177,7 +177,7 @@ fn edit_of(
             }
             let entry = entry_of(alloc, replica, &document)?;
             let bulk = bulk_with(alloc, replica, document)?;
-            Ok(Plan::Asks(Command::Bulk(bulk), Way::Edit(change, entry)))
+            Ok(Plan::Asks(Command::PackedBulk(bulk), Way::Edit(change, entry)))
         }
         None => Ok(Plan::Says(Said::Clashes(Clash::Revisions))),
     }

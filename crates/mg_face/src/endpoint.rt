@@ -52,7 +52,7 @@ fn bulk_asked(alloc: Global, drawn: u128, bulk: Packed, way: Way) -> Result<Plan
 {
     let fault = bulk_fault(&bulk);
     let bulk = bulk_with_ids(alloc, drawn, bulk)?;
-    Ok(unless_faulty(fault, Command::Bulk(bulk), way))
+    Ok(unless_faulty(fault, Command::PackedBulk(bulk), way))
 }
 
 /// Returns what a bulk asks for that has a number that is not whole: the documents with such a number are refused by themselves.

@@ -98,7 +98,7 @@ impl<D: Database, S: Store + Drop> Face<D, S> {
         requires begun { IsBegun response.old }
         ensures { IsShown D.db (map field_parts fields.now) (S.answers self.old (command_view command)) (way_view way) response.new self.new }
     {
-        let reply = self.store.ask(rt, self.alloc, command);
+        let reply = self.store.execute(rt, self.alloc, command);
         show(
             self.alloc,
             self.db.as_str(),
@@ -160,7 +160,7 @@ impl<D: Database, S: Store + Drop> Face<D, S> {
             id,
             conflicts: false,
         };
-        let reply = self.store.ask(rt, self.alloc, get);
+        let reply = self.store.execute(rt, self.alloc, get);
         self.go_on(rt, fields, reply, command, way, response);
     }
 

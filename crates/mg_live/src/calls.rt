@@ -23,7 +23,8 @@ impl<D: Database, C: Keeper, P: Placement + Drop> Seat<D, C, P>
 where
     Snapshot<P>: Absorb<(), State = ()>,
 {
-    /// Answers a query with its page, by at most `workers` workers, 1 to 32.
+    /// Answers a query with its page, by at most `workers` workers, 1 to 32. The query passes the gate where `find_with` does; the gate is
+    /// `NoGate`.
     pub fn find<R: Threads + Sync>(&mut self, rt: &R, body: &Json, workers: usize) -> Reply
         requires some { 1 ≤ workers }
         requires most { workers ≤ 32 }
@@ -96,7 +97,7 @@ where
         ensures { Answered D.db self.old (bulk (view body.now)) (reply_view result) self.new }
     {
         match Packed::of(self.alloc, body) {
-            Ok(body) => self.write(rt, Command::Bulk(body), Workers::most(workers)),
+            Ok(body) => self.write(rt, Command::PackedBulk(body), Workers::most(workers)),
             Err(_) => Reply::NoMemory,
         }
     }

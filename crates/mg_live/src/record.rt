@@ -105,7 +105,7 @@ impl RecordKind {
         match self {
             RecordKind::Bulk => {
                 let mut buffer = ReadBuffer::new(alloc);
-                Ok(Command::Bulk(Packed::read_in(alloc, bytes, &mut buffer)?))
+                Ok(Command::PackedBulk(Packed::read_in(alloc, bytes, &mut buffer)?))
             }
             RecordKind::CreateIndex => Ok(Command::CreateIndex(read(alloc, bytes)?)),
             RecordKind::DropIndex => read_dropped(alloc, text),
@@ -124,6 +124,10 @@ impl Record {
     {
         match command {
             Command::Bulk(body) => {
+                let text = write(alloc, body)?;
+                Ok(Some(recorded(RecordKind::Bulk, text)?))
+            }
+            Command::PackedBulk(body) => {
                 let text = body.part().compact_text(alloc)?;
                 Ok(Some(recorded(RecordKind::Bulk, text)?))
             }

@@ -207,8 +207,11 @@ where
         let Ok(text) = C::record(self.alloc, &command) else {
             return Reply::NoMemory;
         };
-        match Prepared::of(self.alloc, command) {
-            Ok(prepared) => self.commit(rt, write, prepared, text),
+        match Prepared::of(self.alloc, &command) {
+            Ok(prepared) => {
+                drop(command);
+                self.commit(rt, write, prepared, text)
+            }
             Err(_) => Reply::NoMemory,
         }
     }

@@ -58,7 +58,7 @@ fn is_at(seats: usize, event: &Event) -> bool
 ///
 /// Errors: `NoMemory` if an allocation fails anywhere, or if there are too many references to an engine or to a part of one; therefore no
 /// reply is `Reply::NoMemory`. A write after 18,446,744,073,709,551,615 commits is refused with 413 `too_large`. Cost: the number of seats
-/// and of events; for each command that of `Engine::step`, and for a write also a copy of the command. `Enter` and `Told` copy no document,
+/// and of events; for each command that of `Engine::step`, and for a write that of `Prepared::of`. `Enter` and `Told` copy no document,
 /// but free what only the seat's old state held.
 pub fn replay<R: Threads + Sync>(
     rt: &R,

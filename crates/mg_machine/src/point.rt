@@ -95,7 +95,7 @@ impl<P: Placement + Drop> Point<P> {
     /// point. This point does not change. After 18,446,744,073,709,551,615 commits each write is refused as `TooLarge`.
     ///
     /// Errors: `NoMemory` if an allocation fails, or if there are too many references to the engine or to a part of it. Cost: that of the
-    /// engine's commit, and a copy of the command.
+    /// engine's `commit`.
     pub fn write<R: Threads + Sync>(
         &self,
         rt: &R,
@@ -112,11 +112,11 @@ impl<P: Placement + Drop> Point<P> {
             → IsAfter P.place name self.now cs → HasShardsAfter shards self.now cs
             → HasShardsAfter shards r.1 (after_write name cs seat (command_view command.now))) }
     {
-        let prepared = Prepared::of(alloc, command.copy(alloc)?)?;
+        let prepared = Prepared::of(alloc, command)?;
         self.write_prepared(rt, alloc, prepared, workers)
     }
 
-    /// Does what `write` does, for a prepared command, which is not copied.
+    /// Does what `write` does, for a prepared command.
     ///
     /// Errors: as for `write`. Cost: that of the engine's `commit_prepared`.
     pub fn write_prepared<R: Threads + Sync>(

@@ -38,7 +38,7 @@ impl Seats {
 
     /// Publishes a command at a seat and returns its reply. For a read, the seat first catches up with all commits.
     ///
-    /// Errors: those of `Point::write`, `Point::read` and `Point::again`. Cost: that of the engine's reply, and a copy of a write.
+    /// Errors: those of `Point::write`, `Point::read` and `Point::again`. Cost: that of the engine's reply.
     pub(crate) fn publish<R: Threads + Sync>(
         &mut self,
         rt: &R,

@@ -20,7 +20,7 @@ use mg_index::{Catalog, Choice, IndexDef, all_docs_listed, choose};
 use mg_normal::Normal;
 use mg_path::{Path, PathError};
 use mg_range::{KeyRange, decides};
-use mg_scan::Target;
+use mg_scan::TargetRef;
 use mg_shard::IndexRef;
 use mg_value::{Json, NoMemory};
 use std::alloc::Global;
@@ -140,13 +140,13 @@ impl<'a> Source<'a> {
     }
 
     // Returns the target of a search in this index, for each shard that has the index.
-    pub(crate) fn target(self) -> Target<'a>
+    pub(crate) fn target(self) -> TargetRef<'a>
         ensures { (ds : List IndexDefinition) → IsInCatalog ds (source_view self.entry)
             → target_columns result ds ≡ Some (source_columns (source_view self.entry)) }
     {
         match self {
-            Source::AllDocs => Target::AllDocs,
-            Source::Defined(definition, place) => Target::Index(IndexRef {
+            Source::AllDocs => TargetRef::AllDocs,
+            Source::Defined(definition, place) => TargetRef::Index(IndexRef {
                 ddoc: definition.ddoc(),
                 name: definition.name(),
                 place,

@@ -27,7 +27,7 @@ use Rattle.mg_range.specs.contracts.row_range.RowRange as RowRange
 use Rattle.mg_range.specs.contracts.span.Limit as Limit
 use Rattle.mg_range.specs.contracts.span.Span as Span
 use Rattle.mg_scan.specs.contracts.search.Search as Search
-use Rattle.mg_scan.specs.contracts.target.Target as Target
+use Rattle.mg_scan.specs.contracts.target_ref.TargetRef as TargetRef
 use Rattle.mg_scan.proofs.Values.{json_field_sync, json_sync}
 use Rattle.mg_rows.proofs.row.RowBytes.TheSendSync as rows
 use Rattle.mg_selector.specs.contracts.operator.Op as Op
@@ -117,7 +117,7 @@ normal_sync = search (sendable, crosses, maps, atom_sync, condition_sync) depth 
 
 -- ---- the whole search
 
-target_sync : (κs : _) → IsSync (Target.the_row κs)
+target_sync : (κs : _) → IsSync (TargetRef.the_row κs)
 target_sync κs = search (sendable, crosses, maps, index.the_sync) depth 40
 
 pub search_sync : (κs : _) → IsSync (Search.the_row κs)

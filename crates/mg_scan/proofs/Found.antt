@@ -16,7 +16,7 @@ use Rattle.mg_scan.specs.Walked.{id_row}
 use Rattle.mg_scan.specs.Worked.{AreHitsFound}
 use Rattle.mg_scan.specs.declared.hit.Hit.{Hit}
 use Rattle.mg_scan.specs.declared.search.Search.{Search}
-use Rattle.mg_scan.specs.declared.target.Target.TheVariants.{AllDocs, Index}
+use Rattle.mg_scan.specs.declared.target_ref.TargetRef.TheVariants.{AllDocs, Index}
 use Rattle.mg_scan.proofs.Entries.{Entry, all_beyond, all_forms, all_kept, all_mapped, all_rows, own_rows, rows-beyond}
 use Rattle.mg_scan.proofs.Walking.{found_rows}
 use Rattle.mg_shard.specs.Documents.{KeptDocuments, docs_of, kept_entry, form_at, id_bytes, kept_of}

@@ -33,8 +33,8 @@ use Rattle.mg_scan.specs.Upcoming.{begin_of_parts, count_upcoming}
 use Rattle.mg_scan.specs.Way.{all_found_by}
 use Rattle.mg_scan.specs.Walked.{is_beyond, is_late_row}
 use Rattle.mg_scan.specs.declared.search.Search.{Search}
-use Rattle.mg_scan.specs.declared.target.Target.{Target}
-use Rattle.mg_scan.specs.declared.target.Target.TheVariants.{AllDocs, Index}
+use Rattle.mg_scan.specs.declared.target_ref.TargetRef.{TargetRef}
+use Rattle.mg_scan.specs.declared.target_ref.TargetRef.TheVariants.{AllDocs, Index}
 use Rattle.mg_scan.proofs.AfterFirst.{drop_taken}
 use Rattle.mg_scan.proofs.Decided.{all_alike, all_asked}
 use Rattle.mg_scan.proofs.Late.{late_rises}
@@ -237,7 +237,7 @@ module _ (direction : Direction) (range : Range) (after : Option RowValue) (p : 
       let v = scanned_count after count d.columns ds in
       ap₂ (λ m n. m + n) a u ∙ counts_alike (reached direction range after) (reached direction range (Some p)) (is_wanted (input_of_parts everything range (Some p) 0 direction [])) (is_wanted (input_of_parts everything range after 0 direction [])) counted (all_of d.columns ds) ∙ sym (ap₂ (λ m n. m + n) b v)
 
-  pub one_counted : (count more : ℕ) (target : Target) (shard : ShardView) → IsIndex target
+  pub one_counted : (count more : ℕ) (target : TargetRef) (shard : ShardView) → IsIndex target
       → count_upcoming target range after direction shard + length (all_found_in target (input_of_parts everything range (Some p) more direction) shard)
       ≡ count_upcoming target range (Some p) direction shard + length (all_found_in target (input_of_parts everything range after count direction) shard)
   one_counted count more AllDocs shard is = absurd is
@@ -249,13 +249,13 @@ module _ (direction : Direction) (range : Range) (after : Option RowValue) (p : 
   found_or count more None ds = refl
   found_or count more (Some columns) ds = scanned_after count more columns ds
 
-  pub one_found : (count more : ℕ) (target : Target) (shard : ShardView)
+  pub one_found : (count more : ℕ) (target : TargetRef) (shard : ShardView)
       → all_found_in target (input_of_parts everything range (Some p) more direction) shard ≡ filter later (all_found_in target (input_of_parts everything range after count direction) shard)
   one_found count more target shard = found_or count more (target_columns target shard.definitions) (docs_of shard.documents)
 
   -- ---- in all shards
 
-  pub all_passed : (count more : ℕ) (target : Target) (shards : List ShardView) → IsIndex target
+  pub all_passed : (count more : ℕ) (target : TargetRef) (shards : List ShardView) → IsIndex target
       → sorted_rows direction (joined (map (all_found_in target (input_of_parts everything range (Some p) more direction)) shards))
       ≡ drop (sum_by (count_upcoming target range after direction) shards - sum_by (count_upcoming target range (Some p) direction) shards)
       (sorted_rows direction (joined (map (all_found_in target (input_of_parts everything range after count direction)) shards)))

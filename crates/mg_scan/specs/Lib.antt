@@ -1,5 +1,6 @@
 pub mod Scan
 pub mod Found
+pub mod Named
 pub mod LentRow
 pub mod Hit
 pub mod Built

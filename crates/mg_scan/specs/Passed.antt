@@ -10,12 +10,12 @@ use Rattle.mg_scan.specs.Search.{after_of, found_by}
 use Rattle.mg_scan.specs.Upcoming.{count_upcoming}
 use Rattle.mg_scan.specs.Walked.{is_late_row}
 use Rattle.mg_scan.specs.declared.search.Search.{Search}
-use Rattle.mg_scan.specs.declared.target.Target.{Target}
-use Rattle.mg_scan.specs.declared.target.Target.TheVariants.{AllDocs, Index}
+use Rattle.mg_scan.specs.declared.target_ref.TargetRef.{TargetRef}
+use Rattle.mg_scan.specs.declared.target_ref.TargetRef.TheVariants.{AllDocs, Index}
 use Rattle.mg_shard.specs.Shard.{ShardView}
 
 -- the target is an index
-abbrev pub IsIndex : Target → Type 0
+abbrev pub IsIndex : TargetRef → Type 0
 IsIndex AllDocs = ⊥
 IsIndex (Index x) = Unit {0}
 

@@ -7,8 +7,8 @@ use Rattle.mg_collate.specs.declared.direction.Direction.{Direction}
 use Rattle.mg_range.specs.RangeSide.{side_of}
 use Rattle.mg_range.specs.Range.{Range}
 use Rattle.mg_scan.specs.Walked.{begin_order, id_row}
-use Rattle.mg_scan.specs.declared.target.Target.{Target}
-use Rattle.mg_scan.specs.declared.target.Target.TheVariants.{AllDocs, Index}
+use Rattle.mg_scan.specs.declared.target_ref.TargetRef.{TargetRef}
+use Rattle.mg_scan.specs.declared.target_ref.TargetRef.TheVariants.{AllDocs, Index}
 use Rattle.mg_shard.specs.Shard.{ShardView, rows_at}
 use Rattle.mg_shard.specs.Walk.{beyond}
 use Rattle.mg_value.specs.Value.{item_list}
@@ -20,6 +20,6 @@ begin_of_parts range after direction r = begin_order direction (side_of range (i
 
 -- how many documents (deleted ones too) or rows of the index come after the place where a search begins, in the search's direction; 0 if
 -- the shard has no such index
-abbrev pub count_upcoming : Target → Range → Option RowValue → Direction → ShardView → ℕ
+abbrev pub count_upcoming : TargetRef → Range → Option RowValue → Direction → ShardView → ℕ
 count_upcoming AllDocs range after direction s = length (beyond direction (λ e. begin_of_parts range after direction (id_row e.0)) (entries s.documents))
 count_upcoming (Index x) range after direction s = option_map_or (λ rows. length (beyond direction (begin_of_parts range after direction) rows)) (rows_at x.ddoc.now x.name.now s) 0

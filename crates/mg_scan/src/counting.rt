@@ -10,7 +10,7 @@ ghost use Rattle.mg_scan.specs.Way.{begin_at};
 
 use crate::begin::Begin;
 use crate::search::Search;
-use crate::target::Target;
+use crate::target_ref::TargetRef;
 use mg_shard::{IndexRef, Shard};
 use std::sync::Arc;
 
@@ -46,8 +46,8 @@ pub(crate) fn count_upcoming(shard: &Shard, search: Search<'_>) -> usize
         (after_of search.entry) search.entry.direction shard.now }
 {
     match search.target {
-        Target::AllDocs => shard.count_documents_beyond(&Begin { search }, search.direction),
-        Target::Index(index) => count_upcoming_rows(shard, index, search),
+        TargetRef::AllDocs => shard.count_documents_beyond(&Begin { search }, search.direction),
+        TargetRef::Index(index) => count_upcoming_rows(shard, index, search),
     }
 }
 

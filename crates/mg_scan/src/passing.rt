@@ -7,7 +7,7 @@ use crate::begin::Begin;
 use crate::counting::count_upcoming;
 use crate::scout::{Scout, insert_scout, scout_of};
 use crate::search::{Search, is_late_row, is_reached};
-use crate::target::Target;
+use crate::target_ref::TargetRef;
 use mg_rows::RowBytes;
 use mg_shard::{IndexRef, Shard};
 use mg_value::NoMemory;
@@ -44,8 +44,8 @@ pub(crate) fn pass_over<'a>(
         return Ok((search, skip));
     }
     match search.target {
-        Target::AllDocs => Ok((search, skip)),
-        Target::Index(index) => pass_rows(alloc, shards, search, skip, index),
+        TargetRef::AllDocs => Ok((search, skip)),
+        TargetRef::Index(index) => pass_rows(alloc, shards, search, skip, index),
     }
 }
 

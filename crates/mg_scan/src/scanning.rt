@@ -2,7 +2,8 @@
 ghost use Rattle.std.specs.Prelude.{◌≡◌, ◌<◌, ◌≤◌, map, option_map, IfOk};
 ghost use Rattle.std.specs.List.{AllZip};
 ghost use Rattle.mg_collate.specs.Row.{row_view, rows_view};
-ghost use Rattle.mg_scan.specs.Found.{input_of_parts, found_in};
+ghost use Rattle.mg_scan.specs.Found.{input_of_parts};
+ghost use Rattle.mg_scan.specs.Named.{found_named};
 ghost use Rattle.mg_scan.specs.Search.{found_by};
 ghost use Rattle.mg_shard.specs.Shard.{shards_view};
 ghost use Rattle.mg_scan.specs.Hit.{AreHitsOf, hit_rows};
@@ -66,7 +67,7 @@ pub fn scan<R: Threads + Sync, G: Gate + Sync>(
     rt: &R,
     alloc: Global,
     shards: &[Arc<Shard>],
-    target: Target<'_>,
+    target: &Target,
     normal: &Normal,
     range: &KeyRange,
     after: Option<&Row>,
@@ -77,14 +78,14 @@ pub fn scan<R: Threads + Sync, G: Gate + Sync>(
 ) -> Result<Vec<Vec<Row>>, NoMemory>
     requires { (0 < workers) × (workers ≤ 32) }
     ensures { IfOk result (λ lists. map (λ rows. rows_view rows.items) lists.items
-        ≡ map (found_in target.entry
+        ≡ map (found_named target.now
         (input_of_parts normal.now range.now (option_map (λ r. row_view r.now) after.entry) take direction))
         (shards_view shards.now)) }
 {
     let row_range = range.in_rows(alloc)?;
     let after_row = bytes_of(alloc, after)?;
     let search = Search {
-        target,
+        target: target.lend(),
         normal,
         range: &row_range,
         after: after_row.as_ref(),

@@ -9,7 +9,7 @@ ghost use Rattle.mg_scan.specs.Search.{after_of};
 ghost use Rattle.mg_scan.specs.Way.{begin_at};
 ghost use Rattle.mg_scan.specs.Walked.{id_row, is_beyond, is_late_row};
 
-use crate::target::Target;
+use crate::target_ref::TargetRef;
 use mg_collate::{Direction, Row};
 use mg_normal::Normal;
 use mg_range::{RangeSide, RowRange};
@@ -23,7 +23,7 @@ use std::cmp::Ordering;
 #[derive(Clone, Copy)]
 pub struct Search<'a> {
     /// What is read.
-    pub target: Target<'a>,
+    pub target: TargetRef<'a>,
     /// The selector that has to hold of a document, in normal form.
     pub normal: &'a Normal,
     /// The range in which a key has to be.

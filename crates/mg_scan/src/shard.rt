@@ -19,7 +19,7 @@ use crate::begin::Begin;
 use crate::hit::Hit;
 use crate::lent_row::LentRow;
 use crate::search::{Search, is_late_id, is_late_row};
-use crate::target::Target;
+use crate::target_ref::TargetRef;
 use mg_normal::Normal;
 use mg_rows::RowBytes;
 use mg_shard::{Document, Documents, IndexRef, Rows, Shard};
@@ -189,7 +189,7 @@ pub(crate) fn hits_in<'a>(
     ensures { IfOk result (λ v. AreHitsFound search.entry shard.now v.items) }
 {
     match search.target {
-        Target::AllDocs => Ok(hits_of_all_docs(alloc, shard, search)?),
-        Target::Index(index) => Ok(hits_of_index(alloc, shard, index, search)?),
+        TargetRef::AllDocs => Ok(hits_of_all_docs(alloc, shard, search)?),
+        TargetRef::Index(index) => Ok(hits_of_index(alloc, shard, index, search)?),
     }
 }

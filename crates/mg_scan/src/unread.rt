@@ -5,7 +5,7 @@ ghost use Rattle.mg_scan.specs.Begun.{AreBegun, IsBegun, IsBegunIn, IsUnreadAfte
 
 use crate::begin::Begin;
 use crate::search::Search;
-use crate::target::Target;
+use crate::target_ref::TargetRef;
 use mg_shard::{Documents, IndexRef, Rows, Shard};
 
 /// What a search has still to read in a shard.
@@ -26,8 +26,8 @@ pub(crate) fn unread_of<'a>(shard: &'a Shard, search: Search<'_>) -> Unread<'a>
     ensures { IsBegun search.entry shard.now result }
 {
     match search.target {
-        Target::AllDocs => Unread::Documents(documents_of(shard, search)),
-        Target::Index(index) => unread_in_index(shard, index, search),
+        TargetRef::AllDocs => Unread::Documents(documents_of(shard, search)),
+        TargetRef::Index(index) => unread_in_index(shard, index, search),
     }
 }
 

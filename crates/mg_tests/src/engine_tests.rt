@@ -1,5 +1,5 @@
 //! Queries over two shards. Each shard must be begun, by a thread of its own, before the other is done.
-use crate::given::{json, packed};
+use crate::given::json;
 use crate::scan_tests::BothBegin;
 use mg_engine::{Command, Engine};
 use mg_query::{Query, page};
@@ -20,7 +20,7 @@ pub(crate) const PAGE: &str =
 
 // Makes an engine with these documents on two shards.
 pub(crate) fn two_shards<R: Threads + Sync + Abort>(rt: &R, alloc: Global) -> Engine<Md5Placement> {
-    let bulk = Command::Bulk(packed(rt, alloc, DOCUMENTS));
+    let bulk = Command::Bulk(json(rt, alloc, DOCUMENTS));
     let mut engine = Engine::new(alloc, "db", Md5Placement, 2).expect(rt, "memory");
     assert!(rt; engine.step(rt, alloc, &bulk, 1).status() == 201);
     engine

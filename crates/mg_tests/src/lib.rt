@@ -7,6 +7,8 @@
 #![tactic(auto)]
 
 #[cfg(test)]
+mod command_tests;
+#[cfg(test)]
 mod commit_tests;
 #[cfg(test)]
 mod engine_tests;

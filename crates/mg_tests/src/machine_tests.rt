@@ -26,7 +26,7 @@ const BODIES: [&str; 10] = [
 // Makes a command from 0 to 9, with this body.
 fn command_with_body<R: Abort>(rt: &R, alloc: Global, number: usize, text: &str) -> Command {
     match number {
-        0..=4 => Command::Bulk(packed(rt, alloc, text)),
+        0..=4 => Command::PackedBulk(packed(rt, alloc, text)),
         5 | 6 => Command::CreateIndex(json(rt, alloc, text)),
         7 | 8 => Command::Find(json(rt, alloc, text)),
         _ => Command::Explain(json(rt, alloc, text)),
@@ -132,7 +132,7 @@ fn get_l1<R: Abort>(rt: &R, alloc: Global) -> Event {
 // Seat 1 enters, seat 0 writes, and seat 1 reads before and after it learns of the write. Then seat 1 drops an index that does not exist,
 // and seat 0 lists the indexes.
 fn telling<R: Abort>(rt: &R, alloc: Global) -> Vec<Event> {
-    let write = Command::Bulk(packed(rt, alloc, ONE_DOCUMENT));
+    let write = Command::Bulk(json(rt, alloc, ONE_DOCUMENT));
     let drop = Command::DropIndex {
         ddoc: string(rt, alloc, "x"),
         name: string(rt, alloc, "ia"),

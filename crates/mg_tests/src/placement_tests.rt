@@ -169,7 +169,7 @@ const RESHARDING: &[Step] = &[
 fn command_of<R: Abort>(rt: &R, alloc: Global, step: &Step) -> Command {
     let text = step.1;
     match step.0 {
-        Ask::Bulk => Command::Bulk(packed(rt, alloc, text)),
+        Ask::Bulk => Command::PackedBulk(packed(rt, alloc, text)),
         Ask::CreateIndex => Command::CreateIndex(json(rt, alloc, text)),
         Ask::Find => Command::Find(json(rt, alloc, text)),
         Ask::Reshard => Command::Reshard(json(rt, alloc, text)),

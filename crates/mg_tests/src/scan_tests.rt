@@ -119,7 +119,7 @@ fn find_rows<R: Threads + Sync + Abort>(
     let all = Target::AllDocs;
     let up = Direction::Asc;
     scan(
-        rt, alloc, shards, all, &normal, &range, None, 25, up, 2, gate,
+        rt, alloc, shards, &all, &normal, &range, None, 25, up, 2, gate,
     )
     .expect(rt, "memory")
 }

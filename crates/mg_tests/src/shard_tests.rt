@@ -48,7 +48,7 @@ const INDEX: &str = r#"{"index":{"fields":["k"]},"ddoc":"x","name":"k_idx"}"#;
 // Makes an engine of one shard with the documents and the index.
 fn engine_of<R: Threads + Sync + Abort>(rt: &R, alloc: Global) -> Engine<Md5Placement> {
     let mut engine = Engine::new(alloc, "db", Md5Placement, 1).expect(rt, "memory");
-    let bulk = Command::Bulk(packed(rt, alloc, BULK));
+    let bulk = Command::PackedBulk(packed(rt, alloc, BULK));
     check(
         rt,
         engine.execute(rt, alloc, bulk, 1).status() == 201,

@@ -99,7 +99,7 @@ impl Gate for AtOnce {
 
 // Makes an engine with four documents on four shards.
 fn four_shards<R: Threads + Sync + Abort>(rt: &R, alloc: Global) -> Engine<Md5Placement> {
-    let bulk = Command::Bulk(packed(rt, alloc, DOCUMENTS));
+    let bulk = Command::PackedBulk(packed(rt, alloc, DOCUMENTS));
     let mut engine = Engine::new(alloc, "db", Md5Placement, 4).expect(rt, "memory");
     assert!(rt; engine.step(rt, alloc, &bulk, 1).status() == 201);
     engine
@@ -121,7 +121,7 @@ fn count_rows<R: Threads + Sync + Abort>(
         rt,
         alloc,
         shards,
-        all,
+        &all,
         &normal,
         &range,
         None,

@@ -31,7 +31,7 @@ fn read_command(
     ensures not_whole { result ≡ Err ReadError.NotWhole → (value : Value) → ¬ (Reads body.now value) }
 {
     match endpoint {
-        Endpoint::BulkDocs => Ok(Command::Bulk(Packed::read_in(alloc, body, buffer)?)),
+        Endpoint::BulkDocs => Ok(Command::PackedBulk(Packed::read_in(alloc, body, buffer)?)),
         Endpoint::Find => Ok(Command::Find(read_in(alloc, body, buffer)?)),
         Endpoint::Explain => Ok(Command::Explain(read_in(alloc, body, buffer)?)),
         Endpoint::CreateIndex => Ok(Command::CreateIndex(read_in(alloc, body, buffer)?)),
@@ -64,7 +64,7 @@ fn answer_body<H: Wait + Threads + Sync, S: Service>(
 {
     let mut buffer = ReadBuffer::new(alloc);
     match read_command(alloc, endpoint, body, &mut buffer) {
-        Ok(command) => MessageReply::Service(service.ask(rt, alloc, command)),
+        Ok(command) => MessageReply::Service(service.execute(rt, alloc, command)),
         Err(ReadError::NoMemory) => MessageReply::Service(Reply::NoMemory),
         Err(ReadError::NotJson) => MessageReply::Refusal(Refusal::InvalidJson),
         Err(ReadError::NotWhole) => MessageReply::Refusal(Refusal::InvalidJson),
@@ -85,7 +85,7 @@ pub(crate) fn answer_request<H: Wait + Threads + Sync, S: Service>(
     match request {
         ParsedRequest::Body(endpoint) => answer_body(rt, alloc, service, endpoint, body),
         ParsedRequest::Asks(asked) => {
-            MessageReply::Service(service.ask(rt, alloc, asked.into_command()))
+            MessageReply::Service(service.execute(rt, alloc, asked.into_command()))
         }
         ParsedRequest::Refuses(refusal) => MessageReply::Refusal(refusal),
     }

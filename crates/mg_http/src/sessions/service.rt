@@ -24,9 +24,22 @@ pub trait Service {
     ghost answers: { Self → Asked → Option Answer → Self → Type 0 };
 
     /// Answers the command. The clause `requires` repeats the bound `Sync`, since an impl does not get the bounds of its trait's method.
-    fn ask<H: Wait + Threads + Sync>(&mut self, rt: &H, alloc: Global, command: Command) -> Reply
+    fn ask<H: Wait + Threads + Sync>(&mut self, rt: &H, alloc: Global, command: &Command) -> Reply
         requires { IsSync H.row }
-        ensures { answers self.old (command_view command) (reply_view result) self.new };
+        ensures { answers self.old (command_view command.now) (reply_view result) self.new };
+
+    /// Does what `ask` does, but takes the command by value, so that the body of a bulk can be dropped once its documents are read.
+    fn execute<H: Wait + Threads + Sync>(
+        &mut self,
+        rt: &H,
+        alloc: Global,
+        command: Command,
+    ) -> Reply
+        requires { IsSync H.row }
+        ensures { answers self.old (command_view command) (reply_view result) self.new }
+    {
+        self.ask(rt, alloc, &command)
+    }
 }
 
 /// An engine for one caller, and the number of workers, 1 to 32, with which it answers.
@@ -44,7 +57,16 @@ impl<P: Placement + Drop> Service for Solo<P> {
         EngineAnswers P.place old.engine command answer new.engine
         × IfNone answer (new.engine ≡ old.engine) };
 
-    fn ask<H: Wait + Threads + Sync>(&mut self, rt: &H, alloc: Global, command: Command) -> Reply {
+    fn ask<H: Wait + Threads + Sync>(&mut self, rt: &H, alloc: Global, command: &Command) -> Reply {
+        self.engine.step(rt, alloc, command, self.workers)
+    }
+
+    fn execute<H: Wait + Threads + Sync>(
+        &mut self,
+        rt: &H,
+        alloc: Global,
+        command: Command,
+    ) -> Reply {
         self.engine.execute(rt, alloc, command, self.workers)
     }
 }
@@ -90,7 +112,19 @@ where
     // those that it had seen. A command for which memory ran out makes no commit.
     ghost answers = { λ old command answer new. Answered D.db old.seat command answer new.seat };
 
-    fn ask<H: Wait + Threads + Sync>(&mut self, rt: &H, _alloc: Global, command: Command) -> Reply {
+    fn ask<H: Wait + Threads + Sync>(&mut self, rt: &H, alloc: Global, command: &Command) -> Reply {
+        match command.copy(alloc) {
+            Ok(command) => self.seat.answer(rt, command, self.workers),
+            Err(_) => Reply::NoMemory,
+        }
+    }
+
+    fn execute<H: Wait + Threads + Sync>(
+        &mut self,
+        rt: &H,
+        _alloc: Global,
+        command: Command,
+    ) -> Reply {
         self.seat.answer(rt, command, self.workers)
     }
 }

@@ -4,7 +4,7 @@ use Rattle.mg_http.proofs.sessions.answer.answer_body.Goals as goal
 pub returns-in-Ok : goal.returns-in-Ok
 returns-in-Ok g c =
     let read = c.in-Ok.ensures.ok in
-    inl (read.0, read.1, rw read.2 at c.ask.ensures)
+    inl (read.0, read.1, rw read.2 at c.execute.ensures)
 
 pub returns-in-Err-NotJson : goal.returns-in-Err-NotJson
 returns-in-Err-NotJson g c =

@@ -4,10 +4,10 @@ use Rattle.mg_live.specs.Keeping.{dropped_value}
 use Rattle.mg_live.proofs.Keeping.{has_compact}
 use Rattle.mg_live.proofs.record.Record.of.Goals as goal
 
-pub returns-in_ok-recorded-in-Bulk-clause-write : goal.returns-in_ok-recorded-in-Bulk-clause-write
-returns-in_ok-recorded-in-Bulk-clause-write c =
-    let text = c.in_ok-text-in-Bulk.text.items in
-    c.in_ok-recorded-in-Bulk.ensures (command_view c.args.command.now) (λ utf8. rw c.in-Bulk.is (has_compact text c.in-Bulk.body utf8 (rw c.part.ensures at c.in_ok-text-in-Bulk.ensures)))
+pub returns-in_ok-recorded-in-PackedBulk-clause-write : goal.returns-in_ok-recorded-in-PackedBulk-clause-write
+returns-in_ok-recorded-in-PackedBulk-clause-write c =
+    let text = c.in_ok-text-in-PackedBulk.text.items in
+    c.in_ok-recorded-in-PackedBulk.ensures (command_view c.args.command.now) (λ utf8. rw c.in-PackedBulk.is (has_compact text c.in-PackedBulk.body utf8 (rw c.part.ensures at c.in_ok-text-in-PackedBulk.ensures)))
 
 pub returns-in_ok-recorded-in-DropIndex-clause-write : goal.returns-in_ok-recorded-in-DropIndex-clause-write
 returns-in_ok-recorded-in-DropIndex-clause-write c =
