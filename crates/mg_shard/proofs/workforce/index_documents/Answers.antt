@@ -5,7 +5,7 @@ use Rattle.mg_index.specs.Definition.{IndexDefinition}
 use Rattle.mg_shard.specs.Documents.{kept_documents}
 use Rattle.mg_shard.specs.Index.{HasRows, Index, definitions_of}
 use Rattle.mg_shard.specs.declared.document.Document.{Document}
-use Rattle.mg_shard.proofs.redealt.index_documents.Goals as goal
+use Rattle.mg_shard.proofs.workforce.index_documents.Goals as goal
 
 pub invariant_of-result : goal.invariant_of-result
 invariant_of-result g c = record {
