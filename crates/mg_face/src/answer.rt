@@ -13,6 +13,7 @@ use crate::parameter::Parameter;
 use crate::place::not_whole_body;
 use crate::route::Resource;
 use crate::said::{Clash, Said};
+use bytes::Bytes;
 use httpdate::HttpDate;
 use mg_engine::Refusal;
 use mg_value::{Json, NoMemory, write};
@@ -47,9 +48,13 @@ pub(crate) const MAX_VALUE: usize = 2048;
 /// Adds a field. Each field of a face can be sent, so there is no other error.
 ///
 /// Errors: out of memory.
-pub(crate) fn add_field(response: &mut Response, name: &[u8], value: &[u8]) -> Result<(), NoMemory>
+pub(crate) fn add_field(
+    response: &mut Response,
+    name: &'static [u8],
+    value: Bytes,
+) -> Result<(), NoMemory>
     ensures fields { OnOk result (listed response.new.fields
-        ≡ listed response.old.fields ++ (name.now, value.now) ∷ []) }
+        ≡ listed response.old.fields ++ (name.now, value) ∷ []) }
     ensures status { response.new.status ≡ response.old.status }
     ensures body { response.new.body ≡ response.old.body }
 {
@@ -67,7 +72,7 @@ pub(crate) fn begin(response: &mut Response, date: Option<HttpDate>) -> Result<(
     ensures { OnOk result (IsBegun response.new) }
 {
     response.date = date;
-    add_field(response, b"content-type", b"application/json")
+    add_field(response, b"content-type", Bytes::from_static(b"application/json"))
 }
 
 /// Gives a response that has begun its status and its body.
@@ -234,7 +239,7 @@ fn refuse_method(alloc: Global, response: &mut Response, resource: Resource) -> 
         Status::MethodNotAllowed,
         Refusal::MethodNotAllowed.body(),
     )?;
-    add_field(response, b"allow", allowed(resource))
+    add_field(response, b"allow", Bytes::from_static(allowed(resource)))
 }
 
 /// Says ids, which a cache is not to keep.
@@ -250,7 +255,7 @@ fn say_ids(
     ensures { OnOk result (IsAnswered (answer_of_said [] (Said.Ids first count)) response.new) }
 {
     fill_made(response, Status::Ok, ids_body(alloc, first, count))?;
-    add_field(response, b"cache-control", b"no-cache")
+    add_field(response, b"cache-control", Bytes::from_static(b"no-cache"))
 }
 
 /// Says where a document and its request disagree.
@@ -355,7 +360,7 @@ pub(crate) fn say_lost(alloc: Global, response: &mut Response)
 pub(crate) fn quoted(alloc: Global, text: &str) -> Result<Vec<u8>, NoMemory>
     ensures { IfOk result (λ v. v.items ≡ quoted text.now) }
 {
-    let mut tag = Vec::new(alloc);
+    let mut tag = Vec::with_capacity(alloc, text.len().saturating_add(2))?;
     tag.push(b'"')?;
     tag.extend_from_slice(text.as_bytes())?;
     tag.push(b'"')?;
@@ -378,6 +383,6 @@ pub(crate) fn add_tag(
     if revision.len() > MAX_VALUE {
         return Ok(());
     }
-    let tag = quoted(alloc, revision)?;
-    add_field(response, b"etag", tag.as_slice())
+    let tag = Bytes::from_vec(quoted(alloc, revision)?)?;
+    add_field(response, b"etag", tag)
 }

@@ -13,6 +13,7 @@ ghost use Rattle.mg_face.specs.Answer.{IsAnswered, IsBegun, tag_of, if_short};
 
 use crate::answer::{MAX_VALUE, add_field, add_tag, fill, status_of};
 use crate::read::{read_tree, text_of_line};
+use bytes::Bytes;
 use mg_value::{Json, NoMemory, ReadBuffer, write};
 use mg_wire::{Response, Status};
 use percent_encoding::{AsciiSet, NON_ALPHANUMERIC, ascii_set, percent_encode};
@@ -135,7 +136,8 @@ fn add_location(
     if path.len() > MAX_VALUE {
         return Ok(());
     }
-    add_field(response, b"location", path.as_bytes())
+    let path = Bytes::from_string(path)?;
+    add_field(response, b"location", path)
 }
 
 /// Copies the text that an object has at a name.

@@ -28,7 +28,6 @@ pub enum FieldError {
 /// The fields of a response beside its date. They can always be sent.
 #[derive(Debug, Drop)]
 pub struct Fields {
-    pub(crate) alloc: Global,
     pub(crate) list: Vec<Field>,
     /// The bytes that their lines take.
     pub(crate) len: usize,
@@ -47,33 +46,27 @@ impl Fields {
         ensures { listed result ≡ [] }
     {
         Fields {
-            alloc,
             list: Vec::new(alloc),
             len: 0,
         }
     }
 
-    /// Adds a field after the others.
+    /// Adds a field after the others. Copies neither the name nor the value.
     ///
     /// Errors: the reasons of `FieldError`; then the fields are as they were.
-    pub fn add(&mut self, name: &[u8], value: &[u8]) -> Result<(), FieldError>
-        ensures ok { OnOk result (listed self.new ≡ listed self.old ++ (name.now, value.now) ∷ []) }
+    pub fn add(&mut self, name: &'static [u8], value: Bytes) -> Result<(), FieldError>
+        ensures ok { OnOk result (listed self.new ≡ listed self.old ++ (name.now, value) ∷ []) }
         ensures err { OnErr result (listed self.new ≡ listed self.old) }
-        ensures reason { IfErr result (IsReasonFor (listed self.old) (name.now, value.now)) }
+        ensures reason { IfErr result (IsReasonFor (listed self.old) (name.now, value)) }
     {
-        if !is_addable(name, value) {
+        if !is_addable(name, value.as_slice()) {
             return Err(FieldError::Invalid);
         }
-        let len = line_len(name, value);
+        let len = line_len(name, value.as_slice());
         if self.list.len() == MAX_RESPONSE_FIELDS || len > MAX_LINES_LEN - self.len {
             return Err(FieldError::Full);
         }
-        let Ok(name) = Bytes::copy_from_slice(self.alloc, name) else {
-            return Err(FieldError::NoMemory);
-        };
-        let Ok(value) = Bytes::copy_from_slice(self.alloc, value) else {
-            return Err(FieldError::NoMemory);
-        };
+        let name = Bytes::from_static(name);
         match self.list.push(Field { name, value }) {
             Ok(()) => {
                 self.len += len;

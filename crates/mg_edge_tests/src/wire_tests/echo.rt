@@ -1,5 +1,6 @@
 //! A service that says what it was asked.
 
+use bytes::Bytes;
 use httpdate::HttpDate;
 use mg_server::Handover;
 use mg_wire::{Request, Response, Service, Status};
@@ -43,7 +44,8 @@ impl Service for Echo {
         if request.target.as_slice() == b"/304".as_slice() {
             response.status = Status::NotModified;
         }
-        let is_added = response.fields.add(b"content-type", b"text/plain").is_ok();
+        let text = Bytes::from_static(b"text/plain");
+        let is_added = response.fields.add(b"content-type", text).is_ok();
         if !is_added || write_body(request, response).is_err() {
             response.status = Status::ServiceUnavailable;
         }
