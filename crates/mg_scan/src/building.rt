@@ -151,7 +151,7 @@ fn index_shard(
         (λ s. slice_get (map (with_index (arc_value definition.now)) (shards_view shards.now)) i ≡ Some s) }
 {
     let shard: &Shard = &shards[i];
-    Ok(shard.with_rows(alloc, definition, rows?)?)
+    Ok(shard.with_pages(alloc, definition, rows?)?)
 }
 
 // Takes out the rows of the i-th shard, or the error given in their place, and leaves an error instead.
@@ -199,7 +199,7 @@ fn index_shards(
 ///
 /// The gate is passed before a shard's first document is read, and after its last row is made unless an allocation fails in that shard.
 /// Errors: `NoMemory` if an allocation fails; the given shards stay as they are. Cost: for each shard that of `Shard::rows_for` and of
-/// `Shard::with_rows`; if several workers take several shards at once, a thread for each of these shards but one.
+/// `Shard::with_pages`; if several workers take several shards at once, a thread for each of these shards but one.
 pub fn build<R: Threads + Sync, G: Gate + Sync>(
     rt: &R,
     alloc: Global,

@@ -2,13 +2,15 @@
 ghost use Rattle.std.specs.Prelude.{◌≡◌, ◌≤◌, IfOk, None, OnOk, Some, cond, option_map, true};
 ghost use Rattle.std.specs.Arc.{arc_value};
 ghost use Rattle.std.specs.FinMap.{insert};
-ghost use Rattle.mg_collate.specs.Row.{RowValue, row_value_order};
+ghost use Rattle.mg_collate.specs.Row.{RowValue, row_value_order, rows_view};
 ghost use Rattle.mg_collate.specs.Sorted.{sorted};
 ghost use Rattle.mg_collate.proofs.Sorting.{times};
+ghost use Rattle.mg_pages.specs.Order.{Ascends};
 ghost use Rattle.mg_shard.specs.Documents.{KeptDocument, KeptDocuments, docs_of, form_at};
 ghost use Rattle.mg_shard.specs.Mended.{HaveSameRow, own_row, with_row, without_row};
 ghost use Rattle.mg_shard.specs.Rows.{row_key, row_of, rows_of};
 
+use mg_collate::Row;
 use mg_index::IndexDef;
 use mg_packed::{Kind, Packed, Part};
 use mg_pages::Pages;
@@ -228,4 +230,26 @@ fn sorted_rows(mut rows: Vec<RowBytes>) -> Vec<RowBytes>
 {
     rows.sort_unstable();
     rows
+}
+
+/// Puts rows, which must ascend by key, then id, into pages. All pages but the last are filled to three quarters.
+///
+/// Errors: `NoMemory` if an allocation fails. Cost: the bytes of the rows, and a step for each.
+pub(crate) fn pages_of_rows(alloc: Global, rows: &[Row]) -> Result<Pages<RowBytes>, NoMemory>
+    requires { Ascends row_value_order (rows_view rows.now) }
+    ensures { IfOk result (λ pages. pages ≡ rows_view rows.now) }
+{
+    let bytes = bytes_of_rows(alloc, rows)?;
+    Pages::from_sorted(alloc, &bytes)
+}
+
+// Copies rows as bytes. Errors: `NoMemory` if an allocation fails.
+fn bytes_of_rows(alloc: Global, rows: &[Row]) -> Result<Vec<RowBytes>, NoMemory>
+    ensures { IfOk result (λ bytes. bytes.items ≡ rows_view rows.now) }
+{
+    let mut bytes = Vec::with_capacity(alloc, rows.len())?;
+    for row in rows {
+        bytes.push(RowBytes::of(alloc, &row.key, row.id.as_str())?)?;
+    }
+    Ok(bytes)
 }

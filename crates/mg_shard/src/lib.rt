@@ -8,11 +8,11 @@
 //! definitions of its indexes; an invariant of the type says that the rows of each index are those made
 //! from scratch, and that each design document and name occurs once (law: `definitions_are_catalogs`).
 //! `Draft` and `apply` make edits (`outcome`, `replies`, `stands`), and lack of memory never hides from
-//! `Draft::apply` what a look finds (`foreseen`); `with_index`, `with_rows` and `without_index` change one
-//! index only, and copy one page of the list of indexes (index_entry.rt, index_list.rt), while `finish`
-//! makes that list anew; `redeal` deals documents to another number of shards, whatever placement dealt
-//! them before (`number`, `stands`, `first`, `indexes`), with the same result for every number of workers
-//! (`documents`). `rows_for` extracts and sorts the rows of an index and puts them into pages
+//! `Draft::apply` what a look finds (`foreseen`); `with_index`, `with_rows`, `with_pages` and
+//! `without_index` change one index only, and copy one page of the list of indexes (index_entry.rt,
+//! index_list.rt), while `finish` makes that list anew; `redeal` deals documents to another number of
+//! shards, whatever placement dealt them before (`number`, `stands`, `first`, `indexes`), with the same
+//! result for every number of workers (`documents`). `rows_for` extracts and sorts the rows of an index and puts them into pages
 //! (shard_indexes.rt), with several workers by `rayon` (extracted.rt).
 #![tactic(auto)]
 

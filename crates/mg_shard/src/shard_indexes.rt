@@ -2,6 +2,7 @@
 ghost use Rattle.std.specs.Prelude.{◌≡◌, IfOk};
 ghost use Rattle.std.specs.Arc.{arc_value};
 ghost use Rattle.std.specs.List.{filter_map};
+ghost use Rattle.mg_collate.specs.Row.{rows_view};
 ghost use Rattle.mg_index.specs.Catalog.{with_definition, without_definition};
 ghost use Rattle.mg_shard.specs.Documents.{docs_of};
 ghost use Rattle.mg_shard.specs.Rows.{row_of, rows_of};
@@ -9,8 +10,9 @@ ghost use Rattle.mg_shard.specs.Rows.{row_of, rows_of};
 use crate::extracted::{MANY_DOCUMENTS, pages_by_threads, rows_by_threads, sorted_by_threads};
 use crate::index_entry::IndexEntry;
 use crate::index_list::{insert_index, remove_index};
-use crate::index_rows::{pages_of, row_in};
+use crate::index_rows::{pages_of, pages_of_rows, row_in};
 use crate::shard::Shard;
+use mg_collate::Row;
 use mg_index::IndexDef;
 use mg_pages::Pages;
 use mg_path::Path;
@@ -36,8 +38,12 @@ impl Shard {
         Ok(rows)
     }
 
-    // Makes the rows that an index with these columns has, in the order of key, then id. The caller's thread does all the work.
-    fn rows_alone(&self, alloc: Global, columns: &[Path]) -> Result<Pages<RowBytes>, NoMemory>
+    /// Makes the rows that an index with these columns has, in the order of key, then id. The caller's thread does all the work.
+    pub(crate) fn rows_alone(
+        &self,
+        alloc: Global,
+        columns: &[Path],
+    ) -> Result<Pages<RowBytes>, NoMemory>
         ensures { IfOk result (λ rows. rows ≡ rows_of columns.now (docs_of self.now.documents)) }
     {
         let rows = self.unsorted_rows(alloc, columns)?;
@@ -62,8 +68,8 @@ impl Shard {
         Ok(pages)
     }
 
-    /// Makes the rows that an index of this definition has in this shard, in the order of key, then id, as `with_rows` takes them. They do
-    /// not depend on the number of workers. With fewer than two workers, or fewer than 1,000 documents, no thread is started; otherwise,
+    /// Makes the rows that an index of this definition has in this shard, in the order of key, then id, as `with_pages` takes them. They
+    /// do not depend on the number of workers. With fewer than two workers, or fewer than 1,000 documents, no thread is started; otherwise,
     /// whatever the number of workers, up to two threads for each processor extract the rows, sort them and put them into pages.
     ///
     /// Errors: `NoMemory` if an allocation fails. Cost: a step for each document, the bytes of its row, a sort of the rows, and a step
@@ -105,7 +111,7 @@ impl Shard {
 
     /// Makes the shard that also has an index of this definition. It replaces an index of the same design document and name.
     ///
-    /// Errors: `NoMemory` if an allocation fails. Cost: that of `rows_for` with one worker, that of `with_rows`, and a copy of the
+    /// Errors: `NoMemory` if an allocation fails. Cost: that of `rows_for` with one worker, that of `with_pages`, and a copy of the
     /// definition.
     pub fn with_index(&self, alloc: Global, definition: &IndexDef) -> Result<Shard, NoMemory>
         ensures { IfOk result
@@ -116,11 +122,30 @@ impl Shard {
         self.with(alloc, definition, rows)
     }
 
+    /// Makes the shard that also has an index of this definition with these rows, which must be those that `rows_for` returns, in the same
+    /// order. It replaces an index of the same design document and name.
+    ///
+    /// Errors: `NoMemory` if an allocation fails. Cost: the bytes of the rows, that of `with_pages`, and a copy of the definition.
+    pub fn with_rows(
+        &self,
+        alloc: Global,
+        definition: &IndexDef,
+        rows: Vec<Row>,
+    ) -> Result<Shard, NoMemory>
+        requires { rows_view rows.items ≡ rows_of definition.now.columns (docs_of self.now.documents) }
+        ensures { IfOk result
+            (λ s. s ≡ record self.now { definitions = with_definition definition.now self.now.definitions }) }
+    {
+        let rows = pages_of_rows(alloc, &rows)?;
+        let definition = Arc::new(alloc, definition.copy(alloc)?)?;
+        self.with(alloc, definition, rows)
+    }
+
     /// Makes the shard that also has an index of this definition with these rows, which must be those that `rows_for` returns. It replaces
     /// an index of the same design document and name. The definition is shared, not copied.
     ///
     /// Errors: `NoMemory` if an allocation fails. Cost: that of `share`, a look-up, and a copy of one page of the list of indexes.
-    pub fn with_rows(
+    pub fn with_pages(
         &self,
         alloc: Global,
         definition: &Arc<IndexDef>,

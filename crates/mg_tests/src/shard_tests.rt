@@ -1,7 +1,8 @@
-//! The placement of documents, and what a shard lends: a served form, and its documents and rows in both directions.
+//! The placement of documents; what a shard lends: a served form, and its documents and rows in both directions; and an index of given rows.
 use crate::given::{check, json, packed};
 use mg_collate::Direction;
 use mg_engine::{Command, Engine};
+use mg_index::IndexDef;
 use mg_packed::Part;
 use mg_rows::RowBytes;
 use mg_shard::{Docs, Md5Placement, Placement, Rows, Shard};
@@ -138,4 +139,20 @@ fn a_shard_lends_its_forms_documents_and_rows(rt: HostRuntime) {
         }
         _ => rt.panic("one shard"),
     }
+}
+
+#[test]
+fn an_index_is_made_of_its_rows(rt: HostRuntime) {
+    let alloc = rt.alloc();
+    let body = json(&rt, alloc, INDEX);
+    let definition = IndexDef::read(alloc, &body).expect(&rt, "a definition");
+    let shard = Shard::new(alloc);
+    let indexed = shard
+        .with_rows(alloc, &definition, Vec::new(alloc))
+        .expect(&rt, "memory");
+    check(
+        &rt,
+        are_rows(indexed.rows("_design/x", "k_idx"), &[]),
+        "no rows",
+    );
 }
