@@ -19,7 +19,7 @@ use crate::refusal::Refusal;
 use crate::reply::Reply;
 use crate::shards::wrap_shards;
 use crate::state::State;
-use mg_shard::{Placement, Shard, redeal};
+use mg_shard::{Placement, Shard, redeal_by};
 use mg_value::{Json, NoMemory};
 use std::sync::Arc;
 use std::thread::Threads;
@@ -30,7 +30,7 @@ impl State {
     /// the counter stay as they are.
     ///
     /// Errors: `NoMemory` if an allocation fails, or if there are too many references to a part of this state. Cost: the number of shards
-    /// if that number does not change; otherwise the cost of `mg_shard::redeal`.
+    /// if that number does not change; otherwise the cost of `mg_shard::redeal_by`.
     pub(crate) fn reshard<P: Placement, R: Threads + Sync, G>(
         &self,
         context: &Context<'_, R, G>,
@@ -94,7 +94,7 @@ fn deal_shards<P: Placement, R: Threads + Sync, G>(
         → HaveRows ds (shards_view v.items)) }
 {
     let workers = context.workers.count();
-    let dealt = redeal(context.rt, context.alloc, shards, placement, count, workers)?;
+    let dealt = redeal_by(context.rt, context.alloc, shards, placement, count, workers)?;
     let shards = wrap_shards(context.alloc, dealt)?;
     Ok(shards)
 }

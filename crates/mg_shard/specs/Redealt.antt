@@ -1,14 +1,15 @@
 -- The documents of some shards, dealt to others by a placement of their ids.
 use denote.Ref.{Bor}
-use Rattle.std.specs.Prelude.{◌≡◌, ℕ, ◌<◌, ◌==◌, List, [], ◌∷◌, length, map, cond, Option, Some, None, option_map, unwrap_or, slice_get}
+use Rattle.std.specs.Prelude.{◌≡◌, ℕ, ◌<◌, ◌==◌, List, [], ◌∷◌, All, length, map, cond, Option, Some, None, option_map, unwrap_or, slice_get}
 use Rattle.std.specs.Cmp.Lexicographic.{slice_cmp}
 use Rattle.std.specs.FinMap.{get}
 use Rattle.std.specs.List.{AllZip}
 use Rattle.std.specs.Option.{option_or}
 use Rattle.std.specs.Ordering.{eq_by_cmp, nat_cmp}
 use Rattle.mg_index.specs.Definition.{IndexDefinition}
-use Rattle.mg_shard.specs.Dealt.{Placing}
+use Rattle.mg_shard.specs.Dealt.{Placing, ShardsStandFor}
 use Rattle.mg_shard.specs.Documents.{KeptDocument, KeptDocuments, id_bytes, kept_of}
+use Rattle.mg_shard.specs.Histories.{Histories}
 use Rattle.mg_shard.specs.Shard.{ShardView}
 use Rattle.mg_shard.specs.declared.document.Document.{Document}
 
@@ -31,6 +32,15 @@ pub record AreRedealt (place : Placing) (from to : List KeptDocuments) : Type 0 
 -- the definitions of the first of these shards; none if there is no shard
 abbrev pub first_definitions : List ShardView → List IndexDefinition
 first_definitions shards = unwrap_or (option_map (λ s. s.definitions) (slice_get shards 0)) []
+
+-- `count` new shards are made of former ones: the documents are dealt to them, they stand for what the former ones stand for, whatever
+-- placement dealt these, and they have the definitions of the first of them, or of each, if all have the same
+pub record Redeals (place : Placing) (count : ℕ) (from to : List ShardView) : Type 0 where
+  pub number : length to ≡ count
+  pub documents : AreRedealt place (documents_in from) (documents_in to)
+  pub stands : (before : Placing) (hs : Histories) → ShardsStandFor before from hs → ShardsStandFor place to hs
+  pub first : All (λ s. s.definitions ≡ first_definitions from) to
+  pub indexes : (ds : List IndexDefinition) → 0 < length from → All (λ s. s.definitions ≡ ds) from → All (λ s. s.definitions ≡ ds) to
 
 -- ---- for private clauses
 

@@ -11,8 +11,8 @@
 //! `Draft::apply` what a look finds (`foreseen`); `with_index`, `with_rows`, `with_pages` and
 //! `without_index` change one index only, and copy one page of the list of indexes (index_entry.rt,
 //! index_list.rt), while `finish` makes that list anew; `redeal` deals documents to another number of
-//! shards, whatever placement dealt them before (`number`, `stands`, `first`, `indexes`), with the same
-//! result for every number of workers (`documents`). `rows_for` extracts and sorts the rows of an index and puts them into pages
+//! shards, whatever placement dealt them before (`Redeals`), and `redeal_by` does the same with several
+//! workers. `rows_for` extracts and sorts the rows of an index and puts them into pages
 //! (shard_indexes.rt), with several workers by `rayon` (extracted.rt).
 #![tactic(auto)]
 
@@ -35,13 +35,14 @@ mod served;
 mod shard;
 mod shard_indexes;
 mod walk;
+mod workforce;
 
 pub use docs::Docs;
 pub use document::Document;
 pub use draft::{Draft, id_in};
 pub use index_ref::IndexRef;
 pub use placement::{Md5Placement, Placement};
-pub use redealt::redeal;
+pub use redealt::{redeal, redeal_by};
 pub use reply::EditReply;
 pub use shard::Shard;
 pub use walk::{Documents, Rows, Walk};

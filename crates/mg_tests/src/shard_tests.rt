@@ -1,11 +1,12 @@
-//! The placement of documents; what a shard lends: a served form, and its documents and rows in both directions; and an index of given rows.
+//! The placement of documents; what a shard lends: a served form, and its documents and rows in both directions; an index of given rows; and
+//! documents dealt to more shards.
 use crate::given::{check, json, packed};
 use mg_collate::Direction;
 use mg_engine::{Command, Engine};
 use mg_index::IndexDef;
 use mg_packed::Part;
 use mg_rows::RowBytes;
-use mg_shard::{Docs, Md5Placement, Placement, Rows, Shard};
+use mg_shard::{Docs, Md5Placement, Placement, Rows, Shard, redeal};
 use mg_value::Json;
 use std::alloc::Global;
 use std::process::Abort;
@@ -155,4 +156,21 @@ fn an_index_is_made_of_its_rows(rt: HostRuntime) {
         are_rows(indexed.rows("_design/x", "k_idx"), &[]),
         "no rows",
     );
+}
+
+#[test]
+fn documents_and_rows_are_dealt_to_more_shards(rt: HostRuntime) {
+    let alloc = rt.alloc();
+    let engine = engine_of(&rt, alloc);
+    let dealt = redeal(alloc, engine.shards(), &Md5Placement, 2).expect(&rt, "memory");
+    let (ddoc, name) = ("_design/x", "k_idx");
+    match dealt.as_slice() {
+        [first, second] => {
+            check(&rt, are_documents(first.docs(), &["a"]), "documents");
+            check(&rt, are_documents(second.docs(), &["c", "d"]), "documents");
+            check(&rt, are_rows(first.rows(ddoc, name), &["a"]), "rows");
+            check(&rt, are_rows(second.rows(ddoc, name), &["c"]), "rows");
+        }
+        _ => rt.panic("two shards"),
+    }
 }

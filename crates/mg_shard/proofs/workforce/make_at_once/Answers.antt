@@ -6,7 +6,7 @@ use Rattle.mg_shard.specs.Index.{definitions_of}
 use Rattle.mg_shard.specs.Redealt.{IsMade, documents_view}
 use Rattle.mg_shard.proofs.Crossing.{shard_send}
 use Rattle.mg_shard.proofs.Together.{shards_together}
-use Rattle.mg_shard.proofs.redealt.make_at_once.Goals as goal
+use Rattle.mg_shard.proofs.workforce.make_at_once.Goals as goal
 
 -- the result of each thread may cross threads
 pub map_indices-requires-send-X : goal.map_indices-requires-send-X

@@ -1,6 +1,6 @@
 use Rattle.std.proofs.Common.{◌≡◌, ◌++◌, Ok, map}
 use Rattle.std.specs.Vec.Iter.{into_iter_items}
-use Rattle.mg_shard.proofs.redealt.all_of.Given as goal
+use Rattle.mg_shard.proofs.workforce.all_of.Given as goal
 
 -- the results are those of the shards so far, which are all `Ok`, and those that are left
 abbrev pub invariant-loop-given : goal.invariant-loop-given

@@ -3,10 +3,10 @@ use Rattle.mg_shard.specs.Index.{definitions_of}
 use Rattle.mg_shard.specs.Redealt.{AreMade, documents_view}
 use Rattle.mg_shard.specs.Shard.{ShardView}
 use Rattle.mg_shard.proofs.Redealing.{one_made}
-use Rattle.mg_shard.proofs.redealt.make_in_turn.Goals as goal
+use Rattle.mg_shard.proofs.workforce.make_in_turn.Goals as goal
 
 pub loop-i-preserved : goal.loop-i-preserved
-loop-i-preserved g c =
+loop-i-preserved c =
     let l = c.loop-i in
     let those = definitions_of c.args.indexes.now in
     record {

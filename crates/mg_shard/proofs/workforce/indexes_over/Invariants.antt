@@ -1,7 +1,7 @@
 use Rattle.std.proofs.Common.{◌≡◌, take}
 use Rattle.std.specs.List.{AllByRecursion}
 use Rattle.mg_shard.specs.Index.{HasRows, definitions_of}
-use Rattle.mg_shard.proofs.redealt.indexes_over.Given as goal
+use Rattle.mg_shard.proofs.workforce.indexes_over.Given as goal
 
 -- the indexes so far have the definitions of those read so far, and the rows of the shard
 abbrev pub invariant-loop-index : goal.invariant-loop-index
