@@ -22,8 +22,8 @@ use Rattle.mg_face.specs.Json.{string_at, string_of, text_at}
 
 agree : (a b : Bool) → (a ≡ true → b ≡ true) → (b ≡ true → a ≡ true) → a ≡ b
 agree true true f g = refl
-agree true false f g = absurd (f refl)
-agree false true f g = absurd (g refl)
+agree true false f g = let odd : false ≡ true = f refl in absurd cc
+agree false true f g = let odd : false ≡ true = g refl in absurd cc
 agree false false f g = refl
 
 symmetric : (k l : List ℕ) → bytes_eq k l ≡ bytes_eq l k
@@ -42,13 +42,13 @@ absent k (member l v ms) h = rw h.0 (absent k ms h.1)
 -- the last member of a name is the first, where names do not repeat
 pick : (o : Ordering) (b : Bool) (rest : Option Value) (w : Value) → is_eq o ≡ b → (b ≡ true → rest ≡ None)
     → later_or (option_map tree_of rest) (cond b (Some (tree_of w)) None) ≡ option_map tree_of (match_ordering o rest (Some w) rest)
-pick Less true rest w e alone = absurd e
+pick Less true rest w e alone = absurd cc
 pick Less false None w e alone = refl
 pick Less false (Some v) w e alone = refl
 pick Equal true None w e alone = refl
-pick Equal true (Some v) w e alone = absurd (alone refl)
-pick Equal false rest w e alone = absurd e
-pick Greater true rest w e alone = absurd e
+pick Equal true (Some v) w e alone = let odd : Some v ≡ None = alone refl in absurd cc
+pick Equal false rest w e alone = absurd cc
+pick Greater true rest w e alone = absurd cc
 pick Greater false None w e alone = refl
 pick Greater false (Some v) w e alone = refl
 

@@ -88,7 +88,7 @@ unrefused (Some refusal) base n e = cc
 pub decides_refused : (o : Option TreeRefusal) (base : Option Revision) (e : TreeError) (r : Result (Unit {0}) TreeError) → Err e ≡ position_unless o base → IsErrAnd r (λ f. f ≡ e) → Decides o r
 decides_refused None base e r is h = cc
 decides_refused (Some refusal) base e (Ok u) is h = absurd h
-decides_refused (Some refusal) base e (Err f) is h = ap Err h ∙ is
+decides_refused (Some refusal) base e (Err f) is h = let same : e ≡ error_of refusal = cc in ap Err (h ∙ same)
 
 pub decides_made : (o : Option TreeRefusal) (r : Result (Unit {0}) TreeError) → None ≡ o → IsOkUnless r no_memory → Decides o r
 decides_made o r is h = subst (λ (x : Option TreeRefusal). Decides x r) is h

@@ -66,7 +66,8 @@ fn deal<P: Placement, F: Workforce>(
     placement: &P,
     count: usize,
 ) -> Result<Vec<Shard>, NoMemory>
-    requires { 0 < count }
+    requires ready { F.can_work }
+    requires some { 0 < count }
     ensures { IfOk result
         (λ v. Redeals (P.place placement.now) count (shards_view shards.now) v.items) }
 {

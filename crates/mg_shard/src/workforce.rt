@@ -30,6 +30,9 @@ pub(crate) trait Extractor {
     ghost use Rattle.mg_shard.specs.Documents.{docs_of};
     ghost use Rattle.mg_shard.specs.Rows.{rows_of};
 
+    // what has to hold so that it can work
+    ghost can_work: { Type 0 };
+
     /// Makes the rows that an index of this definition has in a shard, as `Shard::rows_for` does.
     fn rows(
         &self,
@@ -37,6 +40,7 @@ pub(crate) trait Extractor {
         shard: &Shard,
         definition: &IndexDef,
     ) -> Result<Pages<RowBytes>, NoMemory>
+        requires { can_work }
         ensures { IfOk result (λ rows. rows ≡ rows_of definition.now.columns (docs_of shard.now.documents)) };
 }
 
@@ -47,6 +51,9 @@ pub(crate) trait Workforce {
     ghost use Rattle.mg_shard.specs.Index.{definitions_of};
     ghost use Rattle.mg_shard.specs.Redealt.{AreMade, documents_view};
 
+    // what has to hold so that it can work
+    ghost can_work: { Type 0 };
+
     /// Makes `count` new shards: each has those of the documents whose place is its number, with the definitions of `indexes`.
     fn make_all(
         &self,
@@ -56,6 +63,7 @@ pub(crate) trait Workforce {
         indexes: &[IndexEntry],
         count: usize,
     ) -> Result<Vec<Shard>, NoMemory>
+        requires ready { can_work }
         requires some { 0 < count }
         requires number { length places.now ≡ length documents.now }
         requires catalog { IsCatalog (definitions_of indexes.now) }
@@ -76,6 +84,8 @@ pub(crate) struct Together<'a, R> {
 }
 
 impl Extractor for Alone {
+    ghost can_work = { Unit {0} };
+
     fn rows(
         &self,
         alloc: Global,
@@ -87,6 +97,10 @@ impl Extractor for Alone {
 }
 
 impl<'a, R: Threads + Sync> Extractor for Together<'a, R> {
+    ghost use Rattle.std.specs.Thread.{IsSync};
+
+    ghost can_work = { IsSync R.row };
+
     fn rows(
         &self,
         alloc: Global,
@@ -98,6 +112,8 @@ impl<'a, R: Threads + Sync> Extractor for Together<'a, R> {
 }
 
 impl Workforce for Alone {
+    ghost can_work = { Unit {0} };
+
     fn make_all(
         &self,
         alloc: Global,
@@ -111,6 +127,10 @@ impl Workforce for Alone {
 }
 
 impl<'a, R: Threads + Sync> Workforce for Together<'a, R> {
+    ghost use Rattle.std.specs.Thread.{IsSync};
+
+    ghost can_work = { IsSync R.row };
+
     // Makes the new shards one after the other if there are fewer than two workers or few documents; otherwise at once, with the workers
     // shared out among them.
     fn make_all(
@@ -143,6 +163,7 @@ fn index_over<E: Extractor>(
     shard: &Shard,
     definition: &Arc<IndexDef>,
 ) -> Result<IndexEntry, NoMemory>
+    requires { E.can_work }
     ensures definition { IfOk result (λ x. x.0 ≡ arc_value definition.now) }
     ensures rows { IfOk result (λ x. HasRows shard.now.documents x) }
 {
@@ -158,6 +179,7 @@ fn indexes_over<E: Extractor>(
     shard: &Shard,
     indexes: &[IndexEntry],
 ) -> Result<Vec<IndexEntry>, NoMemory>
+    requires { E.can_work }
     ensures definitions { IfOk result (λ v. definitions_of v.items ≡ definitions_of indexes.now) }
     ensures rows { IfOk result (λ v. AllByRecursion (HasRows shard.now.documents) v.items) }
 {
@@ -175,7 +197,8 @@ fn index_documents<E: Extractor>(
     documents: Pages<Shared<Document>>,
     indexes: &[IndexEntry],
 ) -> Result<Shard, NoMemory>
-    requires { IsCatalog (definitions_of indexes.now) }
+    requires ready { E.can_work }
+    requires catalog { IsCatalog (definitions_of indexes.now) }
     ensures documents { IfOk result (λ s. s.documents ≡ kept_documents documents) }
     ensures definitions { IfOk result (λ s. s.definitions ≡ definitions_of indexes.now) }
 {
@@ -198,6 +221,7 @@ fn make_shard<E: Extractor>(
     indexes: &[IndexEntry],
     place: usize,
 ) -> Result<Shard, NoMemory>
+    requires ready { E.can_work }
     requires number { length places.now ≡ length documents.now }
     requires catalog { IsCatalog (definitions_of indexes.now) }
     ensures { IfOk result (IsMade (documents_view documents.now) places.now

@@ -10,7 +10,7 @@ use Rattle.mg_shard.proofs.Together.{seen_length}
 use Rattle.mg_shard.proofs.redealt.deal.Goals as goal
 
 pub make_all-requires-clause-number : goal.make_all-requires-clause-number
-make_all-requires-clause-number g c κs within =
+make_all-requires-clause-number g c =
     let ds = c.deref-documents.result.now in
     ap length c.deref-places.ensures.value ∙ as_many (g.P.Placement.place c.args.placement.now) c.args.count (documents_view ds) c.in_ok-found.found.items c.in_ok-found.ensures
     ∙ seen_length ds

@@ -6,7 +6,7 @@ use Rattle.mg_shard.proofs.Redealing.{one_made}
 use Rattle.mg_shard.proofs.workforce.make_in_turn.Goals as goal
 
 pub loop-i-preserved : goal.loop-i-preserved
-loop-i-preserved g c =
+loop-i-preserved c =
     let l = c.loop-i in
     let those = definitions_of c.args.indexes.now in
     record {

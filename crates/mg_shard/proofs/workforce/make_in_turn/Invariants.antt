@@ -5,7 +5,7 @@ use Rattle.mg_shard.proofs.workforce.make_in_turn.Given as goal
 
 -- the shards so far are made
 abbrev pub invariant-loop-i : goal.invariant-loop-i
-invariant-loop-i g l = record {
+invariant-loop-i l = record {
   number : length l.shards.items ≡ l.i;
   made : AreMade (documents_view l.documents) l.places (definitions_of l.indexes) l.shards.items;
 }

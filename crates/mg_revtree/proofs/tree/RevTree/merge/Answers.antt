@@ -1,4 +1,4 @@
-use Rattle.std.proofs.Common.{◌≡◌, ◌∙◌, List, sym, subst, true}
+use Rattle.std.proofs.Common.{◌≡◌, ◌∙◌, List, false, sym, subst, true}
 use Rattle.mg_value.specs.Value.{Value}
 use Rattle.mg_value.specs.View.{view}
 use Rattle.mg_revtree.specs.Revision.{Revision}
@@ -11,7 +11,7 @@ use Rattle.mg_revtree.proofs.tree.RevTree.merge.Goals as goal
 pub returns-in_err-is_merged-clause-whole : goal.returns-in_err-is_merged-clause-whole
 returns-in_err-is_merged-clause-whole c = λ h stands whole.
     let fitting : fits h c.args.path.now ≡ true = whole_fits (all_links h) (links c.args.path.now) whole in
-    absurd (c.in_err-is_merged.ensures.fitting h stands fitting)
+    let odd : false ≡ true = c.in_err-is_merged.ensures.fitting h stands fitting in absurd cc
 
 pub returns-then-branch-clause-accepted : goal.returns-then-branch-clause-accepted
 returns-then-branch-clause-accepted c = λ h stands.
