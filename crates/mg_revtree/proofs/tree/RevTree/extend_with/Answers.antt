@@ -4,7 +4,7 @@ use Rattle.mg_revtree.proofs.tree.RevTree.extend_with.Goals as goal
 
 pub returns-in_err-pos-clause-decided : goal.returns-in_err-pos-clause-decided
 returns-in_err-pos-clause-decided c = λ h stands.
-    decides_refused _ (option_copied c.args.parent) c.in_err-pos.field-0 c.from_residual.result (c.in_err-pos.ensures.decided h stands) c.from_residual.ensures.1
+    decides_refused _ (option_copied c.args.parent) c.in_err-pos.field-0.0 c.from_residual.result (c.in_err-pos.ensures.decided h stands) c.from_residual.ensures.1
 
 pub returns-in_err-make_revision-clause-decided : goal.returns-in_err-make_revision-clause-decided
 returns-in_err-make_revision-clause-decided c = λ h stands.
