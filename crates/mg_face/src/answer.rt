@@ -72,7 +72,11 @@ pub(crate) fn begin(response: &mut Response, date: Option<HttpDate>) -> Result<(
     ensures { OnOk result (IsBegun response.new) }
 {
     response.date = date;
-    add_field(response, b"content-type", Bytes::from_static(b"application/json"))
+    add_field(
+        response,
+        b"content-type",
+        Bytes::from_static(b"application/json"),
+    )
 }
 
 /// Gives a response that has begun its status and its body.

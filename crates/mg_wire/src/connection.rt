@@ -18,6 +18,7 @@ use std::io::{ErrorKind, Read};
 
 /// The least room that a read is given: as much as was received already, within these bounds, since new room is cleared.
 const FIRST_READ: usize = 1024;
+
 const READ_ROOM: usize = 16384;
 
 /// Why a connection ends, once all of it is sent.

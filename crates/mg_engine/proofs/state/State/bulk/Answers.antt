@@ -10,5 +10,5 @@ pub returns-clause-does : goal.returns-clause-does
 returns-clause-does g c =
     let place = g.P.Placement.place c.args.placement.now in
     let Does : Value → Type 0 = λ v. IfOk c.packed_bulk.result (λ r. (w : World) → StateStandsFor place c.args.self.now w
-        → (reply_view r.0 ≡ Some (reply_of w (bulk v))) × StateStandsFor place (unwrap_or r.1 c.args.self.now) (next w (bulk v))) in
+    → (reply_view r.0 ≡ Some (reply_of w (bulk v))) × StateStandsFor place (unwrap_or r.1 c.args.self.now) (next w (bulk v))) in
     subst Does c.in_ok-body.ensures c.packed_bulk.ensures.does
