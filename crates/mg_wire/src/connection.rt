@@ -16,9 +16,10 @@ use std::alloc::Global;
 use std::io;
 use std::io::{ErrorKind, Read};
 
-/// The least room that a read is given: as much as was received already, within these bounds, since new room is cleared.
+/// The least room that a read is given. New room is cleared, so an idle connection begins with little.
 const FIRST_READ: usize = 1024;
 
+/// A read is given room for as much as was received and is not used up, or for so much if that is less.
 const READ_ROOM: usize = 16384;
 
 /// Why a connection ends, once all of it is sent.
