@@ -58,7 +58,7 @@ found k no_members h = refl
 found k (member l w ms) h =
     let e : is_eq (slice_cmp nat_cmp k l) ≡ bytes_eq l k = is_eq-slice_cmp k l ∙ symmetric k l in
     let alone : bytes_eq l k ≡ true → get_member k ms ≡ None = λ b. subst (λ s. get_member s ms ≡ None) ((bytes_eq-Decides l k).0 b) (absent l ms h.0) in
-    ap (λ o. later_or o (cond (bytes_eq l k) (Some (tree_of w)) None)) (found k ms h.2.1)
+    ap (λ o. later_or o (cond (bytes_eq l k) (Some (tree_of w)) None)) (found k ms h.2)
     ∙ pick (slice_cmp nat_cmp k l) (bytes_eq l k) (get_member k ms) w e alone
 
 text_in : (w : Value) → as_str (tree_of w) ≡ string_of w
