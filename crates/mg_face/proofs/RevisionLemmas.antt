@@ -1,7 +1,7 @@
 -- The text at a name of the compact text of a value is that of the value.
 use Rattle.std.proofs.Common.{◌≡◌, ℕ, List, Bool, true, false, cond, Option, Some, None, option_map, ◌≤◌, subst, refl, sym, ap, ◌∙◌}
-use Rattle.std.specs.Prelude.{option_and_then, if◌then◌else◌, IsUtf8}
-use Rattle.std.specs.Str.{bytes_eq, is_utf8}
+use Rattle.std.specs.Prelude.{option_and_then, IsUtf8}
+use Rattle.std.specs.Str.{bytes_eq}
 use Rattle.std.specs.Ordering.{is_eq, match_ordering, nat_cmp}
 use Rattle.std.specs.declared.cmp.Ordering.{Ordering}
 use Rattle.std.specs.declared.cmp.Ordering.TheVariants.{Less, Equal, Greater}
@@ -9,8 +9,7 @@ use Rattle.std.specs.Cmp.Lexicographic.{slice_cmp}
 use Rattle.std.proofs.lemmas.Map.Text.{is_eq-slice_cmp}
 use Rattle.std.proofs.lemmas.Slice.Eq.{bytes_eq-Decides}
 use Rattle.std.proofs.lemmas.Str.{is_utf8-from_IsUtf8}
-use Rattle.json.specs.Json as json
-use Rattle.json.specs.Json.{Json, document}
+use Rattle.json.specs.Json.{Json}
 use Rattle.json.specs.Find.{as_str, get, later_or}
 use Rattle.json.specs.Find as find
 use Rattle.serde_json.specs.Written.{outline, members_outline}
