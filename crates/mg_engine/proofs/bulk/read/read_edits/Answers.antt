@@ -6,8 +6,8 @@ use Rattle.mg_engine.specs.Bulk.{are_objects, edits_of, edits_or_refusal}
 use Rattle.mg_engine.proofs.Reading.{all_before, edits_before, first_object, later_objects, next_item, none_before, one_more, refused_as}
 use Rattle.mg_engine.proofs.bulk.read.read_edits.Goals as goal
 
-pub read-requires : goal.read-requires
-read-requires c =
+pub read_part-requires : goal.read_part-requires
+read_part-requires c =
     let l = c.loop-index in
     let vs = c.args.documents in
     let less : l.index < length (item_list vs) = omega (arith, c.len-count.ensures) in
