@@ -44,6 +44,9 @@ fn has_page<R: Threads + Sync + Abort>(
 
 // Whether a commit of the bulk gives an engine with the documents, and leaves the first engine without them.
 fn is_committed<R: Threads + Sync + Abort>(rt: &R, alloc: Global, bulk: &Command) -> bool {
+    if !bulk.is_write() {
+        return false;
+    }
     let engine = empty(rt, alloc);
     let (reply, next) = engine.commit(rt, alloc, bulk, 2);
     let Some(next) = next else {
