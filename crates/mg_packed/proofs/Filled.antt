@@ -1,5 +1,5 @@
 -- Containers that are written piece by piece.
-use Rattle.std.proofs.Common.{◌≡◌, ℕ, List, [], ◌∷◌, ◌++◌, Bool, false, sym, ap, ◌∙◌, append_assoc, append-nil}
+use Rattle.std.proofs.Common.{◌≡◌, ℕ, List, [], ◌∷◌, ◌++◌, false, sym, ap, ◌∙◌, append_assoc, append-nil}
 use Rattle.mg_value.specs.Text.{compact}
 use Rattle.mg_value.specs.Value.{list, object, Items, Members}
 use Rattle.mg_packed.specs.declared.mark.Mark.{Mark}

@@ -51,14 +51,6 @@ pub below_within : (n : ℕ) (ms : Members) → ranked_below n ms ≤ length (me
 below_within n no_members = omega arith
 below_within n (member k v ms) = elim (cases_lt (rank_of k) n) [ inl h ↦ omega (arith, below_yes n k v ms h, below_within n ms) | inr h ↦ omega (arith, below_no n k v ms h) ]
 
-pub below_ordered : (n m : ℕ) (ms : Members) → n ≤ m → ranked_below n ms ≤ ranked_below m ms
-below_ordered n m no_members le = omega arith
-below_ordered n m (member k v ms) le =
-    elim (cases_lt (rank_of k) n) [
-      | inl h ↦ omega (arith, below_yes n k v ms h, below_yes m k v ms (omega arith), below_ordered n m ms le)
-      | inr h ↦ omega (arith, below_no n k v ms h)
-    ]
-
 -- ---- the members without those
 
 none_below : (n : ℕ) (k : List ℕ) (ms : Members) → AllAfter k ms → n ≤ rank_of k → ranked_below n ms ≡ 0

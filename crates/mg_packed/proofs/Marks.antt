@@ -1,9 +1,9 @@
 -- The marks of a container's tables: where each is, and what is read from it.
-use Rattle.std.proofs.Common.{◌≡◌, ℕ, zero, suc, ◌+◌, ◌*◌, ◌-◌, ◌/◌, ◌%◌, ◌≤◌, ◌<◌, ◌^◌, ◌==◌, if◌then◌else◌, List, [], ◌∷◌, ◌++◌, length, take, drop, get_or, Bool, true, false, refl, sym, ap, ap₂, ◌∙◌, arith, append_assoc, append-nil, length-append}
+use Rattle.std.proofs.Common.{◌≡◌, ℕ, zero, suc, ◌+◌, ◌*◌, ◌-◌, ◌/◌, ◌%◌, ◌≤◌, ◌<◌, ◌^◌, ◌==◌, List, [], ◌∷◌, ◌++◌, length, drop, get_or, Bool, true, false, refl, sym, ap, ap₂, ◌∙◌, arith, append_assoc, append-nil, length-append}
 use Rattle.std.proofs.lemmas.Bool.{eq-eqb, ne_eqb}
 use Rattle.std.proofs.lemmas.List.{drop_at, drop-drop}
 use Rattle.mg_packed.specs.declared.mark.Mark.{Mark}
-use Rattle.mg_packed.specs.Tables.{Piece, word, half, mark_bytes, all_bytes, head, marks, reach, deeper}
+use Rattle.mg_packed.specs.Tables.{word, half, mark_bytes, all_bytes, head}
 use Rattle.mg_packed.specs.Read.{word_of, half_of, head_of, pieces_of, wide_of, marks_len, begin_of, at_in, deep_in, at_of, deep_of, HasHead, HasMark}
 use Rattle.mg_packed.proofs.Words.{length-word, length-half, word_of-word, half_of-half, behind}
 

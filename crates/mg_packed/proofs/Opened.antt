@@ -1,5 +1,5 @@
 -- Adding pieces to a container one after another gives its text and its tables.
-use Rattle.std.proofs.Common.{◌≡◌, ℕ, suc, ◌+◌, ◌-◌, ◌≤◌, ◌<◌, ◌||◌, nat_lt, List, [], ◌∷◌, ◌++◌, length, Bool, true, false, if◌then◌else◌, refl, sym, ap, ap₂, ◌∙◌, arith, append_assoc, append-nil, length-append, lt-ltb}
+use Rattle.std.proofs.Common.{◌≡◌, ℕ, ◌+◌, ◌-◌, nat_lt, List, [], ◌∷◌, ◌++◌, length, Bool, true, false, refl, sym, ap, ap₂, ◌∙◌, arith, append_assoc, append-nil, length-append, lt-ltb}
 use Rattle.mg_packed.specs.declared.mark.Mark.{Mark}
 use Rattle.mg_packed.specs.Tables.{Piece, run, lead, deeper, reach, marks, ending, container, word, head, is_wide, all_bytes}
 use Rattle.mg_packed.specs.Writing.{IsOpen, here}
@@ -38,9 +38,6 @@ marks_joined at deep (p ∷ ps) qs =
 -- ---- the next pieces
 
 module _ (b0 t0 : List ℕ) (bracket : ℕ) (ps : List Piece) (b t : List ℕ) (begin base : ℕ) (ms : List Mark) (h : IsOpen b0 t0 bracket ps b t begin base ms) where
-  pub within : (begin ≤ length b) × (base ≤ length t)
-  within = (omega (arith, h.begun, ap length h.text, length-append b0 (bracket ∷ run false ps)), omega (arith, h.based, ap length h.tables, length-append t0 (deeper ps)))
-
   -- whether pieces came before
   pub later_is : nat_lt 0 (length ms) ≡ nat_lt 0 (length ps)
   later_is = ap (λ n. nat_lt 0 n) (ap length h.marks ∙ length-marks 0 0 ps)

@@ -1,11 +1,10 @@
 -- An object with one member put into it: the members before its place, the member, and the members after.
-use Rattle.std.proofs.Common.{◌≡◌, ℕ, zero, suc, ◌+◌, ◌-◌, ◌≤◌, ◌<◌, List, length, IsUtf8, Ordering, Less, Equal, Greater, nat_cmp, refl, sym, ap, ◌∙◌, subst, arith}
+use Rattle.std.proofs.Common.{◌≡◌, ℕ, zero, suc, ◌+◌, List, length, Ordering, Less, Equal, Greater, nat_cmp, refl, sym, ap, ◌∙◌, arith}
 use Rattle.std.specs.Cmp.Lexicographic.{slice_cmp}
 use Rattle.std.specs.Ordering.{match_ordering}
 use Rattle.mg_collate.proofs.Ties.{same_text}
 use Rattle.mg_value.specs.Value.{Value, Members, no_members, member, member_list, put}
 use Rattle.mg_packed.specs.Gap.{names_before, names_up_to}
-use Rattle.mg_packed.specs.Read.{nth_name, nth_value}
 use Rattle.mg_packed.specs.Walk.{first_members, members_past, joined, part}
 use Rattle.mg_packed.proofs.Copies.{all_members}
 

@@ -1,5 +1,5 @@
 -- Members that are sorted by name have the data of the text's order, and parts that match make the whole.
-use Rattle.std.proofs.Common.{◌≡◌, ℕ, suc, List, [], ◌∷◌, ◌++◌, length, IsUtf8, Option, Some, None, option_map, option_and_then, Ordering, Less, Equal, Greater, is_eq, cond, nat_cmp, Bor, Global, Result, Ok, Err, OnOk, refl, sym, ap, ap₂, ◌∙◌, subst}
+use Rattle.std.proofs.Common.{◌≡◌, ℕ, List, [], ◌∷◌, ◌++◌, IsUtf8, Option, Some, None, option_map, option_and_then, Ordering, Less, Equal, Greater, is_eq, cond, nat_cmp, Bor, Global, Result, Ok, Err, OnOk, refl, sym, ap, ap₂, ◌∙◌, subst}
 use Rattle.std.specs.BTreeMap.{insert_entry, is_at}
 use Rattle.std.specs.Cmp.Lexicographic.{slice_cmp}
 use Rattle.std.specs.List.{AllByRecursion}

@@ -1,25 +1,19 @@
 -- The value that the compact text of a value stands for is the value.
-use Rattle.std.proofs.Common.{◌≡◌, ℕ, suc, max, ◌+◌, ◌≤◌, ◌<◌, ◌^◌, ◌==◌, pos, negsuc, List, [], ◌∷◌, ◌++◌, length, Bool, true, false, cond, decimal, drop, get_or, Some, option_and_then, refl, sym, ap, ◌∙◌, arith, append-nil, length-append}
-use Rattle.std.specs.Fmt.{signed_decimal}
-use Rattle.std.proofs.lemmas.Bool.{ne_eqb}
-use Rattle.std.proofs.lemmas.Fmt.{first_decimal}
+use Rattle.std.proofs.Common.{◌≡◌, ◌+◌, ◌≤◌, [], ◌∷◌, ◌++◌, length, Bool, true, false, Some, option_and_then, sym, ap, ◌∙◌, arith, append-nil, length-append}
 use Rattle.json.specs.Json as json
 use Rattle.json.specs.Lex.{tokens}
-use Rattle.json.specs.Print.{IsNumber, print, quoted}
+use Rattle.json.specs.Print.{quoted}
 use Rattle.json.specs.Tree as tree
-use Rattle.json.proofs.Printed.Decimals.{IsNumber-decimal}
 use Rattle.json.proofs.Printed.Tokens.{tokens-print}
 use Rattle.json.proofs.Printed.Trees.{value-json_tokens, ArePrintable-json_tokens}
-use Rattle.json.specs.Tree.{HasNumbers, ItemsHaveNumbers, MembersHaveNumbers}
-use Rattle.json.specs.Word.{after_exponent, after_fraction, after_number, after_whole, head}
 use Rattle.serde_json.specs.Read.{of_json}
 use Rattle.serde_json.specs.Written.{items_outline, members_outline, outline, comma_if}
 use Rattle.mg_value.specs.Value.{Value, null, flag, whole, text, list, object, Items, no_items, item, Members, no_members, member, depth, items_depth, members_depth}
 use Rattle.mg_value.specs.Held.{IsHeld, ItemsAreHeld, MembersAreHeld, tokens_of}
 use Rattle.mg_value.specs.Stored.{IsStored, AreStored, MembersAreStored}
 use Rattle.mg_value.specs.Text.{compact, compact_items, compact_members, data_items, data_members, data_of, whole_of}
-use Rattle.mg_value.proofs.Compact.{printed}
-use Rattle.mg_packed.proofs.Outlines.{of_json-outline, whole_of-data_of}
+use Rattle.mg_value.proofs.Compact.{numbers, printed}
+use Rattle.mg_value.proofs.Written.{of_json-outline, whole_of-data_of}
 use Rattle.mg_packed.specs.Read.{or_null, value_in}
 
 -- ---- what a `Json` can hold is held
@@ -40,37 +34,6 @@ mutual
   members_held : (ms : Members) → MembersAreStored ms → MembersAreHeld ms
   members_held no_members s = tt
   members_held (member k v ms) s = (s.0, held v s.2, members_held ms s.3)
-
--- ---- the decimal text of each number is a JSON number
-
-no_sign : (ds : List ℕ) → 48 < get_or ds 0 0 → (head ds == 45) ≡ false
-no_sign [] h = absurd (omega arith)
-no_sign (d ∷ ds) h = ne_eqb d 45 (λ e. omega arith)
-
-negative : (ds : List ℕ) → (head ds == 45) ≡ false → IsNumber ds → IsNumber (45 ∷ ds)
-unfolding after_number
-negative ds e h = sym (ap (λ b. option_and_then after_exponent (option_and_then after_fraction (after_whole (cond b (drop 1 ds) ds)))) e) ∙ h
-
-below_zero : (n : ℕ) → suc n < 2 ^ 64 → IsNumber (signed_decimal (negsuc n))
-below_zero n small = negative (decimal (suc n)) (no_sign (decimal (suc n)) (first_decimal (suc n) (omega arith) small)) (IsNumber-decimal (suc n) small)
-
-mutual
-  numbers : (v : Value) → IsHeld v → HasNumbers (outline (data_of v))
-  numbers null h = tt
-  numbers (flag b) h = tt
-  numbers (whole (pos n)) h = IsNumber-decimal n (grind arith)
-  numbers (whole (negsuc n)) h = below_zero n (grind arith)
-  numbers (text s) h = tt
-  numbers (list vs) h = items_numbers vs h
-  numbers (object ms) h = members_numbers ms h
-
-  items_numbers : (vs : Items) → ItemsAreHeld vs → ItemsHaveNumbers (items_outline (data_items vs))
-  items_numbers no_items h = tt
-  items_numbers (item v vs) h = (numbers v h.0, items_numbers vs h.1)
-
-  members_numbers : (ms : Members) → MembersAreHeld ms → MembersHaveNumbers (members_outline (data_members ms))
-  members_numbers no_members h = tt
-  members_numbers (member k v ms) h = (numbers v h.1, members_numbers ms h.2)
 
 -- ---- a value nests no deeper than its text is long
 

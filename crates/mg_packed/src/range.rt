@@ -1,6 +1,6 @@
 // Copies contiguous pieces of a container into one that is being written: their text and their tables in one piece each, and their marks moved.
 // Errors: `NoMemory` if an allocation fails; the buffers may then have more bytes than before.
-ghost use Rattle.std.specs.Prelude.{◌≡◌, ◌-◌, ◌<◌, ◌≤◌, ◌++◌, ◌^◌, length, nat_lt, OnOk};
+ghost use Rattle.std.specs.Prelude.{◌≡◌, ◌-◌, ◌<◌, ◌++◌, ◌^◌, length, nat_lt, OnOk};
 ghost use Rattle.mg_packed.specs.Tables.{lead};
 ghost use Rattle.mg_packed.specs.Read.{IsHead, HasMark};
 ghost use Rattle.mg_packed.specs.Writing.{here, IsSomeOpen, HasMarks, mark_in, moved, range_text, range_tables};

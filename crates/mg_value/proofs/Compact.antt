@@ -33,7 +33,7 @@ below_zero : (n : ℕ) → suc n < 2 ^ 64 → IsNumber (signed_decimal (negsuc n
 below_zero n small = negative (decimal (suc n)) (no_sign (decimal (suc n)) (first_decimal (suc n) (omega arith) small)) (IsNumber-decimal (suc n) small)
 
 mutual
-  numbers : (v : Value) → IsHeld v → HasNumbers (outline (data_of v))
+  pub numbers : (v : Value) → IsHeld v → HasNumbers (outline (data_of v))
   numbers null h = tt
   numbers (flag b) h = tt
   numbers (whole (pos n)) h = IsNumber-decimal n (grind arith)

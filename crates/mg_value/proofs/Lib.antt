@@ -3,7 +3,7 @@ pub mod Lookup
 pub mod Items
 mod Whole
 mod Texts
-mod Written
+pub mod Written
 pub mod Trees
 pub mod Compact
 pub mod Names

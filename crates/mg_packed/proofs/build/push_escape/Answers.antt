@@ -1,4 +1,4 @@
-use Rattle.std.proofs.Common.{rules, arith}
+use Rattle.std.proofs.Common.{rules}
 use Rattle.json.specs.Print.{escape_byte}
 use Rattle.mg_packed.proofs.build.push_escape.Goals as goal
 

@@ -1,4 +1,4 @@
-use Rattle.std.proofs.Common.{◌≤◌, arith}
+use Rattle.std.proofs.Common.{arith}
 use Rattle.mg_packed.proofs.range.copy_range.Goals as goal
 
 pub mark-from-requires-clause-has_mark : goal.mark-from-requires-clause-has_mark

@@ -1,9 +1,8 @@
-use Rattle.std.proofs.Common.{◌≡◌, ◌-◌, [], ◌∷◌, ◌++◌, sym, ap, ◌∙◌, arith}
+use Rattle.std.proofs.Common.{◌-◌, [], ◌++◌, ap, ◌∙◌}
 use Rattle.mg_value.specs.Text.{compact}
-use Rattle.mg_value.specs.Value.{object, text, put, member, no_members}
+use Rattle.mg_value.specs.Value.{object, text, put}
 use Rattle.mg_packed.specs.Read.{value_in}
-use Rattle.mg_packed.specs.Tables.{tables, member_pieces}
-use Rattle.mg_packed.specs.Walk.{part}
+use Rattle.mg_packed.specs.Tables.{tables}
 use Rattle.mg_packed.proofs.Filled.{object_text, object_tables}
 use Rattle.mg_packed.proofs.Put.{put_stored}
 use Rattle.mg_packed.proofs.Ranges.{put_made}

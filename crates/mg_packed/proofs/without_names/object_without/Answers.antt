@@ -1,11 +1,11 @@
-use Rattle.std.proofs.Common.{◌≡◌, ◌+◌, ◌-◌, ◌≤◌, [], ◌∷◌, ◌++◌, length, sym, ap, ◌∙◌, arith}
+use Rattle.std.proofs.Common.{◌+◌, ◌-◌, [], ◌++◌, length, ap, ◌∙◌, arith}
 use Rattle.mg_value.specs.Text.{compact}
 use Rattle.mg_value.specs.Value.{object, member_list}
 use Rattle.mg_packed.specs.Front.{without_names_beginning}
 use Rattle.mg_packed.specs.Read.{value_in}
 use Rattle.mg_packed.specs.Tables.{tables, member_pieces}
 use Rattle.mg_packed.proofs.Filled.{object_text, object_tables}
-use Rattle.mg_packed.proofs.Fronts.{below_ordered, below_within, front_parts, stored_without}
+use Rattle.mg_packed.proofs.Fronts.{below_within, front_parts, stored_without}
 use Rattle.mg_packed.proofs.Ranges.{kept_made}
 use Rattle.mg_packed.proofs.Valued.{valued}
 use Rattle.mg_packed.proofs.without_names.object_without.Goals as goal

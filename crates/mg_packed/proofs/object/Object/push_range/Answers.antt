@@ -1,5 +1,5 @@
-use Rattle.std.proofs.Common.{◌≡◌, ◌+◌, ◌-◌, ◌*◌, ◌<◌, ◌++◌, [], length, sym, ap, ◌∙◌, subst, append-nil, arith}
-use Rattle.mg_packed.specs.Tables.{Piece, member_pieces}
+use Rattle.std.proofs.Common.{◌≡◌, ◌+◌, ◌-◌, ◌<◌, ◌++◌, sym, subst, append-nil, arith}
+use Rattle.mg_packed.specs.Tables.{member_pieces}
 use Rattle.mg_packed.specs.Walk.{part}
 use Rattle.mg_packed.specs.Writing.{IsOpen}
 use Rattle.mg_packed.proofs.Filled.{open_kept}

@@ -1,4 +1,4 @@
-use Rattle.std.proofs.Common.{◌≡◌, ◌++◌, ◌∷◌, [], length, nat_lt, rules, sym, ap, ◌∙◌}
+use Rattle.std.proofs.Common.{◌≡◌, ◌++◌, length, nat_lt, rules, ap, ◌∙◌}
 use Rattle.mg_packed.specs.Tables.{all_bytes, word, head}
 use Rattle.mg_packed.proofs.Opened.{here_is, open_text, open_tables}
 use Rattle.mg_packed.proofs.pieces.Pieces.end.Goals as goal

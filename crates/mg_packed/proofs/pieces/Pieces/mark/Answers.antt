@@ -1,6 +1,6 @@
 use Rattle.std.proofs.Common.{◌≡◌, ◌++◌, ◌∷◌, [], length, nat_lt, rules, sym, ap, ◌∙◌}
 use Rattle.mg_packed.specs.Tables.{lead}
-use Rattle.mg_packed.proofs.Opened.{open_next, within}
+use Rattle.mg_packed.proofs.Opened.{open_next}
 use Rattle.mg_packed.proofs.pieces.Pieces.mark.Goals as goal
 
 pub returns-clause-added : goal.returns-clause-added
