@@ -1,6 +1,5 @@
 //! Documents that are dealt anew to another number of shards.
 ghost use Rattle.std.specs.Prelude.{◌≡◌, ◌<◌, All, IfOk, List, Ok, length, map};
-ghost use Rattle.std.specs.Arc.{arc_value};
 ghost use Rattle.std.specs.List.{AllByRecursion};
 ghost use Rattle.std.specs.Thread.{IsSync};
 ghost use Rattle.mg_index.specs.Catalog.{IsCatalog};
@@ -95,14 +94,14 @@ fn index_over<R: Threads + Sync>(
     rt: &R,
     alloc: Global,
     shard: &Shard,
-    definition: &Arc<IndexDef>,
+    definition: &IndexDef,
     workers: usize,
 ) -> Result<IndexEntry, NoMemory>
-    ensures definition { IfOk result (λ x. x.0 ≡ arc_value definition.now) }
+    ensures definition { IfOk result (λ x. x.0 ≡ definition.now) }
     ensures rows { IfOk result (λ x. HasRows shard.now.documents x) }
 {
     let rows = shard.rows_for(rt, alloc, definition, workers)?;
-    let index = IndexEntry::of(alloc, definition.clone()?, rows)?;
+    let index = IndexEntry::of(alloc, definition.copy()?, rows)?;
     Ok(index)
 }
 
