@@ -132,7 +132,7 @@ def created(n):
 
 
 def indexes(n):
-    """n indexes, one after another: each commit copies all definitions, so the cost is a product."""
+    """n indexes, one after another: each commit copies the list of all definitions, so the cost is a product."""
     return created(n), b'{"id":"_design/x","name":"i%04d","result":"created"}\n' % (n - 1)
 
 

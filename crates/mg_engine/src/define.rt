@@ -1,5 +1,5 @@
 //! The commands on indexes.
-ghost use Rattle.std.specs.Prelude.{◌≡◌, ◌∷◌, codes, IfOk, Ok, Some, true, is_some, length, map, unwrap_or, if◌then◌else◌};
+ghost use Rattle.std.specs.Prelude.{◌≡◌, ◌<◌, ◌≤◌, ◌∷◌, codes, IfOk, Ok, Some, true, is_some, length, map, unwrap_or, if◌then◌else◌};
 ghost use Rattle.mg_value.specs.View.{view};
 ghost use Rattle.mg_index.specs.Definition.{listed_all_docs, listed_of};
 ghost use Rattle.mg_index.specs.Catalog.{definition_at, with_definition};
@@ -21,12 +21,15 @@ use crate::reply::Reply;
 use crate::shards::wrap_shards;
 use crate::state::State;
 use mg_index::{Catalog, IndexDef, all_docs_listed, design_document};
-use mg_scan::{NoGate, build};
+use mg_scan::{NoGate, Workers, build};
 use mg_shard::Shard;
 use mg_value::{Json, NoMemory};
 use std::alloc::Global;
 use std::sync::Arc;
 use std::thread::Threads;
+
+// An index over at most this many documents is small: to start a thread for each shard costs more than to read them.
+const SMALL_INDEX: usize = 4_000;
 
 impl State {
     /// Creates an index; an index of the same design document and name is replaced. Returns the reply, and the next state. If the body
@@ -201,6 +204,29 @@ fn created_line(alloc: Global, definition: &IndexDef, there: bool) -> Result<Vec
     line(alloc, &created)
 }
 
+// Whether the shards have at most `SMALL_INDEX` documents, deleted ones too.
+fn is_small(shards: &[Arc<Shard>]) -> bool {
+    let mut left = SMALL_INDEX;
+    for shard in shards {
+        let count = shard.count_docs().saturating_add(shard.count_deleted());
+        if count > left {
+            return false;
+        }
+        left -= count;
+    }
+    true
+}
+
+// Returns how many workers build an index: one if it is small, and the number of workers is only a maximum.
+fn count_builders(workers: Workers, shards: &[Arc<Shard>]) -> usize
+    ensures { (0 < result) × (result ≤ 32) }
+{
+    if workers.is_alone(is_small(shards)) {
+        return 1;
+    }
+    workers.count()
+}
+
 // Builds an index of this definition on each shard. Returns the shards with it; the given shards do not change.
 fn build_on_all<R: Threads + Sync, G>(
     context: &Context<'_, R, G>,
@@ -211,7 +237,7 @@ fn build_on_all<R: Threads + Sync, G>(
         (λ v. shards_view v.items ≡ map (with_index definition.now) (shards_view shards.now)) }
 {
     let alloc = context.alloc;
-    let workers = context.workers.count();
+    let workers = count_builders(context.workers, shards);
     let built = build(context.rt, alloc, shards, definition, workers, &NoGate)?;
     wrap_shards(alloc, built)
 }

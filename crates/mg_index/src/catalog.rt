@@ -1,6 +1,6 @@
 ghost use Rattle.std.specs.Prelude.{◌≡◌, ◌≢◌, List, [], ◌∷◌, IfOk, OnOk, OnErr, Ok, None, Some, true, option_map, is_some};
 ghost use Rattle.mg_index.specs.Catalog.{IsCatalog, definition_at, with_definition, without_definition};
-ghost use Rattle.mg_index.specs.Places.{IsPlaceOf, IsSlotOf};
+ghost use Rattle.mg_index.specs.Places.{IsSlotOf, name_order};
 ghost use Rattle.mg_index.specs.Same.{is_there};
 
 use crate::definition::IndexDef;
@@ -24,8 +24,8 @@ pub enum Added {
     Exists,
 }
 
-// Where a definition goes: in the place of one with its design document and name, or before the definition at a
-// place, or at the end if there is no definition at that place.
+// Where a definition of a design document and name goes: in the place of the one that has both, or, if there is no
+// such definition, before the one at a place, or at the end.
 #[derive(Clone, Copy, Debug)]
 enum Slot {
     At(usize),
@@ -60,24 +60,26 @@ impl Catalog {
     /// Finds the definition of this design document and name; `None` if there is no such definition. Takes no
     /// memory.
     ///
-    /// Cost: linear in the number of definitions. `ddoc` is compared byte for byte, so it needs its
+    /// Cost: the logarithm of the number of definitions. `ddoc` is compared byte for byte, so it needs its
     /// `_design/`.
     pub fn find(&self, ddoc: &str, name: &str) -> Option<&IndexDef>
         ensures { option_map (λ d. d.now) result ≡ definition_at ddoc.now name.now self.now }
     {
-        definition_at(&self.definitions, ddoc, name)
+        match slot_of(&self.definitions, ddoc, name) {
+            Slot::At(place) => Some(&self.definitions[place]),
+            Slot::Before(_) => None,
+        }
     }
 
     /// Whether the catalog has a definition equal to this one; if so, adding this one changes nothing. Takes no
-    /// memory. Cost: linear in the number of definitions.
+    /// memory. Cost: that of `find`.
     pub fn has(&self, definition: &IndexDef) -> bool
         ensures there { result ≡ is_there definition.now self.now }
         ensures same { result ≡ true → with_definition definition.now self.now ≡ self.now }
     {
-        let found = definition_at(&self.definitions, definition.ddoc(), definition.name());
-        match found {
-            Some(found) => definition.is_same(found),
-            None => false,
+        match slot_of(&self.definitions, definition.ddoc(), definition.name()) {
+            Slot::At(place) => definition.is_same(&self.definitions[place]),
+            Slot::Before(_) => false,
         }
     }
 
@@ -95,7 +97,7 @@ impl Catalog {
     /// changed. Otherwise returns `Created`.
     ///
     /// Errors: `NoMemory` if an allocation fails, which only a definition with a new design document and name
-    /// needs; then nothing has changed. Cost: linear in the number of definitions.
+    /// needs; then nothing has changed. Cost: that of `find`, and for a new definition a move of those after it.
     pub fn add(&mut self, definition: IndexDef) -> Result<Added, NoMemory>
         ensures ok { OnOk result (self.new ≡ with_definition definition self.old) }
         ensures exists { result ≡ Ok Added.Exists
@@ -106,7 +108,7 @@ impl Catalog {
         ensures room { OnErr result
             (definition_at definition.ddoc definition.name self.old ≡ None) }
     {
-        match slot_of(&self.definitions, &definition) {
+        match slot_of(&self.definitions, definition.ddoc(), definition.name()) {
             Slot::At(place) => {
                 let added = if definition.is_same(&self.definitions[place]) {
                     Added::Exists
@@ -126,22 +128,25 @@ impl Catalog {
     /// Removes the definition of this design document and name, and returns whether there was one. Takes no
     /// memory.
     ///
-    /// Cost: linear in the number of definitions. `ddoc` is compared byte for byte, so it needs its
-    /// `_design/`.
+    /// Cost: that of `find`, and a move of the definitions after it. `ddoc` is compared byte for byte, so it needs
+    /// its `_design/`.
     pub fn remove(&mut self, ddoc: &str, name: &str) -> bool
         ensures removed { result ≡ is_some (definition_at ddoc.now name.now self.old) }
         ensures rest { self.new ≡ without_definition ddoc.now name.now self.old }
     {
-        match place_of(&self.definitions, ddoc, name) {
-            Some(place) => {
+        match slot_of(&self.definitions, ddoc, name) {
+            Slot::At(place) => {
                 drop(self.definitions.remove(place));
                 true
             }
-            None => false,
+            Slot::Before(_) => false,
         }
     }
 
-    /// Copies the catalog. Errors: `NoMemory` if an allocation fails. Cost: its size.
+    /// Copies the catalog. The copy shares the definitions.
+    ///
+    /// Errors: `NoMemory` if an allocation fails, or a definition has 2^63 - 1 copies already. Cost: the number of
+    /// definitions.
     pub fn copy(&self, alloc: Global) -> Result<Catalog, NoMemory>
         ensures { IfOk result (λ c. c ≡ self.now) }
     {
@@ -151,39 +156,31 @@ impl Catalog {
     }
 }
 
-// Finds the definition of this design document and name; `None` if there is no such definition.
-fn definition_at<'a>(definitions: &'a [IndexDef], ddoc: &str, name: &str) -> Option<&'a IndexDef>
-    ensures { option_map (λ d. d.now) result ≡ definition_at ddoc.now name.now definitions.now }
+// Compares a design document and a name with those of a definition, in the order of a catalog.
+fn order(ddoc: &str, name: &str, definition: &IndexDef) -> Ordering
+    ensures { result ≡ name_order ddoc.now name.now definition.now }
 {
-    definitions.iter().find(|d| d.is_named(ddoc, name))
+    let by_ddoc = ddoc.cmp(definition.ddoc());
+    by_ddoc.then(name.cmp(definition.name()))
 }
 
-// Finds the place of the definition of this design document and name; `None` if there is no such definition.
-fn place_of(definitions: &[IndexDef], ddoc: &str, name: &str) -> Option<usize>
-    ensures { IsPlaceOf ddoc.now name.now definitions.now result }
-{
-    for (place, definition) in definitions.iter().enumerate() {
-        if definition.is_named(ddoc, name) {
-            return Some(place);
-        }
-    }
-    None
-}
-
-// Finds the place of the definition with this one's design document and name, or the place where this one is to be
-// inserted.
-fn slot_of(definitions: &[IndexDef], definition: &IndexDef) -> Slot
+// Finds the place of the definition of this design document and name, or the place where one is to be inserted. Cost:
+// the logarithm of the number of definitions.
+fn slot_of(definitions: &[IndexDef], ddoc: &str, name: &str) -> Slot
     requires { IsCatalog definitions.now }
-    ensures { IsSlotOf definition.now definitions.now result }
+    ensures { IsSlotOf ddoc.now name.now definitions.now result }
 {
-    for (place, other) in definitions.iter().enumerate() {
-        match definition.order(other) {
-            Ordering::Less => return Slot::Before(place),
-            Ordering::Equal => return Slot::At(place),
-            Ordering::Greater => {}
+    let mut low = 0;
+    let mut high = definitions.len();
+    while low < high {
+        let middle = low + (high - low) / 2;
+        match order(ddoc, name, &definitions[middle]) {
+            Ordering::Greater => low = middle + 1,
+            Ordering::Less => high = middle,
+            Ordering::Equal => return Slot::At(middle),
         }
     }
-    Slot::Before(definitions.len())
+    Slot::Before(low)
 }
 
 fn copy_definitions(alloc: Global, definitions: &[IndexDef]) -> Result<Vec<IndexDef>, NoMemory>
@@ -191,7 +188,7 @@ fn copy_definitions(alloc: Global, definitions: &[IndexDef]) -> Result<Vec<Index
 {
     let mut copy = Vec::with_capacity(alloc, definitions.len())?;
     for definition in definitions {
-        copy.push(definition.copy(alloc)?)?;
+        copy.push(definition.copy()?)?;
     }
     Ok(copy)
 }

@@ -13,15 +13,23 @@ use crate::listing::fields_json;
 use crate::reader;
 use mg_collate::Direction;
 use mg_path::Path;
-use mg_value::{Json, NoMemory, copy_texts};
+use mg_value::{Json, NoMemory};
 use std::alloc::Global;
 use std::cmp::Ordering;
 use std::marker::Model;
+use std::sync::Arc;
 
 /// An index definition: the design document and the name that identify it, its columns (at least one), and
-/// the direction that was given for them. An index can be read in both directions.
+/// the direction that was given for them. An index can be read in both directions. Copies of a definition share
+/// its block of memory.
 #[derive(Debug, Drop)]
 pub struct IndexDef {
+    parts: Arc<Parts>,
+}
+
+// What the block of a definition holds.
+#[derive(Debug, Drop)]
+pub(crate) struct Parts {
     pub(crate) ddoc: String,
     pub(crate) name: String,
     // the texts of the columns' paths, as they were given
@@ -31,6 +39,17 @@ pub struct IndexDef {
 }
 
 impl Model for IndexDef {
+    ghost use Rattle.std.specs.Arc.{arc_value};
+    ghost use Rattle.mg_index.specs.Definition.{IndexDefinition, definition_code};
+
+    ghost Value = { IndexDefinition };
+
+    ghost coded = { definition_code };
+
+    ghost view = { λ d. arc_value d.parts };
+}
+
+impl Model for Parts {
     ghost use Rattle.std.specs.Prelude.{map, string_bytes};
     ghost use Rattle.mg_index.specs.Definition.{IndexDefinition, definition_code};
 
@@ -38,12 +57,12 @@ impl Model for IndexDef {
 
     ghost coded = { definition_code };
 
-    ghost view = { λ d. record {
-      ddoc = string_bytes d.ddoc;
-      name = string_bytes d.name;
-      texts = map string_bytes d.texts.items;
-      columns = d.columns.items;
-      direction = d.direction;
+    ghost view = { λ p. record {
+      ddoc = string_bytes p.ddoc;
+      name = string_bytes p.name;
+      texts = map string_bytes p.texts.items;
+      columns = p.columns.items;
+      direction = p.direction;
     } };
 }
 
@@ -71,32 +90,40 @@ impl IndexDef {
         }
     }
 
+    // Puts the parts of a definition into a block. Errors: `NoMemory` if the allocation fails.
+    pub(crate) fn of(alloc: Global, parts: Parts) -> Result<IndexDef, NoMemory>
+        ensures { IfOk result (λ d. d ≡ parts) }
+    {
+        let parts = Arc::new(alloc, parts)?;
+        Ok(IndexDef { parts })
+    }
+
     /// Returns the name of the design document, which begins with `_design/`. Takes no memory.
     pub fn ddoc(&self) -> &str
         ensures { result.now ≡ self.now.ddoc }
     {
-        &self.ddoc
+        &self.parts.ddoc
     }
 
     /// Returns the name of the index. Takes no memory.
     pub fn name(&self) -> &str
         ensures { result.now ≡ self.now.name }
     {
-        &self.name
+        &self.parts.name
     }
 
     /// Returns the columns, in order. Takes no memory.
     pub fn columns(&self) -> &[Path]
         ensures { result.now ≡ self.now.columns }
     {
-        &self.columns
+        &self.parts.columns
     }
 
     /// Returns the direction that was given for the columns. Takes no memory.
     pub fn direction(&self) -> Direction
         ensures { result ≡ self.now.direction }
     {
-        self.direction
+        self.parts.direction
     }
 
     /// Makes the JSON in which the index is listed, with the texts of its paths as they were given:
@@ -106,33 +133,30 @@ impl IndexDef {
     pub fn listed(&self, alloc: Global) -> Result<Json, NoMemory>
         ensures { IfOk result (λ v. json_view v ≡ listed_of self.now) }
     {
-        let fields = fields_json(alloc, self.direction, &self.texts)?;
+        let fields = fields_json(alloc, self.parts.direction, &self.parts.texts)?;
         let mut listed = Json::empty_object(alloc);
         listed.insert(alloc, "type", Json::Text(String::from_str(alloc, "json")?))?;
-        listed.insert(alloc, "name", Json::Text(self.name.clone()?))?;
+        listed.insert(alloc, "name", Json::Text(self.parts.name.clone()?))?;
         listed.insert(alloc, "def", fields)?;
-        listed.insert(alloc, "ddoc", Json::Text(self.ddoc.clone()?))?;
+        listed.insert(alloc, "ddoc", Json::Text(self.parts.ddoc.clone()?))?;
         Ok(listed)
     }
 
-    /// Copies the definition. Errors: `NoMemory` if an allocation fails. Cost: its size.
-    pub fn copy(&self, alloc: Global) -> Result<IndexDef, NoMemory>
+    /// Copies the definition: the copy shares its block. Takes no memory. Cost: constant.
+    ///
+    /// Errors: `NoMemory` if the definition has 2^63 - 1 copies already.
+    pub fn copy(&self) -> Result<IndexDef, NoMemory>
         ensures { IfOk result (λ d. d ≡ self.now) }
     {
-        Ok(IndexDef {
-            ddoc: self.ddoc.clone()?,
-            name: self.name.clone()?,
-            texts: copy_texts(alloc, &self.texts)?,
-            columns: copy_paths(alloc, &self.columns)?,
-            direction: self.direction,
-        })
+        let parts = self.parts.clone()?;
+        Ok(IndexDef { parts })
     }
 
     /// Whether the definition has this design document and name. Takes no memory. Cost: the length of both texts.
     pub fn is_named(&self, ddoc: &str, name: &str) -> bool
         ensures { result ≡ is_named ddoc.now name.now self.now }
     {
-        name == self.name.as_str() && ddoc == self.ddoc.as_str()
+        name == self.name() && ddoc == self.ddoc()
     }
 
     /// Compares two definitions in the order of a catalog: by design document, then name. Takes no memory. Cost:
@@ -140,8 +164,8 @@ impl IndexDef {
     pub fn order(&self, other: &IndexDef) -> Ordering
         ensures { result ≡ definition_order self.now other.now }
     {
-        let by_ddoc = self.ddoc.as_str().cmp(other.ddoc.as_str());
-        by_ddoc.then(self.name.as_str().cmp(other.name.as_str()))
+        let by_ddoc = self.ddoc().cmp(other.ddoc());
+        by_ddoc.then(self.name().cmp(other.name()))
     }
 
     /// Whether the definitions are equal: in design document, name, path texts, columns and direction. Takes no
@@ -149,10 +173,10 @@ impl IndexDef {
     pub fn is_same(&self, other: &IndexDef) -> bool
         ensures { result ≡ is_same_definition self.now other.now }
     {
-        self.is_named(other.ddoc.as_str(), other.name.as_str())
-            && self.direction == other.direction
-            && are_same_texts(&self.texts, &other.texts)
-            && self.columns == other.columns
+        self.is_named(other.ddoc(), other.name())
+            && self.direction() == other.direction()
+            && are_same_texts(&self.parts.texts, &other.parts.texts)
+            && self.columns() == other.columns()
     }
 }
 
@@ -167,14 +191,4 @@ fn are_same_texts(texts: &[String], others: &[String]) -> bool
     ensures { result ≡ path_eq (map string_bytes texts.now) (map string_bytes others.now) }
 {
     texts == others
-}
-
-fn copy_paths(alloc: Global, paths: &[Path]) -> Result<Vec<Path>, NoMemory>
-    ensures { IfOk result (λ copy. copy.items ≡ paths.now) }
-{
-    let mut copy = Vec::with_capacity(alloc, paths.len())?;
-    for path in paths {
-        copy.push(path.copy(alloc)?)?;
-    }
-    Ok(copy)
 }

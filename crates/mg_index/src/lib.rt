@@ -1,11 +1,11 @@
 //! Index definitions, the catalog of a database's indexes, and the choice of the index that serves a query.
 //!
 //! Promises. `IndexDef::read` returns the definition of a body or its fault (`Shape` before `Mixed`),
-//! which lack of memory never hides (`refused`). A `Catalog` is a list by design document, then name
-//! (`in_order`), with `find`, `add`, `remove` and `has`; `add` needs memory only for a definition whose
-//! design document and name are new (`room`). `choose` returns the index that the definition chooses for
-//! atoms, sort and hint, or `NoUsableIndex`. Laws: preference is a total order, and no usable index is
-//! preferred to the chosen one.
+//! which lack of memory never hides (`refused`). Copies of a definition share its block. A `Catalog` is a
+//! list by design document, then name (`in_order`), with `find`, `add`, `remove` and `has`; `add` needs
+//! memory only for a definition whose design document and name are new (`room`). `choose` returns the index
+//! that the definition chooses for atoms, sort and hint, or `NoUsableIndex`. Laws: preference is a total
+//! order, and no usable index is preferred to the chosen one.
 #![tactic(auto)]
 
 mod bound;

@@ -6,7 +6,7 @@ ghost use Rattle.mg_index.specs.Reading.{ReadsAs, definition_of, columns_read, i
 ghost use Rattle.mg_index.specs.View.{columns_view};
 
 use crate::column::{Columns, read_columns};
-use crate::definition::IndexDef;
+use crate::definition::{IndexDef, Parts};
 use crate::error::IndexError;
 use crate::listing::{design_document, fields_digest};
 use mg_value::{Json, NoMemory};
@@ -72,13 +72,14 @@ fn name_definition(
         Some(name) => String::from_str(alloc, name)?,
         None => digest,
     };
-    Ok(IndexDef {
+    let parts = Parts {
         ddoc,
         name,
         texts: columns.texts,
         columns: columns.paths,
         direction: columns.direction,
-    })
+    };
+    IndexDef::of(alloc, parts)
 }
 
 // Whether the body asks for an index of type `json` that is neither filtered nor partitioned.

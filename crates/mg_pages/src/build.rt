@@ -12,7 +12,7 @@ use std::alloc::{AllocError, Global};
 pub fn make_pages<T: Keyed>(alloc: Global, elements: &[T]) -> Result<Vec<Child<T>>, AllocError>
     ensures { IfOk result (λ v. elements_of v.items ≡ elements.now) }
 {
-    let mut pages = Vec::new(alloc);
+    let mut pages = Vec::with_capacity(alloc, elements.len().div_ceil(PAGE_FILL))?;
     let mut rest = elements;
     while rest.len() > 0 {
         let (chunk, others) = rest.split_at(rest.len().min(PAGE_FILL));
@@ -29,7 +29,7 @@ pub fn group<T: Keyed>(alloc: Global, children: &[Child<T>]) -> Result<Vec<Child
     requires { length (elements_of children.now) < 2 ^ 64 }
     ensures { IfOk result (λ v. elements_of v.items ≡ elements_of children.now) }
 {
-    let mut levels = Vec::new(alloc);
+    let mut levels = Vec::with_capacity(alloc, children.len().div_ceil(LEVEL_FILL))?;
     let mut rest = children;
     while rest.len() > 0 {
         let (chunk, others) = rest.split_at(rest.len().min(LEVEL_FILL));

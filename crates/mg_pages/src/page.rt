@@ -1,10 +1,11 @@
 //! What is asked of one page, and how it changes.
-ghost use Rattle.std.specs.Prelude.{is_some, ◌≡◌, length, option_map, IfOk, OnOk, OnErr};
+ghost use Rattle.std.specs.Prelude.{is_some, ◌≡◌, ◌≤◌, ◌++◌, ◌∷◌, drop, length, option_map, take, IfOk, OnOk, OnErr};
 ghost use Rattle.mg_pages.specs.Order.{Ascends, above, below, found, inserted, removed};
 ghost use Rattle.mg_pages.specs.Runs.{IsEndRun, IsRun};
 
 use crate::keyed::{Keyed, Probe};
 use crate::search::find;
+use crate::sizes::PAGE_STEP;
 use std::alloc::AllocError;
 
 /// Finds the element that ties with a key.
@@ -51,6 +52,20 @@ pub fn before_in_page<'a, T: Keyed, Q: Probe<T>>(elements: &'a [T], key: &Q) -> 
     }
 }
 
+// Inserts an element at a place of a page. A full page gets room for some more elements.
+fn insert_at<T: Keyed>(elements: &mut Vec<T>, i: usize, element: T) -> Result<(), AllocError>
+    requires { i ≤ length elements.old.items }
+    ensures ok { OnOk result (elements.new.items
+        ≡ take i elements.old.items ++ element ∷ drop i elements.old.items) }
+    ensures err { OnErr result (elements.new.items ≡ elements.old.items) }
+{
+    if elements.len() == elements.capacity() {
+        elements.reserve_exact(elements.len().min(PAGE_STEP))?;
+    }
+    elements.insert(i, element)?;
+    Ok(())
+}
+
 /// Inserts an element, and returns whether it replaced one that ties with it.
 pub fn put_in_page<T: Keyed>(elements: &mut Vec<T>, element: T) -> Result<bool, AllocError>
     requires { Ascends T.order elements.old.items }
@@ -64,7 +79,7 @@ pub fn put_in_page<T: Keyed>(elements: &mut Vec<T>, element: T) -> Result<bool, 
             Ok(true)
         }
         Err(i) => {
-            elements.insert(i, element)?;
+            insert_at(elements, i, element)?;
             Ok(false)
         }
     }

@@ -6,6 +6,9 @@ pub const PAGE_LIMIT: usize = 64;
 /// How many elements a page gets when a collection is built: fewer than the most, so that the next insertions find room.
 pub const PAGE_FILL: usize = 48;
 
+/// For how many more elements a full page gets room, but at most twice its own: one that doubled would have room that it seldom fills.
+pub const PAGE_STEP: usize = 8;
+
 /// Neighbouring pages with no more elements than this together are joined.
 pub const PAGE_JOIN: usize = 32;
 

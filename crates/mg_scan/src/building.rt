@@ -1,6 +1,5 @@
 //! Builds indexes over shards, and extracts their rows in parallel.
 ghost use Rattle.std.specs.Prelude.{◌≡◌, ◌+◌, ◌^◌, ◌<◌, ◌≤◌, List, Some, length, map, slice_get, vec_len, IfOk};
-ghost use Rattle.std.specs.Arc.{arc_value};
 ghost use Rattle.mg_scan.specs.Built.{with_index};
 ghost use Rattle.mg_scan.specs.Building.{AreRowsAt, AreRowsFrom, HasRowsAt};
 ghost use Rattle.mg_index.specs.Definition.{IndexDefinition};
@@ -141,14 +140,14 @@ fn extract<R: Threads + Sync, G: Gate + Sync>(
 fn index_shard(
     alloc: Global,
     shards: &[Arc<Shard>],
-    definition: &Arc<IndexDef>,
+    definition: &IndexDef,
     i: usize,
     rows: Result<Pages<RowBytes>, NoMemory>,
 ) -> Result<Shard, NoMemory>
     requires inside { i < length shards.now }
-    requires rows { HasRowsAt (arc_value definition.now) (shards_view shards.now) i rows }
+    requires rows { HasRowsAt definition.now (shards_view shards.now) i rows }
     ensures { IfOk result
-        (λ s. slice_get (map (with_index (arc_value definition.now)) (shards_view shards.now)) i ≡ Some s) }
+        (λ s. slice_get (map (with_index definition.now) (shards_view shards.now)) i ≡ Some s) }
 {
     let shard: &Shard = &shards[i];
     Ok(shard.with_pages(alloc, definition, rows?)?)
@@ -169,18 +168,17 @@ fn take_rows(
     replace(&mut given[i], Err(NoMemory))
 }
 
-// Makes the shards, each with an index of this definition that has the rows given for the shard. The shards share the definition. Errors:
-// the first error given in place of rows, or `NoMemory` if an allocation fails.
+// Makes the shards, each with an index of this definition that has the rows given for the shard. Errors: the first error given in place of
+// rows, or `NoMemory` if an allocation fails.
 fn index_shards(
     alloc: Global,
     shards: &[Arc<Shard>],
-    definition: &Arc<IndexDef>,
+    definition: &IndexDef,
     given: Vec<Result<Pages<RowBytes>, NoMemory>>,
 ) -> Result<Vec<Shard>, NoMemory>
-    requires rows { AreRowsAt (arc_value definition.now) (shards_view shards.now) given.items }
+    requires rows { AreRowsAt definition.now (shards_view shards.now) given.items }
     requires len { vec_len given ≡ length shards.now }
-    ensures { IfOk result
-        (λ v. v.items ≡ map (with_index (arc_value definition.now)) (shards_view shards.now)) }
+    ensures { IfOk result (λ v. v.items ≡ map (with_index definition.now) (shards_view shards.now)) }
 {
     let mut built = Vec::new(alloc);
     let mut given = given;
@@ -195,7 +193,7 @@ fn index_shards(
 /// Returns the shards, each with an index of this definition, as `Shard::with_index` makes them: an index of the same design document and
 /// name is replaced. The result is the same for every number of workers, 1 to 32, and for every gate. One worker starts no thread. Several
 /// workers take a shard each; if there are at least twice as many workers as shards left, up to two threads for each processor extract the
-/// rows of a shard of 1,000 or more documents. The definition is copied once, and the shards share it.
+/// rows of a shard of 1,000 or more documents.
 ///
 /// The gate is passed before a shard's first document is read, and after its last row is made unless an allocation fails in that shard.
 /// Errors: `NoMemory` if an allocation fails; the given shards stay as they are. Cost: for each shard that of `Shard::rows_for` and of
@@ -212,6 +210,5 @@ pub fn build<R: Threads + Sync, G: Gate + Sync>(
     ensures { IfOk result (λ v. v.items ≡ map (with_index definition.now) (shards_view shards.now)) }
 {
     let given = extract(rt, alloc, shards, definition, workers, gate)?;
-    let shared = Arc::new(alloc, definition.copy(alloc)?)?;
-    index_shards(alloc, shards, &shared, given)
+    index_shards(alloc, shards, definition, given)
 }

@@ -16,7 +16,7 @@ use std::sync::Arc;
 /// An index of a shard: its definition, and its rows by key and id. Both are shared.
 #[derive(Drop)]
 pub(crate) struct IndexEntry {
-    definition: Arc<IndexDef>,
+    definition: IndexDef,
     rows: Arc<Pages<RowBytes>>,
 }
 
@@ -28,18 +28,20 @@ impl Model for IndexEntry {
 
     ghost coded = { index_code };
 
-    ghost view = { λ x. (arc_value x.definition, arc_value x.rows) };
+    ghost view = { λ x. (x.definition, arc_value x.rows) };
 }
 
 impl Element for IndexEntry {
     fn again(&self) -> Result<IndexEntry, AllocError> {
-        let definition = self.definition.clone()?;
         let rows = self.rows.clone()?;
-        Ok(IndexEntry { definition, rows })
+        match self.definition.copy() {
+            Ok(definition) => Ok(IndexEntry { definition, rows }),
+            Err(NoMemory) => Err(AllocError),
+        }
     }
 
     fn owners(&self) -> usize {
-        Arc::strong_count(&self.rows).wrapping_add(Arc::strong_count(&self.definition))
+        Arc::strong_count(&self.rows)
     }
 }
 
@@ -70,7 +72,6 @@ impl<'a> Probe<IndexEntry> for IndexRef<'a> {
 
 impl IndexEntry {
     ghost use Rattle.std.specs.Prelude.{◌≡◌, IfOk, OnOk, option_map};
-    ghost use Rattle.std.specs.Arc.{arc_value};
     ghost use Rattle.std.specs.FinMap.{insert};
     ghost use Rattle.mg_index.specs.Catalog.{is_named};
     ghost use Rattle.mg_shard.specs.Documents.{KeptDocument, KeptDocuments, form_at};
@@ -81,18 +82,18 @@ impl IndexEntry {
     /// Errors: `NoMemory` if an allocation fails. Cost: a block for the top of the rows.
     pub(crate) fn of(
         alloc: Global,
-        definition: Arc<IndexDef>,
+        definition: IndexDef,
         rows: Pages<RowBytes>,
     ) -> Result<IndexEntry, NoMemory>
-        ensures { IfOk result (λ x. x ≡ (arc_value definition, rows)) }
+        ensures { IfOk result (λ x. x ≡ (definition, rows)) }
     {
         let rows = Arc::new(alloc, rows)?;
         Ok(IndexEntry { definition, rows })
     }
 
     /// Returns the definition of the index. Takes no memory.
-    pub(crate) fn definition(&self) -> &Arc<IndexDef>
-        ensures { arc_value result.now ≡ self.now.0 }
+    pub(crate) fn definition(&self) -> &IndexDef
+        ensures { result.now ≡ self.now.0 }
     {
         &self.definition
     }

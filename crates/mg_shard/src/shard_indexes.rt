@@ -1,6 +1,5 @@
 //! Methods of a shard for its indexes: they make the rows of an index, and add or remove an index.
 ghost use Rattle.std.specs.Prelude.{◌≡◌, IfOk};
-ghost use Rattle.std.specs.Arc.{arc_value};
 ghost use Rattle.std.specs.List.{filter_map};
 ghost use Rattle.mg_collate.specs.Row.{rows_view};
 ghost use Rattle.mg_index.specs.Catalog.{with_definition, without_definition};
@@ -19,7 +18,6 @@ use mg_path::Path;
 use mg_rows::{KeyBytes, RowBytes};
 use mg_value::NoMemory;
 use std::alloc::Global;
-use std::sync::Arc;
 use std::thread::Threads;
 
 impl Shard {
@@ -93,15 +91,12 @@ impl Shard {
     fn with(
         &self,
         alloc: Global,
-        definition: Arc<IndexDef>,
+        definition: IndexDef,
         rows: Pages<RowBytes>,
     ) -> Result<Shard, NoMemory>
-        requires { rows ≡ rows_of (arc_value definition).columns (docs_of self.now.documents) }
+        requires { rows ≡ rows_of definition.columns (docs_of self.now.documents) }
         ensures { IfOk result
-            (λ s. s ≡ record self.now {
-              definitions = with_definition
-                  (arc_value definition) self.now.definitions;
-            }) }
+            (λ s. s ≡ record self.now { definitions = with_definition definition self.now.definitions }) }
     {
         let index = IndexEntry::of(alloc, definition, rows)?;
         let indexes = insert_index(alloc, &self.indexes, index)?;
@@ -111,21 +106,19 @@ impl Shard {
 
     /// Makes the shard that also has an index of this definition. It replaces an index of the same design document and name.
     ///
-    /// Errors: `NoMemory` if an allocation fails. Cost: that of `rows_for` with one worker, that of `with_pages`, and a copy of the
-    /// definition.
+    /// Errors: `NoMemory` if an allocation fails. Cost: that of `rows_for` with one worker, and that of `with_pages`.
     pub fn with_index(&self, alloc: Global, definition: &IndexDef) -> Result<Shard, NoMemory>
         ensures { IfOk result
             (λ s. s ≡ record self.now { definitions = with_definition definition.now self.now.definitions }) }
     {
         let rows = self.rows_alone(alloc, definition.columns())?;
-        let definition = Arc::new(alloc, definition.copy(alloc)?)?;
-        self.with(alloc, definition, rows)
+        self.with(alloc, definition.copy()?, rows)
     }
 
     /// Makes the shard that also has an index of this definition with these rows, which must be those that `rows_for` returns, in the same
     /// order. It replaces an index of the same design document and name.
     ///
-    /// Errors: `NoMemory` if an allocation fails. Cost: the bytes of the rows, that of `with_pages`, and a copy of the definition.
+    /// Errors: `NoMemory` if an allocation fails. Cost: the bytes of the rows, and that of `with_pages`.
     pub fn with_rows(
         &self,
         alloc: Global,
@@ -137,28 +130,24 @@ impl Shard {
             (λ s. s ≡ record self.now { definitions = with_definition definition.now self.now.definitions }) }
     {
         let rows = pages_of_rows(alloc, &rows)?;
-        let definition = Arc::new(alloc, definition.copy(alloc)?)?;
-        self.with(alloc, definition, rows)
+        self.with(alloc, definition.copy()?, rows)
     }
 
     /// Makes the shard that also has an index of this definition with these rows, which must be those that `rows_for` returns. It replaces
-    /// an index of the same design document and name. The definition is shared, not copied.
+    /// an index of the same design document and name.
     ///
     /// Errors: `NoMemory` if an allocation fails. Cost: that of `share`, a look-up, and a copy of one page of the list of indexes.
     pub fn with_pages(
         &self,
         alloc: Global,
-        definition: &Arc<IndexDef>,
+        definition: &IndexDef,
         rows: Pages<RowBytes>,
     ) -> Result<Shard, NoMemory>
-        requires { rows ≡ rows_of (arc_value definition.now).columns (docs_of self.now.documents) }
+        requires { rows ≡ rows_of definition.now.columns (docs_of self.now.documents) }
         ensures { IfOk result
-            (λ s. s ≡ record self.now {
-              definitions = with_definition
-                  (arc_value definition.now) self.now.definitions;
-            }) }
+            (λ s. s ≡ record self.now { definitions = with_definition definition.now self.now.definitions }) }
     {
-        self.with(alloc, definition.clone()?, rows)
+        self.with(alloc, definition.copy()?, rows)
     }
 
     /// Makes the shard without the index of this design document and name; if there is no such index, a shard with all that this one has.

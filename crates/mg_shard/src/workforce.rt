@@ -1,6 +1,5 @@
 //! Who makes the new shards of a `redeal`: the caller's thread alone, or several threads.
 ghost use Rattle.std.specs.Prelude.{◌≡◌, ◌<◌, IfOk, Ok, length, map};
-ghost use Rattle.std.specs.Arc.{arc_value};
 ghost use Rattle.std.specs.List.{AllByRecursion};
 ghost use Rattle.std.specs.Thread.{IsSync};
 ghost use Rattle.mg_index.specs.Catalog.{IsCatalog};
@@ -20,7 +19,6 @@ use mg_pages::{Pages, Shared};
 use mg_rows::RowBytes;
 use mg_value::NoMemory;
 use std::alloc::Global;
-use std::sync::Arc;
 use std::thread;
 use std::thread::Threads;
 
@@ -161,14 +159,14 @@ fn index_over<E: Extractor>(
     extractor: &E,
     alloc: Global,
     shard: &Shard,
-    definition: &Arc<IndexDef>,
+    definition: &IndexDef,
 ) -> Result<IndexEntry, NoMemory>
     requires { E.can_work }
-    ensures definition { IfOk result (λ x. x.0 ≡ arc_value definition.now) }
+    ensures definition { IfOk result (λ x. x.0 ≡ definition.now) }
     ensures rows { IfOk result (λ x. HasRows shard.now.documents x) }
 {
     let rows = extractor.rows(alloc, shard, definition)?;
-    let index = IndexEntry::of(alloc, definition.clone()?, rows)?;
+    let index = IndexEntry::of(alloc, definition.copy()?, rows)?;
     Ok(index)
 }
 

@@ -1,29 +1,48 @@
-use Rattle.std.proofs.Common.{◌≡◌, Less, Equal, length, get_or, sym, ap, ◌∙◌, arith}
+use Rattle.std.proofs.Common.{◌≡◌, ◌<◌, ◌+◌, ◌-◌, ◌/◌, Less, Equal, Greater, length, get_or, sym, ap, ◌∙◌, arith}
 use Rattle.std.proofs.lemmas.List.{get_or_read}
-use Rattle.mg_index.specs.Catalog.{definition_order}
-use Rattle.mg_index.proofs.Catalogs.{goes_before, goes_at}
+use Rattle.mg_index.specs.Definition.{IndexDefinition}
+use Rattle.mg_index.specs.Places.{name_order}
+use Rattle.mg_index.proofs.Catalogs.{before_tie, from_place, is_at, is_before, up_to}
 use Rattle.mg_index.proofs.catalog.slot_of.Goals as goal
 
-pub returns-in-Less : goal.returns-in-Less
-returns-in-Less c =
-    let d = c.args.definition.now in
-    let other = c.index-definitions-place.result in
-    let same : other ≡ get_or c.args.definitions.now c.loop-place.place d = get_or_read c.args.definitions.now c.loop-place.place other (omega arith) c.index-definitions-place.is d in
-    let here : definition_order d (get_or c.args.definitions.now c.loop-place.place d) ≡ Less = ap (definition_order d) (sym same) ∙ sym c.order.ensures ∙ c.in-Less.is in
-    let found = goes_before d c.args.definitions.now c.loop-place.place c.requires (omega arith) c.loop-place.invariant (λ _. here) in
-    (omega arith, found.0, found.1)
+pub loop-low-preserved-in-Greater : goal.loop-low-preserved-in-Greater
+loop-low-preserved-in-Greater c =
+    let ds = c.args.definitions.now in
+    let i = c.loop-low.low + (c.loop-low.high - c.loop-low.low) / 2 in
+    let lt : i < length ds = omega (arith, c.loop-low.invariant.within) in
+    let at : (x : IndexDefinition) → name_order c.args.ddoc.now c.args.name.now (get_or ds i x) ≡ Greater =
+    λ x. ap (name_order c.args.ddoc.now c.args.name.now) (sym (get_or_read ds i c.index-definitions-middle.result lt c.index-definitions-middle.is x)) ∙ sym c.in-Greater.ensures in
+    record {
+      in_order = omega arith;
+      within = c.loop-low.invariant.within;
+      below = up_to c.args.ddoc.now c.args.name.now ds i c.requires lt at;
+      above = c.loop-low.invariant.above;
+    }
+
+pub loop-low-preserved : goal.loop-low-preserved
+loop-low-preserved c =
+    let ds = c.args.definitions.now in
+    let i = c.loop-low.low + (c.loop-low.high - c.loop-low.low) / 2 in
+    let lt : i < length ds = omega (arith, c.loop-low.invariant.within) in
+    let at : (x : IndexDefinition) → name_order c.args.ddoc.now c.args.name.now (get_or ds i x) ≡ Less =
+    λ x. ap (name_order c.args.ddoc.now c.args.name.now) (sym (get_or_read ds i c.index-definitions-middle.result lt c.index-definitions-middle.is x)) ∙ sym c.in-Less.ensures in
+    record {
+      in_order = omega arith;
+      within = omega (arith, c.loop-low.invariant.within);
+      below = c.loop-low.invariant.below;
+      above = from_place c.args.ddoc.now c.args.name.now ds i c.requires at;
+    }
 
 pub returns-in-Equal : goal.returns-in-Equal
 returns-in-Equal c =
-    let d = c.args.definition.now in
-    let other = c.index-definitions-place.result in
-    let same : other ≡ get_or c.args.definitions.now c.loop-place.place d = get_or_read c.args.definitions.now c.loop-place.place other (omega arith) c.index-definitions-place.is d in
-    let here : definition_order d (get_or c.args.definitions.now c.loop-place.place d) ≡ Equal = ap (definition_order d) (sym same) ∙ sym c.order.ensures ∙ c.in-Equal.is in
-    let found = goes_at d c.args.definitions.now c.loop-place.place (omega arith) c.loop-place.invariant here in
-    (omega arith, found.0, found.1)
+    let ds = c.args.definitions.now in
+    let i = c.loop-low.low + (c.loop-low.high - c.loop-low.low) / 2 in
+    let lt : i < length ds = omega (arith, c.loop-low.invariant.within) in
+    let at : (x : IndexDefinition) → name_order c.args.ddoc.now c.args.name.now (get_or ds i x) ≡ Equal =
+    λ x. ap (name_order c.args.ddoc.now c.args.name.now) (sym (get_or_read ds i c.index-definitions-middle.result lt c.index-definitions-middle.is x)) ∙ sym c.in-Equal.ensures in
+    is_at c.args.ddoc.now c.args.name.now ds i lt (before_tie c.args.ddoc.now c.args.name.now ds i c.requires lt at) at
 
 pub returns : goal.returns
 returns c =
-    let all : c.loop-place.place ≡ length c.args.definitions.now = omega arith in
-    let found = goes_before c.args.definition.now c.args.definitions.now (length c.args.definitions.now) c.requires (omega arith) (λ x k lt. c.loop-place.invariant x k (omega arith)) (λ lt. absurd (omega arith)) in
-    (omega arith, found.0, found.1)
+    let l = c.loop-low in
+    is_before c.args.ddoc.now c.args.name.now c.args.definitions.now l.low c.requires (omega (arith, l.invariant.within, l.invariant.in_order)) l.invariant.below (λ x lt. l.invariant.above x l.low (omega arith) lt)

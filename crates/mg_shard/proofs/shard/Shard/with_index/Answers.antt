@@ -7,4 +7,4 @@ use Rattle.mg_shard.proofs.shard.Shard.with_index.Goals as goal
 pub with-requires : goal.with-requires
 with-requires c =
     c.in_ok-rows.ensures ∙ ap (λ (columns : List Steps). rows_of columns (docs_of c.args.self.now.documents)) c.columns.ensures
-    ∙ ap (λ (d : IndexDefinition). rows_of d.columns (docs_of c.args.self.now.documents)) (sym (c.in_ok-definition.ensures.ok ∙ c.in_ok-copy.ensures))
+    ∙ ap (λ (d : IndexDefinition). rows_of d.columns (docs_of c.args.self.now.documents)) (sym c.in_ok-copy.ensures)

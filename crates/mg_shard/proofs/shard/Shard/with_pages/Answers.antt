@@ -6,4 +6,4 @@ use Rattle.mg_shard.proofs.shard.Shard.with_pages.Goals as goal
 
 pub with-requires : goal.with-requires
 with-requires c =
-    c.requires ∙ ap (λ (d : IndexDefinition). rows_of d.columns (docs_of c.args.self.now.documents)) (sym c.in_ok-clone.ensures.cases)
+    c.requires ∙ ap (λ (d : IndexDefinition). rows_of d.columns (docs_of c.args.self.now.documents)) (sym c.in_ok-copy.ensures)

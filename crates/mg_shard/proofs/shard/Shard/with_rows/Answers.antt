@@ -19,4 +19,4 @@ pages_of_rows-requires c =
 pub with-requires : goal.with-requires
 with-requires c =
     c.in_ok-rows.ensures ∙ ap rows_view c.deref.ensures.value ∙ c.requires
-    ∙ ap (λ (d : IndexDefinition). rows_of d.columns (docs_of c.args.self.now.documents)) (sym (c.in_ok-definition.ensures.ok ∙ c.in_ok-copy.ensures))
+    ∙ ap (λ (d : IndexDefinition). rows_of d.columns (docs_of c.args.self.now.documents)) (sym c.in_ok-copy.ensures)
