@@ -15,7 +15,7 @@ use Rattle.mg_shard.specs.Dealt.{Placing, ShardsStandFor}
 use Rattle.mg_shard.specs.Documents.{KeptDocument, KeptDocuments, doc_entry, docs_of}
 use Rattle.mg_shard.specs.Histories.{Histories, ServedDocument, served_entry}
 use Rattle.mg_shard.specs.Shard.{ShardView}
-use Rattle.mg_shard.specs.Walk.{beyond}
+use Rattle.mg_pages.specs.Reading.{beyond}
 use Rattle.mg_shard.proofs.Standing.{same_docs}
 use Rattle.mg_shard.proofs.Walks.{filter_map-reverse}
 use Rattle.mg_engine.specs.Counted.{counted_before}

@@ -3,6 +3,7 @@ pub mod Finite
 pub mod Identified
 pub mod Order
 pub mod Runs
+pub mod Reading
 pub mod Search
 pub mod Subtree
 pub mod Tree

@@ -3,9 +3,9 @@
 //!
 //! Promises. A `Pages` is a list that ascends (`ascends`). What is in a page is an `Element`. Its `again`
 //! makes a duplicate: a copy of a row, or another reference to a `Shared` value. `get` is the element that
-//! ties with the key, `at` the one at a place; `iter`, `after`, `from`, `back`, `before` and `upto` iterate over the list from a place
-//! on, in either direction, and `advance` of each iterator skips a number of the elements that are left, in
-//! the logarithm of the length. `insert` and `remove` change the list in one place (`ok`, `had`) or not at
+//! ties with the key, `at` the one at a place. `iter` and `past` iterate over the list, or what comes after a
+//! place, from both ends. `beyond` and `upto` read from a place on in one direction, and `advance` of their
+//! `Cursor` skips a number of the elements that are left, in the logarithm of the length. `insert` and `remove` change the list in one place (`ok`, `had`) or not at
 //! all (`err`), and removing an absent key takes no memory (`absent`); `share` returns the same list; `runs`
 //! lends it page by page, and `from_pages` makes it of pages (`NewPage`); `count_below` and `count_above`
 //! count the elements on one side of a place, in the logarithm of the length. Law: elements by their ids are
@@ -13,8 +13,8 @@
 //! clause: they are only for speed, and a wrong hint costs time.
 #![tactic(auto)]
 
-mod back;
 mod build;
+mod cursor;
 mod element;
 mod hint;
 mod identified;
@@ -34,7 +34,7 @@ mod search;
 mod sizes;
 mod tree;
 
-pub use back::Back;
+pub use cursor::Cursor;
 pub use element::{Element, Shared};
 pub use hint::text_hint;
 pub use identified::Identified;

@@ -1,10 +1,11 @@
 //! Ordered collections in shared pages.
 ghost use Rattle.std.specs.Prelude.{◌≡◌, ◌↔◌, ◌-◌, [], None, Ok, Some, false, drop, length, take, IfOk, IfSome, IsTrue, OnOk, OnErr, is_some, option_map, reverse, slice_get};
 ghost use Rattle.mg_pages.specs.Order.{Ascends, above, below, found, inserted, removed, upto};
+ghost use Rattle.mg_pages.specs.Reading.{beyond, past};
 ghost use Rattle.mg_pages.specs.Runs.{IsRun, IsEndRun};
 
-use crate::back::Back;
 use crate::build::{make_pages, raise};
+use crate::cursor::Cursor;
 use crate::element::copy_elements;
 use crate::insertion::{count_after_put, put_in_root};
 use crate::iter::Iter;
@@ -17,6 +18,7 @@ use crate::mend::{grow, shrink};
 use crate::over::Over;
 use crate::removal::take_out_among;
 use crate::tree::Child;
+use mg_collate::Direction;
 use mg_value::NoMemory;
 use std::alloc::Global;
 use std::marker::Model;
@@ -135,6 +137,17 @@ impl<T: Keyed> Pages<T> {
         self.count - self.count_below(&Over { key })
     }
 
+    /// Counts the elements that `beyond` reads. Cost: that of `count_below`. Takes no memory.
+    #[tactic(auto, using(crate::proofs::Between::reversed_length))]
+    pub fn count_beyond<Q: Probe<T>>(&self, key: &Q, direction: Direction) -> usize
+        ensures { result ≡ length (beyond direction (Q.against key.now) self.now) }
+    {
+        match direction {
+            Direction::Asc => self.count_above(key),
+            Direction::Desc => self.count_below(key),
+        }
+    }
+
     // Lends the first elements, up to the end of their page; empty if there are no elements.
     pub(crate) fn first_run(&self) -> &[T]
         ensures run { IsRun result.now self.now }
@@ -180,24 +193,6 @@ impl<T: Keyed> Pages<T> {
             return &page[place..];
         }
         &[]
-    }
-
-    /// Iterates over the elements in ascending order. Takes no memory. Cost: constant; then a step for each element, and a look-up for each
-    /// further page.
-    pub fn iter(&self) -> Iter<'_, T>
-        ensures { result ≡ self.now }
-    {
-        let run = self.first_run();
-        Iter::at(self, run)
-    }
-
-    /// Iterates over the elements above the key, in ascending order. Takes no memory. Cost: one look-up; then a step for each element, and
-    /// a look-up for each further page.
-    pub fn after<Q: Probe<T>>(&self, key: &Q) -> Iter<'_, T>
-        ensures { result ≡ above (Q.against key.now) self.now }
-    {
-        let run = self.hinted_run_after(key);
-        Iter::at(self, run)
     }
 
     // Lends the last elements, from the start of their page; empty if there are no elements.
@@ -249,27 +244,90 @@ impl<T: Keyed> Pages<T> {
         &[]
     }
 
-    /// Iterates over the elements from the last to the first. Takes no memory. Cost: that of `iter`.
-    pub fn back(&self) -> Back<'_, T>
+    // Reads all elements in ascending order. Takes no memory. Cost: that of `beyond`.
+    fn up(&self) -> Cursor<'_, T>
+        ensures { result ≡ self.now }
+    {
+        let run = self.first_run();
+        Cursor::at(self, run, Direction::Asc)
+    }
+
+    // Reads all elements from the last to the first. Takes no memory. Cost: that of `beyond`.
+    fn down(&self) -> Cursor<'_, T>
         ensures { result ≡ reverse self.now }
     {
         let run = self.last_run();
-        Back::at(self, run)
+        Cursor::at(self, run, Direction::Desc)
     }
 
-    /// Iterates over the elements below the key, from the last to the first. Takes no memory. Cost: that of `after`.
-    pub fn before<Q: Probe<T>>(&self, key: &Q) -> Back<'_, T>
+    // Reads the elements above the key in ascending order. Takes no memory. Cost: that of `beyond`.
+    fn after<Q: Probe<T>>(&self, key: &Q) -> Cursor<'_, T>
+        ensures { result ≡ above (Q.against key.now) self.now }
+    {
+        let run = self.hinted_run_after(key);
+        Cursor::at(self, run, Direction::Asc)
+    }
+
+    // Reads the elements below the key, from the last to the first. Takes no memory. Cost: that of `beyond`.
+    fn before<Q: Probe<T>>(&self, key: &Q) -> Cursor<'_, T>
         ensures { result ≡ reverse (below (Q.against key.now) self.now) }
     {
         let run = self.hinted_run_before(key);
-        Back::at(self, run)
+        Cursor::at(self, run, Direction::Desc)
     }
 
-    /// Iterates over the elements that are not above the key, from the last to the first. Takes no memory. Cost: that of `after`.
-    pub fn upto<Q: Probe<T>>(&self, key: &Q) -> Back<'_, T>
+    /// Reads the elements that come after the key in a direction. Elements that tie with the key are left out; there need be none. Takes no
+    /// memory. Cost: one look-up; then a step for each element, and a look-up for each further page.
+    pub fn beyond<Q: Probe<T>>(&self, key: &Q, direction: Direction) -> Cursor<'_, T>
+        ensures { result ≡ beyond direction (Q.against key.now) self.now }
+    {
+        match direction {
+            Direction::Asc => self.after(key),
+            Direction::Desc => self.before(key),
+        }
+    }
+
+    /// Reads the elements that are not above the key, from the last to the first. Takes no memory. Cost: that of `beyond`.
+    pub fn upto<Q: Probe<T>>(&self, key: &Q) -> Cursor<'_, T>
         ensures { result ≡ reverse (upto (Q.against key.now) self.now) }
     {
         self.before(&Over { key })
+    }
+
+    /// Iterates over the elements, from both ends. Takes no memory. Cost: two look-ups; then a step for each element, and a look-up for each
+    /// further page.
+    pub fn iter(&self) -> Iter<'_, T>
+        ensures { result ≡ self.now }
+    {
+        Iter::between(self.up(), self.down(), self.count)
+    }
+
+    // Iterates over the elements above the key, from both ends. Takes no memory. Cost: that of `past`.
+    fn iter_after<Q: Probe<T>>(&self, key: &Q) -> Iter<'_, T>
+        ensures { result ≡ above (Q.against key.now) self.now }
+    {
+        self.ascends();
+        Iter::between(self.after(key), self.down(), self.count_above(key))
+    }
+
+    // Iterates over the elements below the key, from both ends. Takes no memory. Cost: that of `past`.
+    fn iter_before<Q: Probe<T>>(&self, key: &Q) -> Iter<'_, T>
+        ensures { result ≡ below (Q.against key.now) self.now }
+    {
+        self.ascends();
+        Iter::between(self.up(), self.before(key), self.count_below(key))
+    }
+
+    /// Iterates over the elements that come after the key in a direction, from both ends: ascending, over those above the key; descending,
+    /// over those below it. In both directions `next` gives the least element that is left. Takes no memory. Cost: three look-ups; then that
+    /// of `iter`.
+    pub fn past<Q: Probe<T>>(&self, key: &Q, direction: Direction) -> Iter<'_, T>
+        ensures { result ≡ past direction (Q.against key.now) self.now }
+    {
+        match direction {
+            Direction::Asc => self.iter_after(key),
+            Direction::Desc => self.iter_before(key),
+        }
     }
 
     /// Makes another collection of the same elements, which shares all pages with this one.

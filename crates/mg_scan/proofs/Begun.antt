@@ -27,7 +27,7 @@ use Rattle.mg_shard.specs.Documents.{KeptDocuments, docs_of, form_at}
 use Rattle.mg_shard.specs.Histories.{ServedDocument}
 use Rattle.mg_shard.specs.Rows.{row_key, row_of, rows_of}
 use Rattle.mg_shard.specs.Shard.{ShardView}
-use Rattle.mg_shard.specs.Walk.{beyond}
+use Rattle.mg_pages.specs.Reading.{beyond}
 
 -- ---- what is read of an index
 

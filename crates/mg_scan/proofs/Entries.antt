@@ -21,7 +21,7 @@ use Rattle.mg_shard.specs.Documents.{KeptDocument, KeptDocuments, doc_entry, doc
 use Rattle.mg_shard.specs.Histories.{ServedDocument}
 use Rattle.mg_shard.specs.Own.{HasOwnId, id_columns}
 use Rattle.mg_shard.specs.Rows.{row_of, rows_of}
-use Rattle.mg_shard.specs.Walk.{beyond}
+use Rattle.mg_pages.specs.Reading.{beyond}
 use Rattle.mg_shard.proofs.Rows.{sorted_is}
 use Rattle.mg_shard.proofs.Shown.{bytes_cmp}
 use Rattle.mg_shard.proofs.Walks.{filter_map-reverse}

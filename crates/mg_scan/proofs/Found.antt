@@ -23,7 +23,7 @@ use Rattle.mg_shard.specs.Documents.{KeptDocuments, docs_of, kept_entry, form_at
 use Rattle.mg_shard.specs.Own.{HasOwnId, id_columns}
 use Rattle.mg_shard.specs.Rows.{rows_of}
 use Rattle.mg_shard.specs.Shard.{ShardView}
-use Rattle.mg_shard.specs.Walk.{beyond}
+use Rattle.mg_pages.specs.Reading.{beyond}
 use Rattle.mg_shard.specs.declared.document.Document.{Document}
 use Rattle.mg_shard.specs.declared.index_ref.IndexRef.{IndexRef}
 use Rattle.mg_value.specs.Value.{Value}

@@ -44,7 +44,7 @@ use Rattle.mg_shard.specs.Documents.{docs_of}
 use Rattle.mg_shard.specs.Histories.{ServedDocument}
 use Rattle.mg_shard.specs.Rows.{row_of, rows_of}
 use Rattle.mg_shard.specs.Shard.{ShardView}
-use Rattle.mg_shard.specs.Walk.{beyond}
+use Rattle.mg_pages.specs.Reading.{beyond}
 
 -- ---- lists
 

@@ -25,7 +25,7 @@ use Rattle.mg_scan.proofs.Late.{late_rises}
 use Rattle.mg_shard.specs.Documents.{KeptDocuments, docs_of, form_at}
 use Rattle.mg_shard.specs.Histories.{ServedDocument}
 use Rattle.mg_shard.specs.Rows.{row_key, row_of, rows_of}
-use Rattle.mg_shard.specs.Walk.{beyond, in_direction}
+use Rattle.mg_pages.specs.Reading.{beyond, in_direction}
 use Rattle.mg_value.specs.Value.{Items}
 use Rattle.mg_shard.proofs.Rows.{rises_where, sorted-where}
 

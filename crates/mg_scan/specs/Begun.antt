@@ -12,7 +12,7 @@ use Rattle.mg_shard.specs.Documents.{KeptDocuments, docs_of, form_at, kept_entry
 use Rattle.mg_shard.specs.Own.{HasOwnId, id_columns}
 use Rattle.mg_shard.specs.Rows.{rows_of}
 use Rattle.mg_shard.specs.Shard.{ShardView}
-use Rattle.mg_shard.specs.Walk.{beyond}
+use Rattle.mg_pages.specs.Reading.{beyond}
 use Rattle.mg_shard.specs.declared.document.Document.{Document}
 use Rattle.mg_value.specs.Value.{Value}
 

@@ -10,7 +10,7 @@ use Rattle.mg_scan.specs.Walked.{begin_order, id_row}
 use Rattle.mg_scan.specs.declared.target_ref.TargetRef.{TargetRef}
 use Rattle.mg_scan.specs.declared.target_ref.TargetRef.TheVariants.{AllDocs, Index}
 use Rattle.mg_shard.specs.Shard.{ShardView, rows_at}
-use Rattle.mg_shard.specs.Walk.{beyond}
+use Rattle.mg_pages.specs.Reading.{beyond}
 use Rattle.mg_value.specs.Value.{item_list}
 use Rattle.std.specs.declared.cmp.Ordering.{Ordering}
 

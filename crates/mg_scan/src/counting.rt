@@ -3,7 +3,7 @@ ghost use Rattle.std.specs.Prelude.{◌≡◌, length, nat_le};
 ghost use Rattle.std.specs.List.{sum_by};
 ghost use Rattle.std.specs.Option.{option_map_or};
 ghost use Rattle.mg_shard.specs.Shard.{rows_at, shards_view};
-ghost use Rattle.mg_shard.specs.Walk.{beyond};
+ghost use Rattle.mg_pages.specs.Reading.{beyond};
 ghost use Rattle.mg_scan.specs.Search.{after_of};
 ghost use Rattle.mg_scan.specs.Upcoming.{count_upcoming};
 ghost use Rattle.mg_scan.specs.Way.{begin_at};

@@ -11,7 +11,9 @@ use crate::range_end::RangeEnd;
 use crate::search::{Search, is_late_id};
 use crate::unread::{Unread, unread_after, unread_of};
 use mg_merge::RowSource;
-use mg_shard::{Documents, Rows, Shard};
+use mg_pages::Cursor;
+use mg_rows::RowBytes;
+use mg_shard::{Documents, Shard};
 
 impl<'a, 'b> RowSource<Lead<'a>> for LeadSource<'a, 'b> {
     ghost rest = { λ s. lead_rows s.search s.unread };
@@ -31,7 +33,7 @@ impl<'a, 'b> RowSource<Lead<'a>> for LeadSource<'a, 'b> {
 #[inline(always)]
 fn lead_of_rows<'a>(
     shard: &'a Shard,
-    rows: &mut Rows<'a>,
+    rows: &mut Cursor<'a, RowBytes>,
     search: Search<'_>,
     range_end: &mut RangeEnd,
 ) -> Option<Lead<'a>>

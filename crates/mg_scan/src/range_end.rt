@@ -4,8 +4,8 @@ ghost use Rattle.mg_scan.specs.RangeEnd.{AreBeforeEnd, EndsOnce};
 ghost use Rattle.mg_scan.specs.Walked.{is_late_row};
 
 use crate::search::{Search, is_late_row};
+use mg_pages::Cursor;
 use mg_rows::RowBytes;
-use mg_shard::Rows;
 
 // The last row of a run is compared ahead of the others only if at least this many rows come before it: otherwise that would save too
 // little.
@@ -38,7 +38,7 @@ impl RangeEnd {
         &mut self,
         search: Search<'_>,
         row: &RowBytes,
-        rows: &Rows<'_>,
+        rows: &Cursor<'_, RowBytes>,
     ) -> bool
         requires ordered { EndsOnce search (row.now ∷ rows.now) }
         requires sure { AreBeforeEnd search (row.now ∷ rows.now) self.old.sure }
@@ -58,7 +58,7 @@ impl RangeEnd {
 
     // Compares the end of the range with the last row of the run that is being read. If that row is not past the end, no row of the run is,
     // since rows are in order.
-    fn look_ahead(&mut self, search: Search<'_>, rows: &Rows<'_>)
+    fn look_ahead(&mut self, search: Search<'_>, rows: &Cursor<'_, RowBytes>)
         requires ordered { EndsOnce search rows.now }
         requires none { self.old.sure ≡ 0 }
         ensures { AreBeforeEnd search.entry rows.now self.new.sure }

@@ -3,20 +3,20 @@ ghost use Rattle.std.specs.Prelude.{◌<◌, ◌≤◌, length};
 
 use crate::search::{Search, is_late_row};
 use mg_collate::Direction;
+use mg_pages::Cursor;
 use mg_rows::RowBytes;
-use mg_shard::Rows;
 use mg_value::NoMemory;
 
 // A row of a shard, and the rows after it.
 #[derive(Drop)]
 pub(crate) struct Scout<'a> {
     pub(crate) row: &'a RowBytes,
-    pub(crate) rows: Rows<'a>,
+    pub(crate) rows: Cursor<'a, RowBytes>,
 }
 
 // Makes the scout at the `stride`-th of these rows; `None` if there are fewer, or the search's range ends before that row.
 pub(crate) fn scout_of<'a>(
-    mut rows: Rows<'a>,
+    mut rows: Cursor<'a, RowBytes>,
     search: Search<'_>,
     stride: usize,
 ) -> Option<Scout<'a>>

@@ -21,8 +21,9 @@ use crate::lent_row::LentRow;
 use crate::search::{Search, is_late_id, is_late_row};
 use crate::target_ref::TargetRef;
 use mg_normal::Normal;
+use mg_pages::Cursor;
 use mg_rows::RowBytes;
-use mg_shard::{Document, Documents, IndexRef, Rows, Shard};
+use mg_shard::{Document, Documents, IndexRef, Shard};
 use mg_value::NoMemory;
 use std::alloc::Global;
 
@@ -95,7 +96,7 @@ pub(crate) fn push_if<'a>(hits: &mut Vec<Hit<'a>>, hit: Option<Hit<'a>>) -> Resu
 fn hits_of_rows<'a>(
     alloc: Global,
     shard: &'a Shard,
-    rows: Rows<'a>,
+    rows: Cursor<'a, RowBytes>,
     search: Search<'_>,
 ) -> Result<Vec<Hit<'a>>, NoMemory>
     ensures rows { IfOk result

@@ -11,7 +11,9 @@ use crate::search::{Search, is_late_id, is_late_row};
 use crate::shard::{hit_at, hit_of};
 use crate::unread::{Unread, unread_of};
 use mg_merge::RowSource;
-use mg_shard::{Documents, Rows, Shard};
+use mg_pages::Cursor;
+use mg_rows::RowBytes;
+use mg_shard::{Documents, Shard};
 
 /// The hits of a search in one shard that are still to come.
 #[derive(Drop)]
@@ -36,7 +38,11 @@ impl<'a, 'b> RowSource<Hit<'a>> for HitSource<'a, 'b> {
 }
 
 // Reads rows of an index up to the next hit, and returns the hit; `None` if the range or the index ends first.
-fn next_of_rows<'a>(shard: &'a Shard, rows: &mut Rows<'a>, search: Search<'_>) -> Option<Hit<'a>>
+fn next_of_rows<'a>(
+    shard: &'a Shard,
+    rows: &mut Cursor<'a, RowBytes>,
+    search: Search<'_>,
+) -> Option<Hit<'a>>
     ensures hit { IfSome result (λ h. walked_all_by search.entry shard.now.documents rows.old
         ≡ hit_row h ∷ walked_all_by search.entry shard.now.documents rows.new) }
     ensures end { IfNone result (walked_all_by search.entry shard.now.documents rows.old ≡ []) }

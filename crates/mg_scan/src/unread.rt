@@ -6,13 +6,15 @@ ghost use Rattle.mg_scan.specs.Begun.{AreBegun, IsBegun, IsBegunIn, IsUnreadAfte
 use crate::begin::Begin;
 use crate::search::Search;
 use crate::target_ref::TargetRef;
-use mg_shard::{Documents, IndexRef, Rows, Shard};
+use mg_pages::Cursor;
+use mg_rows::RowBytes;
+use mg_shard::{Documents, IndexRef, Shard};
 
 /// What a search has still to read in a shard.
 #[derive(Drop)]
 pub(crate) enum Unread<'a> {
     /// Rows of an index.
-    Rows(Rows<'a>),
+    Rows(Cursor<'a, RowBytes>),
     /// Documents, deleted ones too, in the order of their ids in the search's direction.
     Documents(Documents<'a>),
     /// Nothing: the shard has no such index.

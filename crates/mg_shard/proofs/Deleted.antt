@@ -11,7 +11,7 @@ use Rattle.mg_pages.specs.Order.{Ascends, above, below, inserted, removed}
 use Rattle.mg_value.specs.Value.{Value}
 use Rattle.mg_shard.specs.Documents.{KeptDocument, deleted_among, deleted_entry, deleted_of, doc_entry, docs_in, form_of, id_bytes, is_deleted, kept_documents, kept_entry}
 use Rattle.mg_shard.specs.Histories.{ServedDocument}
-use Rattle.mg_shard.specs.Walk.{beyond}
+use Rattle.mg_pages.specs.Reading.{beyond}
 use Rattle.mg_shard.specs.declared.document.Document.{Document}
 use Rattle.mg_shard.proofs.Shown.{entries-kept_documents, served_all}
 use Rattle.mg_shard.proofs.Walks.{beyond-map}

@@ -1,10 +1,13 @@
--- The elements after a place, with a function applied to each; and the served documents from the last to the first.
-use Rattle.std.proofs.Common.{◌≡◌, List, [], ◌∷◌, ◌++◌, Bool, true, false, Ordering, Option, Some, None, cond, is_gt, is_lt, length, map, reverse, refl, ap, sym, ◌∙◌}
-use Rattle.std.proofs.lemmas.List.{length-reverse, reverse-append}
+-- The elements after a place, with a function applied to each; and the served documents before the last one.
+use Rattle.std.proofs.Common.{◌≡◌, List, [], ◌∷◌, ◌++◌, Bool, true, false, Ordering, Option, Some, None, append-nil, cond, is_gt, is_lt, map, option_map, reverse, refl, ap, sym, ◌∙◌}
+use Rattle.std.proofs.lemmas.List.{reverse-append}
 use Rattle.std.specs.List.{cons_option, filter, filter_map}
 use Rattle.mg_collate.specs.declared.direction.Direction.{Direction}
 use Rattle.mg_collate.specs.declared.direction.Direction.TheVariants.{Asc, Desc}
-use Rattle.mg_shard.specs.Walk.{beyond}
+use Rattle.mg_value.specs.Value.{Value}
+use Rattle.mg_pages.specs.Reading.{beyond}
+use Rattle.mg_shard.specs.Documents.{doc_entry, docs_in, form_of, kept_entry}
+use Rattle.mg_shard.specs.declared.document.Document.{Document}
 
 map-append : {A B : Type 0} (f : A → B) (xs ys : List A) → map f (xs ++ ys) ≡ map f xs ++ map f ys
 map-append f [] ys = refl
@@ -32,9 +35,6 @@ module _ {A B : Type 0} (f : A → B) (against : A → Ordering) (order : B → 
   beyond-map Asc xs = where-map is_lt xs
   beyond-map Desc xs = reverse-map f (filter (λ x. is_gt (against x)) xs) ∙ ap reverse (where-map is_gt xs)
 
-pub reversed_length : {A : Type 0} (xs : List A) → length xs ≡ length (reverse xs)
-reversed_length xs = sym (length-reverse xs)
-
 filter_map-append : {A B : Type 0} (f : A → Option B) (xs ys : List A) → filter_map f (xs ++ ys) ≡ filter_map f xs ++ filter_map f ys
 filter_map-append f [] ys = refl
 filter_map-append {A} {B} f (x ∷ xs) ys = ap (cons_option (f x)) (filter_map-append f xs ys) ∙ step (f x) (filter_map f xs) (filter_map f ys)
@@ -43,15 +43,13 @@ filter_map-append {A} {B} f (x ∷ xs) ys = ap (cons_option (f x)) (filter_map-a
     step None us vs = refl
     step (Some y) us vs = refl
 
-pub filter_map-reverse : {A B : Type 0} (f : A → Option B) (xs : List A) → filter_map f (reverse xs) ≡ reverse (filter_map f xs)
-filter_map-reverse f [] = refl
-filter_map-reverse {A} {B} f (x ∷ xs) =
-    ap (filter_map f) (reverse-append (x ∷ []) xs) ∙ filter_map-append f (reverse xs) (x ∷ []) ∙ ap (λ ys. ys ++ filter_map f (x ∷ [])) (filter_map-reverse f xs) ∙ step (f x) (filter_map f xs)
-  where
-    no_more : (us : List B) → us ++ [] ≡ us
-    no_more [] = refl
-    no_more (u ∷ us) = ap (λ vs. u ∷ vs) (no_more us)
+-- the served documents before the last one, where that is served, and where it is deleted
+module _ (ds xs : List Document) (d : Document) (e : ds ≡ xs ++ d ∷ []) where
+  docs_before : docs_in ds ≡ docs_in xs ++ cons_option (doc_entry (kept_entry d)) []
+  docs_before = ap docs_in e ∙ filter_map-append (λ x. doc_entry (kept_entry x)) xs (d ∷ [])
 
-    step : (o : Option B) (us : List B) → reverse us ++ cons_option o [] ≡ reverse (cons_option o us)
-    step None us = no_more (reverse us)
-    step (Some y) us = sym (reverse-append (y ∷ []) us)
+  pub docs_before_served : (form : Value) → form_of d ≡ Some form → docs_in ds ≡ docs_in xs ++ (d.id, form) ∷ []
+  docs_before_served form is = docs_before ∙ ap (λ o. docs_in xs ++ cons_option (option_map (λ v. (d.id, v)) o) []) is
+
+  pub docs_before_deleted : form_of d ≡ None → docs_in ds ≡ docs_in xs
+  docs_before_deleted is = docs_before ∙ ap (λ o. docs_in xs ++ cons_option (option_map (λ v. (d.id, v)) o) []) is ∙ append-nil (docs_in xs)

@@ -12,6 +12,4 @@ pub mod Mended
 pub mod Index
 pub mod Laws
 pub mod Own
-pub mod Walk
-pub mod Left
 pub mod Extracted

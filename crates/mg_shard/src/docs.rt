@@ -1,18 +1,19 @@
-//! The served documents of a shard, one after another.
+//! The served documents of a shard, one after another, from both ends.
 ghost use Rattle.std.specs.Prelude.{◌≡◌, length};
 ghost use Rattle.std.specs.Iterator.{at_most};
-ghost use Rattle.std.specs.Map.Iter.{TakesFirst};
+ghost use Rattle.std.specs.Map.Iter.{TakesFirst, TakesLast};
 ghost use Rattle.mg_shard.specs.Documents.{lent_document_view, docs_in};
 
-use crate::walk::Documents;
+use crate::document::Document;
 use mg_packed::Part;
+use mg_pages::{Iter, Shared};
 use std::marker::Model;
 
-/// Lists the served documents, each as its id and its form, in the order of the ids or in the reverse order. It skips deleted
-/// documents. Takes no memory. Cost: a step for each document, deleted ones too.
+/// Lists the served documents, each as its id and its form, in the order of the ids; `next_back` lists them from the last to the first. It
+/// skips deleted documents. Takes no memory. Cost: a step for each document, deleted ones too.
 #[derive(Drop)]
 pub struct Docs<'a> {
-    documents: Documents<'a>,
+    documents: Iter<'a, Shared<Document>>,
 }
 
 impl<'a> Model for Docs<'a> {
@@ -33,7 +34,7 @@ impl<'a> Model for Docs<'a> {
 
 impl<'a> Docs<'a> {
     // Lists those of these documents that are served, in their order.
-    pub(crate) fn over(documents: Documents<'a>) -> Docs<'a>
+    pub(crate) fn over(documents: Iter<'a, Shared<Document>>) -> Docs<'a>
         ensures { result ≡ docs_in documents.entry }
     {
         Docs { documents }
@@ -49,8 +50,22 @@ impl<'a> Iterator for Docs<'a> {
 
     fn next(&mut self) -> Option<(&'a str, Part<'a>)> {
         while let Some(document) = self.documents.next() {
-            if let Some(form) = document.form() {
-                return Some((document.id(), form));
+            if let Some(form) = document.get().form() {
+                return Some((document.get().id(), form));
+            }
+        }
+        None
+    }
+}
+
+impl<'a> DoubleEndedIterator for Docs<'a> {
+    ghost next_back_gives = { TakesLast lent_document_view };
+
+    #[tactic(auto, using(crate::proofs::Walks::docs_before_served, crate::proofs::Walks::docs_before_deleted))]
+    fn next_back(&mut self) -> Option<(&'a str, Part<'a>)> {
+        while let Some(document) = self.documents.next_back() {
+            if let Some(form) = document.get().form() {
+                return Some((document.get().id(), form));
             }
         }
         None

@@ -1,12 +1,12 @@
 //! A shard: documents by their ids, and the rows of indexes over them.
-ghost use Rattle.std.specs.Prelude.{◌≡◌, ℕ, List, [], Some, length, map, option_map, reverse, unwrap_or, IfOk, IfSome};
+ghost use Rattle.std.specs.Prelude.{◌≡◌, ℕ, List, [], Some, length, map, option_map, unwrap_or, IfOk, IfSome};
 ghost use Rattle.std.specs.FinMap as finite;
 ghost use Rattle.std.specs.FinMap.{entries, get};
 ghost use Rattle.std.specs.List.{filter_map};
 ghost use Rattle.std.specs.declared.cmp.Ordering.{Ordering};
 ghost use Rattle.mg_shard.specs.Documents.{KeptDocument, deleted_of, doc_entry, docs_of, kept_entry, form_at, id_bytes, kept_of, tree_at, StandFor};
 ghost use Rattle.mg_shard.specs.Own.{HasOwnId};
-ghost use Rattle.mg_shard.specs.Walk.{beyond};
+ghost use Rattle.mg_pages.specs.Reading.{beyond, past};
 ghost use Rattle.mg_shard.specs.declared.document.Document.{Document};
 ghost use Rattle.mg_value.specs.Value.{Value};
 ghost use Rattle.mg_shard.specs.Edits.{after_edits, outcome_view, outcomes};
@@ -19,22 +19,25 @@ ghost use Rattle.mg_shard.specs.Index.{definitions_of};
 use crate::docs::Docs;
 use crate::document::Document;
 use crate::document_pages::DocumentPages;
+use crate::documents::Documents;
 use crate::draft::Draft;
 use crate::index_entry::IndexEntry;
 use crate::index_list::rows_there;
 use crate::index_ref::IndexRef;
 use crate::reply::EditReply;
-use crate::walk::{Documents, Rows, Walk, count_beyond};
 use mg_collate::Direction;
 use mg_doc::Edit;
 use mg_packed::Part;
-use mg_pages::{Pages, Probe, Shared};
+use mg_pages::{Cursor, Iter, Pages, Probe, Shared};
 use mg_revtree::RevTree;
 use mg_rows::RowBytes;
 use mg_value::NoMemory;
 use std::alloc::Global;
 use std::cmp::Ordering;
 use std::marker::Model;
+
+/// The rows of an index that are left, in the order of key, then id; `next_back` gives them from the last to the first.
+pub type Rows<'a> = Iter<'a, RowBytes>;
 
 /// Documents by their ids and the rows of indexes, in shared pages. Sharing a shard copies only the top levels. An edit makes its document
 /// anew, with a copy of the tree, removes at most one row from each index and adds at most one, and copies the pages on the way to them.
@@ -119,20 +122,11 @@ impl Shard {
         }
     }
 
-    /// Lists the served documents in the order of their ids. Takes no memory. Cost: a step a document, deleted ones too.
+    /// Lists the served documents in the order of their ids, from both ends. Takes no memory. Cost: a step a document, deleted ones too.
     pub fn docs(&self) -> Docs<'_>
         ensures { result ≡ docs_of self.now.documents }
     {
-        let documents = Documents::over(self.documents.all(), Direction::Asc);
-        Docs::over(documents)
-    }
-
-    /// Lists the served documents from the last id to the first. Takes no memory. Cost: as for `docs`.
-    pub fn docs_back(&self) -> Docs<'_>
-        ensures { result ≡ reverse (docs_of self.now.documents) }
-    {
-        let documents = Documents::over(self.documents.all(), Direction::Desc);
-        Docs::over(documents)
+        Docs::over(self.documents.all().iter())
     }
 
     /// Lists the documents that come after a place in a direction, deleted ones too: ascending, those above the place; descending, those
@@ -161,7 +155,7 @@ impl Shard {
             → ((d : Document) → Q.against place.now d ≡ order (kept_entry d))
             → result ≡ length (beyond direction order (entries self.now.documents)) }
     {
-        count_beyond(self.documents.all(), place, direction)
+        self.documents.all().count_beyond(place, direction)
     }
 
     /// Counts the documents that are not deleted. Takes no memory. Cost: constant.
@@ -192,8 +186,8 @@ impl Shard {
             → result ≡ length
             (filter_map doc_entry (beyond direction order (entries self.now.documents))) }
     {
-        let all = count_beyond(self.documents.all(), place, direction);
-        let deleted = count_beyond(self.documents.deleted(), place, direction);
+        let all = self.documents.all().count_beyond(place, direction);
+        let deleted = self.documents.deleted().count_beyond(place, direction);
         all - deleted
     }
 
@@ -255,27 +249,15 @@ impl Shard {
         rows_there(&self.indexes, index)
     }
 
-    /// Lists the rows of the index of this design document and name, in the order of key, then id; `None` if there is no such index. They
-    /// are the rows of an index that is made from scratch of the served documents. Takes no memory. Cost: one look-up of the index by its
-    /// name, and then a step a row.
+    /// Lists the rows of the index of this design document and name, in the order of key, then id, from both ends; `None` if there is no such
+    /// index. They are the rows of an index that is made from scratch of the served documents. Takes no memory. Cost: one look-up of the
+    /// index by its name, and then a step a row.
     pub fn rows(&self, ddoc: &str, name: &str) -> Option<Rows<'_>>
         ensures { result ≡ rows_at ddoc.now name.now self.now }
     {
         let place = 0;
         match self.index_rows(IndexRef { ddoc, name, place }) {
-            Some(rows) => Some(Walk::over(rows, Direction::Asc)),
-            None => None,
-        }
-    }
-
-    /// Lists the rows of the index of this design document and name from the last to the first; `None` if there is no such index.
-    /// Takes no memory. Cost: as for `rows`.
-    pub fn rows_back(&self, ddoc: &str, name: &str) -> Option<Rows<'_>>
-        ensures { result ≡ option_map reverse (rows_at ddoc.now name.now self.now) }
-    {
-        let place = 0;
-        match self.index_rows(IndexRef { ddoc, name, place }) {
-            Some(rows) => Some(Walk::over(rows, Direction::Desc)),
+            Some(rows) => Some(rows.iter()),
             None => None,
         }
     }
@@ -289,13 +271,13 @@ impl Shard {
         index: IndexRef<'_>,
         place: &Q,
         direction: Direction,
-    ) -> Option<Rows<'_>>
+    ) -> Option<Cursor<'_, RowBytes>>
         ensures { result
             ≡ option_map (beyond direction (Q.against place.now))
             (rows_at index.entry.ddoc.now index.entry.name.now self.now) }
     {
         match self.index_rows(index) {
-            Some(rows) => Some(Walk::beyond(rows, place, direction)),
+            Some(rows) => Some(rows.beyond(place, direction)),
             None => None,
         }
     }
@@ -313,13 +295,14 @@ impl Shard {
             (rows_at index.entry.ddoc.now index.entry.name.now self.now) }
     {
         match self.index_rows(index) {
-            Some(rows) => Some(count_beyond(rows, place, direction)),
+            Some(rows) => Some(rows.count_beyond(place, direction)),
             None => None,
         }
     }
 
-    /// Lists the rows that come after a row in a direction, in the index of this design document and name; `None` if there is no such
-    /// index. The row itself is not listed, and the index need not have it. Takes no memory. Cost: as for `rows_beyond`.
+    /// Lists the rows that come after a row in a direction, in the index of this design document and name: ascending, those above it;
+    /// descending, those below it. They are listed as by `rows`, in the order of key, then id, from both ends. `None` if there is no such
+    /// index. The row itself is not listed, and the index need not have it. Takes no memory. Cost: that of `rows`, and three look-ups.
     pub fn rows_after(
         &self,
         ddoc: &str,
@@ -328,9 +311,12 @@ impl Shard {
         direction: Direction,
     ) -> Option<Rows<'_>>
         ensures { result
-            ≡ option_map (beyond direction (row_value_order row.now)) (rows_at ddoc.now name.now self.now) }
+            ≡ option_map (past direction (row_value_order row.now)) (rows_at ddoc.now name.now self.now) }
     {
         let place = 0;
-        self.rows_beyond(IndexRef { ddoc, name, place }, row, direction)
+        match self.index_rows(IndexRef { ddoc, name, place }) {
+            Some(rows) => Some(rows.past(row, direction)),
+            None => None,
+        }
     }
 }

@@ -97,6 +97,40 @@ fn are_rows(rows: Option<Rows<'_>>, ids: &[&str]) -> bool {
     at == ids.len()
 }
 
+fn is_document(document: Option<(&str, Part<'_>)>, wanted: &str) -> bool {
+    match document {
+        Some((id, _)) => id == wanted,
+        None => false,
+    }
+}
+
+fn is_row(row: Option<&RowBytes>, wanted: &str) -> bool {
+    match row {
+        Some(row) => row.id() == wanted,
+        None => false,
+    }
+}
+
+// Reads documents from both ends: each is given once.
+fn are_documents_from_both_ends(mut documents: Docs<'_>) -> bool {
+    is_document(documents.next_back(), "d")
+        && is_document(documents.next(), "a")
+        && is_document(documents.next_back(), "c")
+        && documents.next().is_none()
+        && documents.next_back().is_none()
+}
+
+// Reads rows from both ends: each is given once.
+fn are_rows_from_both_ends(rows: Option<Rows<'_>>) -> bool {
+    let Some(mut rows) = rows else {
+        return false;
+    };
+    is_row(rows.next_back(), "a")
+        && is_row(rows.next(), "c")
+        && rows.next_back().is_none()
+        && rows.next().is_none()
+}
+
 fn lends_documents<R: Abort>(rt: &R, alloc: Global, shard: &Shard) {
     let form = r#"{"_id":"a","_rev":"1-x","k":2}"#;
     check(rt, is_form(rt, alloc, shard.served("a"), form), "a form");
@@ -109,8 +143,8 @@ fn lends_documents<R: Abort>(rt: &R, alloc: Global, shard: &Shard) {
     );
     check(
         rt,
-        are_documents(shard.docs_back(), &["d", "c", "a"]),
-        "documents from the last",
+        are_documents_from_both_ends(shard.docs()),
+        "documents from both ends",
     );
 }
 
@@ -119,14 +153,17 @@ fn lends_rows<R: Abort>(rt: &R, alloc: Global, shard: &Shard) {
     check(rt, are_rows(shard.rows(ddoc, name), &["c", "a"]), "rows");
     check(
         rt,
-        are_rows(shard.rows_back(ddoc, name), &["a", "c"]),
-        "rows from the last",
+        are_rows_from_both_ends(shard.rows(ddoc, name)),
+        "rows from both ends",
     );
     let first = RowBytes::of(alloc, &[Json::Whole(1)], "c").expect(rt, "memory");
     let after = shard.rows_after(ddoc, name, &first, Direction::Asc);
     check(rt, are_rows(after, &["a"]), "rows after the first");
     let after = shard.rows_after(ddoc, name, &first, Direction::Desc);
     check(rt, are_rows(after, &[]), "rows before the first");
+    let last = RowBytes::of(alloc, &[Json::Whole(2)], "a").expect(rt, "memory");
+    let after = shard.rows_after(ddoc, name, &last, Direction::Desc);
+    check(rt, are_rows(after, &["c"]), "rows before the last");
     check(rt, shard.rows(ddoc, "j_idx").is_none(), "no index");
 }
 

@@ -4,7 +4,7 @@ use Rattle.std.specs.FinMap.{entries}
 use Rattle.std.specs.List.{filter_map}
 use Rattle.std.specs.Ordering.{nat_cmp}
 use Rattle.mg_shard.specs.Documents.{doc_entry}
-use Rattle.mg_shard.specs.Walk.{beyond}
+use Rattle.mg_pages.specs.Reading.{beyond}
 use Rattle.mg_engine.proofs.Ranging.{on_shard}
 use Rattle.mg_engine.proofs.range.count_on.Goals as goal
 

@@ -3,7 +3,7 @@ use Rattle.mg_scan.specs.Way.{begin_at}
 use Rattle.mg_scan.proofs.AddedUp.{counts, counts_none}
 use Rattle.mg_scan.proofs.counting.count_upcoming_rows.Goals as goal
 use Rattle.mg_shard.specs.Shard.{rows_at}
-use Rattle.mg_shard.specs.Walk.{beyond}
+use Rattle.mg_pages.specs.Reading.{beyond}
 
 pub returns-in-Some : goal.returns-in-Some
 returns-in-Some c =

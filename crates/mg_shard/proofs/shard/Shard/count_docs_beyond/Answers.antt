@@ -2,7 +2,7 @@ use Rattle.std.proofs.Common.{◌≡◌, ◌+◌, ◌-◌, ◌∙◌, ap, arith,
 use Rattle.std.specs.FinMap.{entries}
 use Rattle.std.specs.List.{filter_map}
 use Rattle.mg_shard.specs.Documents.{deleted_among, doc_entry, docs_in, kept_entry}
-use Rattle.mg_shard.specs.Walk.{beyond}
+use Rattle.mg_pages.specs.Reading.{beyond}
 use Rattle.mg_shard.proofs.Deleted.{deleted_beyond, served_beyond}
 use Rattle.mg_shard.proofs.Shown.{entries-kept_documents}
 use Rattle.mg_shard.proofs.shard.Shard.count_docs_beyond.Goals as goal

@@ -1,6 +1,6 @@
 use Rattle.std.proofs.Common.{◌∙◌, List, Some, ap, length, option_map}
 use Rattle.mg_collate.specs.Row.{RowValue}
-use Rattle.mg_shard.specs.Walk.{beyond}
+use Rattle.mg_pages.specs.Reading.{beyond}
 use Rattle.mg_shard.proofs.shard.Shard.count_rows_beyond.Goals as goal
 
 pub returns-in-Some : goal.returns-in-Some

@@ -1,7 +1,7 @@
 use Rattle.std.proofs.Common.{◌∙◌, ap, map, sym}
 use Rattle.std.specs.FinMap.{entries}
 use Rattle.mg_shard.specs.Documents.{kept_entry}
-use Rattle.mg_shard.specs.Walk.{beyond}
+use Rattle.mg_pages.specs.Reading.{beyond}
 use Rattle.mg_shard.proofs.Shown.{entries-kept_documents}
 use Rattle.mg_shard.proofs.Walks.{beyond-map}
 use Rattle.mg_shard.proofs.shard.Shard.documents_beyond.Goals as goal
