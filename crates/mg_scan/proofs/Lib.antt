@@ -6,6 +6,7 @@ pub mod Found
 pub mod Steps
 pub mod Sources
 pub mod Own
+pub mod Filled
 pub mod Made
 pub mod Builds
 pub mod Values

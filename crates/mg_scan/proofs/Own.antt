@@ -1,16 +1,15 @@
 -- The row of a document in the index of all documents is that of its id.
-use Rattle.std.proofs.Common.{◌≡◌, ℕ, List, ◌∷◌, Some, option_map, map, ap, sym, ◌∙◌}
+use Rattle.std.proofs.Common.{◌≡◌, ℕ, List, ◌∷◌, Some, option_map, ap, sym, ◌∙◌}
 use Rattle.std.specs.Option.{option_and_then}
 use Rattle.mg_collate.specs.Row.{RowValue}
-use Rattle.mg_scan.specs.Way.{entry_rows}
 use Rattle.mg_scan.specs.Sourced.{holds_for, walked_documents, walked_on}
 use Rattle.mg_scan.specs.Walked.{id_row, is_late_row}
 use Rattle.mg_scan.specs.declared.search.Search.{Search}
 use Rattle.mg_scan.proofs.Entries.{own_form}
 use Rattle.mg_scan.proofs.Sources.{among_some}
-use Rattle.mg_scan.proofs.Steps.{keyed, rows_some}
+use Rattle.mg_scan.proofs.Steps.{keyed}
 use Rattle.mg_shard.proofs.Owned.{own_document}
-use Rattle.mg_shard.specs.Documents.{form_of, id_bytes, kept_entry}
+use Rattle.mg_shard.specs.Documents.{form_of, id_bytes}
 use Rattle.mg_shard.specs.Own.{id_columns}
 use Rattle.mg_shard.specs.Rows.{row_key}
 use Rattle.mg_shard.specs.declared.document.Document.{Document}
@@ -29,7 +28,3 @@ among_own s d documents key id e same =
     let late = is_late_row s.direction s.range.now in
     among_some s d documents key e
     ∙ ap (λ (r : RowValue). walked_on late (holds_for s.normal.now d) (Some r) (walked_documents s documents)) (own_lent d key e ∙ ap id_row (sym same))
-
-pub rows_own : (d : Document) (ds : List Document) (key : Items) (id : List ℕ) → Some key ≡ option_and_then (row_key id_columns) (form_of d) → id ≡ id_bytes d
-    → entry_rows (map kept_entry (d ∷ ds)) ≡ id_row id ∷ entry_rows (map kept_entry ds)
-rows_own d ds key id e same = rows_some d ds key e ∙ ap (λ (r : RowValue). r ∷ entry_rows (map kept_entry ds)) (own_lent d key e ∙ ap id_row (sym same))

@@ -116,6 +116,10 @@ cut_or : (n : ℕ) (f : List Steps → List RowValue) (o : Option (List Steps)) 
 cut_or n f None = sym (take-nil n)
 cut_or n f (Some columns) = refl
 
+-- what a search finds in a shard is the first part of all that it finds there without its limit
+pub found_first : (s : Search) (shard : ShardView) → found_by s shard ≡ take s.take (all_found_by s shard)
+found_first s shard = cut_or s.take (λ columns. all_matches (search_input s columns) (docs_of shard.documents)) (target_columns s.target shard.definitions)
+
 -- all that a search finds in a shard is in order
 pub found_in_order : (s : Search) (shard : ShardView) → IsInOrder s.direction (all_found_by s shard)
 found_in_order s shard = ordered_or s shard.documents (target_columns s.target shard.definitions)
@@ -124,11 +128,10 @@ all_in_order : (s : Search) (shards : List ShardView) → AllByRecursion (IsInOr
 all_in_order s [] = tt
 all_in_order s (shard ∷ shards) = (found_in_order s shard, all_in_order s shards)
 
--- what a search finds in each shard is the first part of all that it finds there without its limit
 cut_found : (s : Search) (shards : List ShardView) → map (take s.take) (map (all_found_by s) shards) ≡ map (found_by s) shards
 cut_found s [] = refl
 cut_found s (shard ∷ shards) =
-    ap₂ (λ rows lists. rows ∷ lists) (sym (cut_or s.take (λ columns. all_matches (search_input s columns) (docs_of shard.documents)) (target_columns s.target shard.definitions))) (cut_found s shards)
+    ap₂ (λ rows lists. rows ∷ lists) (sym (found_first s shard)) (cut_found s shards)
 
 -- merging what is found without the limit gives the same as merging what is found with it
 pub found_merged : (s : Search) (shards : List ShardView) → merged s.direction s.take (map (all_found_by s) shards) ≡ merged s.direction s.take (map (found_by s) shards)

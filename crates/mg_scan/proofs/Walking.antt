@@ -1,6 +1,6 @@
 -- What a search finds on its way is what it asks for: the rows from where it begins to the first late one are those in its range and after
 -- the row `after`.
-use Rattle.std.proofs.Common.{◌≡◌, ℕ, zero, suc, Bool, true, false, ◌&&◌, not, cond, List, [], ◌∷◌, ◌++◌, Option, Some, None, option_map, Less, Greater, is_gt, is_lt, take, reverse, if◌then◌else◌, refl, ap, ap₂, sym, ◌∙◌, subst}
+use Rattle.std.proofs.Common.{◌≡◌, ℕ, Bool, true, false, ◌&&◌, not, cond, List, [], ◌∷◌, ◌++◌, Option, Some, None, option_map, Less, Greater, is_gt, is_lt, reverse, refl, ap, ap₂, sym, ◌∙◌, subst, if◌then◌else◌}
 use Rattle.std.proofs.lemmas.List.{reverse-append}
 use Rattle.std.proofs.lemmas.List.Elements.{filter-append}
 use Rattle.std.specs.List.{AllByRecursion, cons_option, filter, filter_map}
@@ -18,8 +18,8 @@ use Rattle.mg_range.specs.RangeSide.{is_early, is_late, is_side_within}
 use Rattle.mg_range.specs.Range.{Range}
 use Rattle.mg_range.specs.declared.side.RangeSide.{RangeSide}
 use Rattle.mg_range.specs.declared.side.RangeSide.TheVariants.{Before, Within, Past}
-use Rattle.mg_scan.specs.Scan.{SearchInput, all_matches, comes_after, is_wanted, first_matches}
-use Rattle.mg_scan.specs.Walked.{begin_order, holds_at, is_beyond, is_late_row, walked, walked_all}
+use Rattle.mg_scan.specs.Scan.{SearchInput, all_matches, comes_after, is_wanted}
+use Rattle.mg_scan.specs.Walked.{begin_order, holds_at, is_beyond, is_late_row, walked_all}
 use Rattle.mg_scan.specs.Begins.{row_side, reached}
 use Rattle.mg_scan.proofs.Late.{late_rises}
 use Rattle.mg_shard.specs.Documents.{KeptDocuments, docs_of, form_at}
@@ -104,22 +104,6 @@ late_last direction range (r ∷ rows) h = (all_late direction range r rows h.0,
 none_left : (late : RowValue → Bool) (rows : List RowValue) → AllByRecursion (λ x. late x ≡ true) rows → filter (λ r. not (late r)) rows ≡ []
 none_left late [] h = refl
 none_left late (r ∷ rows) h = ap (λ b. cond (not b) (r ∷ filter (λ x. not (late x)) rows) (filter (λ x. not (late x)) rows)) h.0 ∙ none_left late rows h.1
-
-walk_step : (late holds : RowValue → Bool) (n : ℕ) (r : RowValue) (rows : List RowValue) (b h : Bool) → late r ≡ b → holds r ≡ h → (late r ≡ true → AllByRecursion (λ x. late x ≡ true) rows)
-    → walked late holds n rows ≡ take n (filter holds (filter (λ x. not (late x)) rows))
-    → walked late holds (suc n) rows ≡ take (suc n) (filter holds (filter (λ x. not (late x)) rows))
-    → (if b then [] else if h then r ∷ walked late holds n rows else walked late holds (suc n) rows)
-    ≡ take (suc n) (filter holds (cond (not b) (r ∷ filter (λ x. not (late x)) rows) (filter (λ x. not (late x)) rows)))
-walk_step late holds n r rows true h e f last one more = ap (λ xs. take (suc n) (filter holds xs)) (sym (none_left late rows (last e)))
-walk_step late holds n r rows false true e f last one more =
-    ap (λ xs. r ∷ xs) one ∙ ap (λ b. take (suc n) (cond b (r ∷ filter holds (filter (λ x. not (late x)) rows)) (filter holds (filter (λ x. not (late x)) rows)))) (sym f)
-walk_step late holds n r rows false false e f last one more =
-    more ∙ ap (λ b. take (suc n) (cond b (r ∷ filter holds (filter (λ x. not (late x)) rows)) (filter holds (filter (λ x. not (late x)) rows)))) (sym f)
-
-walked_is : (late holds : RowValue → Bool) (n : ℕ) (rows : List RowValue) → LateLast late rows → walked late holds n rows ≡ take n (filter holds (filter (λ r. not (late r)) rows))
-walked_is late holds zero rows h = refl
-walked_is late holds (suc n) [] h = refl
-walked_is late holds (suc n) (r ∷ rows) h = walk_step late holds n r rows (late r) (holds r) refl refl h.0 (walked_is late holds n rows h.1) (walked_is late holds (suc n) rows h.1)
 
 all_step : (late holds : RowValue → Bool) (r : RowValue) (rows : List RowValue) (b h : Bool) → late r ≡ b → holds r ≡ h → (late r ≡ true → AllByRecursion (λ x. late x ≡ true) rows)
     → walked_all late holds rows ≡ filter holds (filter (λ x. not (late x)) rows)
@@ -234,9 +218,6 @@ module _ (q : SearchInput) (ds : KeptDocuments) (rows : List RowValue) (own : Al
       ∙ ap (λ b. holds r && (is_side_within (row_side q.range r) && b)) (beyond_is direction q.after r)) all
       ∙ sym (filter-both (is_wanted q) holds all)
       ∙ ap (filter (is_wanted q)) (sym (sorted_rows-where holds direction unsorted) ∙ ap (sorted_rows direction) (sym (asked_is q.columns q.normal ds (docs_of ds) own)))
-
-  pub found_rows : walked late holds q.count rows ≡ first_matches q (docs_of ds)
-  found_rows = ap (walked late holds q.count) begun_at ∙ walked_is late holds q.count (filter reach all) late_ones ∙ ap (take q.count) wanted_ones
 
   pub all_found_rows : walked_all late holds rows ≡ all_matches q (docs_of ds)
   all_found_rows = ap (walked_all late holds) begun_at ∙ walked_all_is late holds (filter reach all) late_ones ∙ wanted_ones

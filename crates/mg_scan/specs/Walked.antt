@@ -1,5 +1,5 @@
 -- For private clauses: where a search begins among rows that are in order, where it ends, and what it finds on the way.
-use Rattle.std.specs.Prelude.{ℕ, zero, suc, Bool, true, false, not, ◌&&◌, List, [], ◌∷◌, Option, Some, None, if◌then◌else◌}
+use Rattle.std.specs.Prelude.{ℕ, Bool, true, false, not, ◌&&◌, List, [], ◌∷◌, Option, Some, None, if◌then◌else◌}
 use Rattle.std.specs.Option.{option_map_or}
 use Rattle.std.specs.Ordering.{is_gt}
 use Rattle.std.specs.declared.cmp.Ordering.{Ordering}
@@ -34,12 +34,6 @@ is_late_row direction range r = is_late direction (side_of range (item_list r.0)
 -- there is a served document of this id, and the selector holds of it
 abbrev pub holds_at : NormalForm → KeptDocuments → List ℕ → Bool
 holds_at normal ds id = option_map_or (λ form. normal_holds normal (Some form)) (form_at ds id) false
-
--- of the rows before the first one for which `late` is true: the first n for which `holds` is true
-abbrev pub walked : (RowValue → Bool) → (RowValue → Bool) → ℕ → List RowValue → List RowValue
-walked late holds zero rows = []
-walked late holds (suc n) [] = []
-walked late holds (suc n) (r ∷ rows) = if late r then [] else if holds r then r ∷ walked late holds n rows else walked late holds (suc n) rows
 
 -- of the rows before the first one for which `late` is true: all for which `holds` is true
 abbrev pub walked_all : (RowValue → Bool) → (RowValue → Bool) → List RowValue → List RowValue

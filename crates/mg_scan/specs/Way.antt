@@ -7,7 +7,7 @@ use Rattle.mg_collate.specs.Row.{RowValue, row_value_order}
 use Rattle.mg_range.specs.RangeSide.{side_of}
 use Rattle.mg_scan.specs.Found.{all_found_in}
 use Rattle.mg_scan.specs.Search.{after_of, search_input}
-use Rattle.mg_scan.specs.Walked.{begin_order, holds_at, is_late_row, walked, walked_all}
+use Rattle.mg_scan.specs.Walked.{begin_order, holds_at, is_late_row, walked_all}
 use Rattle.mg_scan.specs.declared.search.Search.{Search}
 use Rattle.mg_shard.specs.Documents.{KeptDocument, KeptDocuments, doc_entry}
 use Rattle.mg_shard.specs.Own.{id_columns}
@@ -22,10 +22,6 @@ all_found_by s = all_found_in s.target (search_input s)
 -- compares the place where a search begins to a row
 abbrev pub begin_at : Search → RowValue → Ordering
 begin_at s r = begin_order s.direction (side_of s.range.now (item_list r.0)) (option_map (row_value_order r) (after_of s))
-
--- the rows that a search finds, at most n, among these rows of a shard with these documents; the rows begin where the search begins
-abbrev pub walked_by : Search → KeptDocuments → ℕ → List RowValue → List RowValue
-walked_by s ds = walked (is_late_row s.direction s.range.now) (λ r. holds_at s.normal.now ds r.1)
 
 -- all rows that a search without a limit finds among these rows of a shard with these documents; the rows begin where the search begins
 abbrev pub walked_all_by : Search → KeptDocuments → List RowValue → List RowValue

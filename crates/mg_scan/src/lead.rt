@@ -1,13 +1,13 @@
 //! Rows that a search found, lent before their documents are looked up.
-ghost use Rattle.std.specs.Prelude.{◌≡◌, List, Some, true, is_some, drop, map, option_map, IfOk, IfSome};
+ghost use Rattle.std.specs.Prelude.{◌≡◌, ◌++◌, List, Some, true, is_some, drop, map, option_map, IfOk, IfSome, OnOk};
 ghost use Rattle.mg_scan.specs.Hit.{AreHitsIn, IsHitOf, hit_row, hit_rows};
 ghost use Rattle.mg_scan.specs.Lead.{AreLeadsIn, lead_row};
+ghost use Rattle.mg_scan.specs.Walked.{list_of_option};
 ghost use Rattle.mg_shard.specs.Documents.{form_at};
 ghost use Rattle.mg_shard.specs.Shard.{ShardView};
 
 use crate::hit::Hit;
 use crate::lent_row::LentRow;
-use crate::shard::push_if;
 use mg_merge::Ranked;
 use mg_shard::Shard;
 use mg_value::NoMemory;
@@ -43,6 +43,16 @@ fn hit_of_lead<'a>(lead: Lead<'a>) -> Option<Hit<'a>>
         document,
         form,
     })
+}
+
+// Appends the hit, if there is one.
+fn push_if<'a>(hits: &mut Vec<Hit<'a>>, hit: Option<Hit<'a>>) -> Result<(), NoMemory>
+    ensures { OnOk result (hits.new.items ≡ hits.old.items ++ list_of_option hit.entry) }
+{
+    if let Some(hit) = hit {
+        hits.push(hit)?;
+    }
+    Ok(())
 }
 
 // Looks up the documents of the leads after the first `skip`, and returns their hits. Errors: `NoMemory` if an allocation fails. Cost: a

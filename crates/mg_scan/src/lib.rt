@@ -31,7 +31,6 @@ mod range_end;
 mod scanning;
 mod scout;
 mod search;
-mod shard;
 mod source;
 mod target;
 mod target_ref;

@@ -1,19 +1,30 @@
 //! Hits of a shard, found as they are asked for.
-ghost use Rattle.std.specs.Prelude.{◌≡◌, ◌∷◌, [], IfNone, IfSome};
-ghost use Rattle.mg_shard.specs.Documents.{KeptDocuments};
+ghost use Rattle.std.specs.Prelude.{◌≡◌, ◌∷◌, [], false, None, Some, option_map, IfNone, IfOk, IfSome, if◌then◌else◌};
+ghost use Rattle.std.specs.FinMap.{get};
+ghost use Rattle.std.specs.Option.{option_map_or};
+ghost use Rattle.mg_normal.specs.Normal.{normal_holds};
+ghost use Rattle.mg_shard.specs.Documents.{KeptDocuments, form_of, kept_of};
 ghost use Rattle.mg_scan.specs.Hit.{IsHitOf, hit_row};
+ghost use Rattle.mg_scan.specs.LentRow.{lent_row_view};
 ghost use Rattle.mg_scan.specs.Way.{walked_all_by};
+ghost use Rattle.mg_scan.specs.Walked.{holds_at};
 ghost use Rattle.mg_scan.specs.Sourced.{AreKept, IsUnread, IsSourceOf, unread_rows, walked_documents};
+ghost use Rattle.mg_scan.specs.Worked.{AreHitsFound};
 
 use crate::hit::Hit;
 use crate::lent_row::LentRow;
 use crate::search::{Search, is_late_id, is_late_row};
-use crate::shard::{hit_at, hit_of};
 use crate::unread::{Unread, unread_of};
 use mg_merge::RowSource;
+use mg_normal::Normal;
 use mg_pages::Cursor;
 use mg_rows::RowBytes;
-use mg_shard::{Documents, Shard};
+use mg_shard::{Document, Documents, Shard};
+use mg_value::NoMemory;
+use std::alloc::Global;
+
+// A list of hits first gets room for at most this many.
+const FIRST_ROOM: usize = 64;
 
 /// The hits of a search in one shard that are still to come.
 #[derive(Drop)]
@@ -35,6 +46,37 @@ impl<'a, 'b> RowSource<Hit<'a>> for HitSource<'a, 'b> {
             Unread::Nothing => None,
         }
     }
+}
+
+// Makes the hit of a row with this document; `None` if the document is not served, or the selector does not hold of it.
+fn hit_of<'a>(row: LentRow<'a>, document: &'a Document, normal: &Normal) -> Option<Hit<'a>>
+    ensures row { option_map hit_row result
+        ≡ if option_map_or
+        (λ form. normal_holds normal.now (Some form)) (form_of document.now) false then Some
+        (lent_row_view row.entry) else None }
+    ensures lent { (ds : KeptDocuments) → get ds (lent_row_view row.entry).1 ≡ Some (kept_of document.now)
+        → IfSome result (IsHitOf ds) }
+{
+    let form = document.written()?;
+    if !normal.holds_of(form.part()) {
+        return None;
+    }
+    Some(Hit {
+        row,
+        document,
+        form,
+    })
+}
+
+// Makes the hit of a row of an index, as `hit_of` does; `None` also if the shard does not have the row's document. Cost: a look-up of the
+// row's document, and the selector.
+fn hit_at<'a>(shard: &'a Shard, row: &'a RowBytes, normal: &Normal) -> Option<Hit<'a>>
+    ensures row { option_map hit_row result
+        ≡ if holds_at normal.now shard.now.documents row.now.1 then Some row.now else None }
+    ensures lent { IfSome result (IsHitOf shard.now.documents) }
+{
+    let document = shard.document(row.id())?;
+    hit_of(LentRow::Bytes(row), document, normal)
 }
 
 // Reads rows of an index up to the next hit, and returns the hit; `None` if the range or the index ends first.
@@ -92,4 +134,26 @@ pub(crate) fn source_of<'a, 'b>(shard: &'a Shard, search: Search<'b>) -> HitSour
         unread: unread_of(shard, search),
         search,
     }
+}
+
+/// Finds the hits of a search in a shard, at most `take`; no hits if its target is an index that the shard does not have.
+///
+/// Errors: `NoMemory` if an allocation fails. Cost: finding the index, one look-up of where to begin, then for each row of an index that is
+/// read a look-up of its document, and for each document that is read the selector.
+pub(crate) fn hits_in<'a>(
+    alloc: Global,
+    shard: &'a Shard,
+    search: Search<'_>,
+) -> Result<Vec<Hit<'a>>, NoMemory>
+    ensures { IfOk result (λ v. AreHitsFound search.entry shard.now v.items) }
+{
+    let mut hits = Vec::with_capacity(alloc, search.take.min(FIRST_ROOM))?;
+    let mut source = source_of(shard, search);
+    while hits.len() < search.take {
+        let Some(hit) = source.next() else {
+            return Ok(hits);
+        };
+        hits.push(hit)?;
+    }
+    Ok(hits)
 }

@@ -7,7 +7,7 @@ ghost use Rattle.mg_scan.specs.Worked.{AllShardHits, AllSlots, AreHitsFoundAt, A
 use crate::gate::{Gate, Place};
 use crate::hit::Hit;
 use crate::search::Search;
-use crate::shard::hits_in;
+use crate::source::hits_in;
 use mg_shard::Shard;
 use mg_value::NoMemory;
 use std::alloc::Global;
