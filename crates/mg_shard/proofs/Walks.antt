@@ -1,6 +1,6 @@
 -- The elements after a place, with a function applied to each; and the served documents before the last one.
-use Rattle.std.proofs.Common.{◌≡◌, List, [], ◌∷◌, ◌++◌, Bool, true, false, Ordering, Option, Some, None, append-nil, cond, is_gt, is_lt, map, option_map, reverse, refl, ap, sym, ◌∙◌}
-use Rattle.std.proofs.lemmas.List.{reverse-append}
+use Rattle.std.proofs.Common.{◌≡◌, ◌+◌, length, List, [], ◌∷◌, ◌++◌, Bool, true, false, Ordering, Option, Some, None, append-nil, cond, is_gt, is_lt, map, option_map, reverse, refl, ap, sym, ◌∙◌}
+use Rattle.std.proofs.lemmas.List.{length-append, reverse-append}
 use Rattle.std.specs.List.{cons_option, filter, filter_map}
 use Rattle.mg_collate.specs.declared.direction.Direction.{Direction}
 use Rattle.mg_collate.specs.declared.direction.Direction.TheVariants.{Asc, Desc}
@@ -50,6 +50,9 @@ module _ (ds xs : List Document) (d : Document) (e : ds ≡ xs ++ d ∷ []) wher
 
   pub docs_before_served : (form : Value) → form_of d ≡ Some form → docs_in ds ≡ docs_in xs ++ (d.id, form) ∷ []
   docs_before_served form is = docs_before ∙ ap (λ o. docs_in xs ++ cons_option (option_map (λ v. (d.id, v)) o) []) is
+
+  pub count_before_served : (form : Value) → form_of d ≡ Some form → length (docs_in ds) ≡ length (docs_in xs) + 1
+  count_before_served form is = ap length (docs_before_served form is) ∙ length-append (docs_in xs) ((d.id, form) ∷ [])
 
   pub docs_before_deleted : form_of d ≡ None → docs_in ds ≡ docs_in xs
   docs_before_deleted is = docs_before ∙ ap (λ o. docs_in xs ++ cons_option (option_map (λ v. (d.id, v)) o) []) is ∙ append-nil (docs_in xs)
