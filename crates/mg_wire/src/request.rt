@@ -34,11 +34,7 @@ fn part_of(head: &Bytes, span: Span) -> Result<Bytes, AllocError>
     head.slice(span.start..span.end)
 }
 
-fn fields_at(
-    alloc: Global,
-    head: &Bytes,
-    spans: &[HeaderSpan],
-) -> Result<Vec<Field>, AllocError>
+fn fields_at(alloc: Global, head: &Bytes, spans: &[HeaderSpan]) -> Result<Vec<Field>, AllocError>
     requires { All (IsHeaderWithin (length head.now)) spans.now }
     ensures { IfOk result (λ v. map field_parts v.items ≡ map (header_bytes head.now) spans.now) }
 {

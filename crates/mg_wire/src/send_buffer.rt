@@ -6,8 +6,8 @@ use bytes::BufMut;
 use std::alloc::{AllocError, Global};
 use std::marker::Model;
 
-/// Bytes that wait to be sent: they are added at the end, and taken off at the front once they are sent. Room is not cleared, as it would be in
-/// a `BytesMut`.
+/// Bytes that wait to be sent: they are added at the end, and leave at the front once they are sent. A `BytesMut` would clear
+/// its spare room, most of which no response uses.
 #[derive(Drop)]
 pub(crate) struct SendBuffer {
     bytes: Vec<u8>,
