@@ -1,5 +1,5 @@
 //! Bytes that wait to be sent.
-ghost use Rattle.std.specs.Prelude.{◌≡◌, ◌<◌, ◌≤◌, ◌+◌, ◌-◌, ◌^◌, ◌==◌, [], ◌++◌, drop, length, vec_len, vec_capacity, OnOk, OnErr};
+ghost use Rattle.std.specs.Prelude.{◌≡◌, ◌≤◌, ◌+◌, ◌==◌, [], ◌++◌, drop, length, vec_capacity, OnOk, OnErr};
 ghost use Rattle.bytes.specs.Filled.{UsesSpare, MakesSpare};
 
 use bytes::BufMut;
