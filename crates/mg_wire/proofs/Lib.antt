@@ -1,3 +1,4 @@
+pub mod RequestLemmas
 pub mod StartLemmas
 pub mod ReadyLemmas
 pub mod BodyLemmas

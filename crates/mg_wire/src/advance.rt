@@ -12,10 +12,10 @@ use crate::connection::{Connection, Ending};
 use crate::refusal::{CONTINUE, Refusal, write_refusal};
 use crate::reply::{ROOM, content_len, write_reply};
 use crate::response::Response;
+use crate::send_buffer::SendBuffer;
 use crate::service::Service;
 use crate::start::begin;
 use crate::status::Status;
-use bytes::BytesMut;
 use http1::BodySize;
 use http1::framing::MethodKind;
 use std::alloc::Global;
@@ -181,9 +181,9 @@ impl Connection {
         ensures pending { pending self.new ≡ self.old.output.items ++ body.items }
     {
         if body.len() <= FOLDED && self.output.extend_from_slice(body.as_slice()).is_ok() {
-            self.tail = BytesMut::new(self.alloc);
+            self.tail = SendBuffer::new(self.alloc);
         } else {
-            self.tail = BytesMut::from_vec(body);
+            self.tail = SendBuffer::from_vec(body);
         }
     }
 
@@ -305,6 +305,15 @@ impl Connection {
         }
     }
 
+    /// Takes the date for a refusal, unless there is nothing to refuse.
+    fn note_date<S: Service>(&mut self, service: &S)
+        ensures { self.new ≡ record self.old { date = self.new.date } }
+    {
+        if !self.input.is_empty() || self.is_starved {
+            self.date = service.date();
+        }
+    }
+
     /// Answers the whole requests that were received, in order, until they are used up, as much is pending as may be, or the connection ends.
     pub(crate) fn run<H: Wait + Threads + Sync, S: Service>(&mut self, rt: &H, service: &mut S)
         ensures quiet { IsSilent self.old self.new }
@@ -312,7 +321,7 @@ impl Connection {
         ensures holds { Holds self.old → Holds self.new }
         ensures rests { Holds self.old → Rests self.new }
     {
-        self.date = service.date();
+        self.note_date(service);
         while self.step(rt, service) {}
     }
 }

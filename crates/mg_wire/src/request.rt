@@ -1,10 +1,10 @@
 //! A request, as a service gets it.
 ghost use Rattle.std.specs.Prelude.{◌≡◌, ◌≤◌, [], length, map, All, IfOk};
-ghost use Rattle.httparse.specs.Spans.{IsHeaderWithin, IsRequestWithin, header_bytes};
+ghost use Rattle.httparse.specs.Spans.{IsHeaderWithin, IsRequestWithin, IsWithin, header_bytes, span_bytes};
 ghost use Rattle.mg_wire.specs.Request.{field_parts, HasHeadAt};
 
 use bytes::Bytes;
-use httparse::spans::{HeaderSpan, RequestSpans};
+use httparse::spans::{HeaderSpan, RequestSpans, Span};
 use std::alloc::{AllocError, Global};
 
 /// A field of a head: its name, in the case that it came in, and its value without the blanks around it.
@@ -24,21 +24,31 @@ pub struct Request {
     pub body: Vec<u8>,
 }
 
-fn fields_at(alloc: Global, input: &[u8], spans: &[HeaderSpan]) -> Result<Vec<Field>, AllocError>
-    requires { All (IsHeaderWithin (length input.now)) spans.now }
-    ensures { IfOk result (λ v. map field_parts v.items ≡ map (header_bytes input.now) spans.now) }
+/// The part of a head that a span covers. Copies no byte.
+///
+/// Errors: out of memory.
+fn part_of(head: &Bytes, span: Span) -> Result<Bytes, AllocError>
+    requires { IsWithin (length head.now) span }
+    ensures { IfOk result (λ b. b ≡ span_bytes head.now span) }
 {
-    let mut fields = Vec::new(alloc);
+    head.slice(span.start..span.end)
+}
+
+fn fields_at(alloc: Global, head: &Bytes, spans: &[HeaderSpan]) -> Result<Vec<Field>, AllocError>
+    requires { All (IsHeaderWithin (length head.now)) spans.now }
+    ensures { IfOk result (λ v. map field_parts v.items ≡ map (header_bytes head.now) spans.now) }
+{
+    let mut fields = Vec::with_capacity(alloc, spans.len())?;
     for span in spans {
         fields.push(Field {
-            name: Bytes::copy_from_slice(alloc, span.name.of(input))?,
-            value: Bytes::copy_from_slice(alloc, span.value.of(input))?,
+            name: part_of(head, span.name)?,
+            value: part_of(head, span.value)?,
         })?;
     }
     Ok(fields)
 }
 
-/// The request whose head this is, with no body yet.
+/// The request whose head this is, with no body yet. Its parts share one copy of the head.
 pub(crate) fn request_at(
     alloc: Global,
     input: &[u8],
@@ -48,11 +58,12 @@ pub(crate) fn request_at(
     requires { IsRequestWithin input.now spans.now head.now }
     ensures { IfOk result (HasHeadAt input.now spans.now head.now) }
 {
+    let text = Bytes::copy_from_slice(alloc, &input[..head.len])?;
     Ok(Request {
-        method: Bytes::copy_from_slice(alloc, head.method.of(input))?,
-        target: Bytes::copy_from_slice(alloc, head.path.of(input))?,
+        method: part_of(&text, head.method)?,
+        target: part_of(&text, head.path)?,
         minor: head.version,
-        fields: fields_at(alloc, input, &spans[..head.headers])?,
+        fields: fields_at(alloc, &text, &spans[..head.headers])?,
         body: Vec::new(alloc),
     })
 }
