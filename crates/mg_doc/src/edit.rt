@@ -77,10 +77,11 @@ impl Edit {
         }
     }
 
-    /// Reads a document of a bulk as `read_part` does, from a `Json`, which is packed into a block.
+    /// Reads a document of a bulk as `read_part` does, from a `Json`, which is packed into a block before any member is read. An edit, and
+    /// every error but `NoMemory`, is the one that the document gives.
     ///
-    /// Errors: `NoMemory` if an allocation fails, or if the block would be longer than 4,294,967,295 bytes, whatever fault the document
-    /// has; else those of `read_part`. Cost: that of `read_part`, and the size of the document.
+    /// Errors: `NoMemory` if an allocation fails, or if the block would be longer than 4,294,967,295 bytes, also for a document that has
+    /// a fault; else those of `read_part`. Cost: that of `read_part`, and the size of the document.
     pub fn read(alloc: Global, document: Json, new_edits: bool) -> Result<Edit, DocError>
         requires { is_object (view document) ≡ true }
         ensures { ReadsAs (edit_of new_edits (view document)) result }

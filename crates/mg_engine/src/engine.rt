@@ -65,8 +65,7 @@ impl<P: Placement + Drop> Engine<P> {
     /// reply is `NoMemory` and nothing changes.
     ///
     /// The number of workers, 1 to 32, does not change the reply. For a query it is a maximum: a query that is not worth a second thread
-    /// runs on the thread of the caller. With one worker, a new index and a reshard start no thread; with more, they may start more threads
-    /// than workers, as `mg_scan::build` and `mg_shard::redeal_by` say.
+    /// runs on the thread of the caller. So it is for a new index and a reshard, as `mg_scan::build` and `mg_shard::redeal_by` say.
     ///
     /// Cost: a bulk costs its edits, each with its document and its rows. A query costs its page, and the rows of its index that it reads
     /// until the page is found; if the index of all documents serves it, the documents that it reads. A new index, or another number of

@@ -147,8 +147,8 @@ where
     }
 
     /// Deals the documents to the number of shards that the body asks for, 1 to 64; refused as `WrongShape` if the body asks for no such
-    /// number. This changes no other reply. With one worker no thread is started; with 2 to 32, each new shard may be made by a thread of
-    /// its own, as `mg_shard::redeal_by` says.
+    /// number. This changes no other reply. With one worker no thread is started; with 2 to 32, at most so many threads make the new shards,
+    /// as `mg_shard::redeal_by` says.
     pub fn reshard<R: Wait + Threads + Sync>(
         &mut self,
         rt: &R,

@@ -191,9 +191,9 @@ fn index_shards(
 }
 
 /// Returns the shards, each with an index of this definition, as `Shard::with_index` makes them: an index of the same design document and
-/// name is replaced. The result is the same for every number of workers, 1 to 32, and for every gate. One worker starts no thread. Several
-/// workers take a shard each; if there are at least twice as many workers as shards left, up to two threads for each processor extract the
-/// rows of a shard of 1,000 or more documents.
+/// name is replaced. The result is the same for every number of workers, 1 to 32, and for every gate. There are at most `workers` threads,
+/// the caller's among them. Several workers take a shard each; if there are at least twice as many workers as shards left, they are shared
+/// out among these shards, and `Shard::rows_for` uses those of a shard.
 ///
 /// The gate is passed before a shard's first document is read, and after its last row is made unless an allocation fails in that shard.
 /// Errors: `NoMemory` if an allocation fails; the given shards stay as they are. Cost: for each shard that of `Shard::rows_for` and of

@@ -354,3 +354,7 @@ sorted_ascends old new is once =
     let same : count z new ≡ count z old =
     ap (count z) is ∙ times_permutation row_value_order z old (sorted row_value_order old) (permutation_sorted row_value_order old) in
     let few = once z in omega (arith, same, few))
+
+-- the rows of an index ascend
+pub rows_ascend : (columns : List Steps) (rows : List RowValue) (ds : KeptDocuments) → rows ≡ rows_of columns (docs_of ds) → Ascends row_value_order rows
+rows_ascend columns rows ds is = sorted_ascends (filter_map (row_of columns) (docs_of ds)) rows is (λ z. at_most_once columns z ds)

@@ -1,12 +1,17 @@
 -- Lists of lent documents, and the shards that threads make, in a list.
 use denote.Ref.{Bor}
-use Rattle.std.proofs.lemmas.List.{length-map}
-use Rattle.std.proofs.lemmas.Option.{get_or_from_slice_get, slice_get-map, slice_get_within}
-use Rattle.std.proofs.Common.{◌++◌, option_map, ◌≡◌, ℕ, zero, suc, ◌<◌, List, [], ◌∷◌, Some, Result, Ok, length, get_or, map, slice_get, arith, refl, sym, ap, ◌∙◌, subst, IfOk}
+use Rattle.std.proofs.Common.{◌≡◌, ℕ, zero, suc, ◌+◌, ◌<◌, List, [], ◌∷◌, Some, Result, Ok, Err, length, get_or, map, slice_get, arith, refl, sym, ap, subst, IfOk}
+use Rattle.std.specs.Prelude.{MatchResult, Contains}
+use Rattle.std.specs.List.{AllZip, range_with_len}
+use Rattle.std.specs.declared.alloc.Global.{Global}
+use Rattle.std.specs.declared.vec.Vec.{Vec}
 use Rattle.mg_shard.specs.Redealt.{documents_view}
 use Rattle.mg_shard.specs.Shard.{ShardView}
 use Rattle.mg_shard.specs.declared.document.Document.{Document}
 use Rattle.mg_value.specs.declared.error.NoMemory.{NoMemory}
+
+abbrev pub Given : Type 0
+Given = Result ShardView NoMemory
 
 abbrev Lent : Type 0
 Lent = Bor Document
@@ -29,23 +34,48 @@ read_alike (p ∷ ps) (suc k) a b l = read_alike ps k a b (omega (arith, l))
 
 -- ---- shards
 
-ok_at : (ss : List ShardView) (i : ℕ) (s : ShardView) → slice_get ss i ≡ Some s → slice_get (map {B = Result ShardView NoMemory} Ok ss) i ≡ Some (Ok s)
-ok_at ss i s e = slice_get-map Ok ss i ∙ ap (option_map Ok) e
-
 -- if no thread was refused memory, there is a shard for each number
-pub shards_together : (P : ℕ → ShardView → Type 0) (n : ℕ) (rs : List (Result ShardView NoMemory)) (ss : List ShardView) → length rs ≡ n
-    → ((i : ℕ) (r : Result ShardView NoMemory) → i < n → IfOk (get_or rs i r) (P i)) → rs ≡ map Ok ss
-    → (length ss ≡ n) × ((i : ℕ) (s : ShardView) → slice_get ss i ≡ Some s → P i s)
-shards_together P n rs ss long each all = (sym (length-map ss Ok) ∙ sym (ap length all) ∙ long, at)
-  where
-    at : (i : ℕ) (s : ShardView) → slice_get ss i ≡ Some s → P i s
-    at i s e =
-        let there : slice_get rs i ≡ Some (Ok s) = ap (λ xs. slice_get xs i) all ∙ ok_at ss i s e in
-        let less : i < n = subst (λ m. i < m) long (slice_get_within rs i (Ok s) there) in
-        subst (λ r. IfOk r (P i)) (get_or_from_slice_get rs i (Ok s) (Ok s) there) (each i (Ok s) less)
+module _ (P : ℕ → ShardView → Type 0) where
+  -- from the number `a` on, there is a shard for each number
+  abbrev From : ℕ → List ShardView → Type 0
+  From a ss = (i : ℕ) (s : ShardView) → slice_get ss i ≡ Some s → (k : ℕ) → k ≡ a + i → P k s
 
--- one more result, which is a shard, moves to the shards
-pub one_given : (ss : List ShardView) (s : ShardView) (r : Result ShardView NoMemory) (rest : List (Result ShardView NoMemory)) → r ≡ Ok s
-    → map Ok ss ++ r ∷ rest ≡ map Ok (ss ++ s ∷ []) ++ rest
-one_given [] s r rest e = ap (λ x. x ∷ rest) e
-one_given (x ∷ ss) s r rest e = ap (λ xs. Ok x ∷ xs) (one_given ss s r rest e)
+  from_next : (a : ℕ) (x s : ShardView) (ss : List ShardView) → x ≡ s → P a x → From (a + 1) ss → From a (s ∷ ss)
+  from_next a x s ss same here there zero t e k at =
+      let first : x ≡ t = cc in
+      let number : a ≡ k = omega (arith, at) in
+      subst (λ j. P j t) number (subst (P a) first here)
+  from_next a x s ss same here there (suc i) t e k at = there i t e k (omega (arith, at))
+
+  shards_from : (a n : ℕ) (rs : List Given) (ss : List ShardView) → AllZip (λ i (r : Given). IfOk r (P i)) (range_with_len a n) rs → rs ≡ map Ok ss
+      → (length ss ≡ n) × From a ss
+  shards_from a zero [] [] h all = (refl, λ i s e k at. absurd cc)
+  shards_from a zero [] (s ∷ ss) h all = absurd cc
+  shards_from a zero (r ∷ rs) ss h all = absurd h
+  shards_from a (suc n) [] ss h all = absurd h
+  shards_from a (suc n) (Ok x ∷ rs) [] h all = absurd cc
+  shards_from a (suc n) (Err x ∷ rs) [] h all = absurd cc
+  shards_from a (suc n) (Err x ∷ rs) (s ∷ ss) h all = absurd cc
+  shards_from a (suc n) (Ok x ∷ rs) (s ∷ ss) h all =
+      let same : x ≡ s = cc in
+      let more : rs ≡ map Ok ss = cc in
+      let others = shards_from (a + 1) n rs ss h.1 more in
+      (ap suc others.0, from_next a x s ss same h.0 others.1)
+
+  shards_together : (n : ℕ) (rs : List Given) (v : Vec ShardView Global) → AllZip (λ i (r : Given). IfOk r (P i)) (range_with_len 0 n) rs
+      → (ss : List ShardView) × (rs ≡ map Ok ss) × (v.items ≡ ss) → (length v.items ≡ n) × ((i : ℕ) (s : ShardView) → slice_get v.items i ≡ Some s → P i s)
+  shards_together n rs v each all =
+      let made = shards_from 0 n rs all.0 each all.1 in
+      subst (λ (ss : List ShardView). (length ss ≡ n) × ((i : ℕ) (s : ShardView) → slice_get ss i ≡ Some s → P i s)) (sym all.2)
+      (made.0, λ i s e. made.1 i s e i (omega arith))
+
+  pub shards_number : (n : ℕ) (rs : List Given) (together : Result (Vec ShardView Global) NoMemory) → AllZip (λ i (r : Given). IfOk r (P i)) (range_with_len 0 n) rs
+      → MatchResult together (λ v. (ss : List ShardView) × (rs ≡ map Ok ss) × (v.items ≡ ss)) (λ e. Contains rs (Err e)) → IfOk together (λ v. length v.items ≡ n)
+  shards_number n rs (Err e) each all = tt
+  shards_number n rs (Ok v) each all = (shards_together n rs v each all).0
+
+  pub shards_made : (n : ℕ) (rs : List Given) (together : Result (Vec ShardView Global) NoMemory) → AllZip (λ i (r : Given). IfOk r (P i)) (range_with_len 0 n) rs
+      → MatchResult together (λ v. (ss : List ShardView) × (rs ≡ map Ok ss) × (v.items ≡ ss)) (λ e. Contains rs (Err e))
+      → IfOk together (λ v. (i : ℕ) (s : ShardView) → slice_get v.items i ≡ Some s → P i s)
+  shards_made n rs (Err e) each all = tt
+  shards_made n rs (Ok v) each all = (shards_together n rs v each all).1

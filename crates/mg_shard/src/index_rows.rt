@@ -1,10 +1,8 @@
 //! The rows of an index in a shard: how a document's row is made, and how the rows are mended when a document changes.
-ghost use Rattle.std.specs.Prelude.{◌≡◌, ◌≤◌, IfOk, None, OnOk, Some, cond, option_map, true};
+ghost use Rattle.std.specs.Prelude.{◌≡◌, IfOk, None, OnOk, Some, cond, option_map, true};
 ghost use Rattle.std.specs.Arc.{arc_value};
 ghost use Rattle.std.specs.FinMap.{insert};
-ghost use Rattle.mg_collate.specs.Row.{RowValue, row_value_order, rows_view};
-ghost use Rattle.mg_collate.specs.Sorted.{sorted};
-ghost use Rattle.mg_collate.proofs.Sorting.{times};
+ghost use Rattle.mg_collate.specs.Row.{row_value_order, rows_view};
 ghost use Rattle.mg_pages.specs.Order.{Ascends};
 ghost use Rattle.mg_shard.specs.Documents.{KeptDocument, KeptDocuments, docs_of, form_at};
 ghost use Rattle.mg_shard.specs.Mended.{HaveSameRow, own_row, with_row, without_row};
@@ -211,25 +209,6 @@ pub(crate) fn mend_rows(
     let rows: &Pages<RowBytes> = rows;
     rows.ascends();
     Ok(())
-}
-
-/// Sorts rows by key, then id, and puts them into pages. No row may occur twice. All pages but the last are filled to three quarters.
-///
-/// Errors: `NoMemory` if an allocation fails. Cost: a sort of the rows, and a step for each.
-pub(crate) fn pages_of(alloc: Global, rows: Vec<RowBytes>) -> Result<Pages<RowBytes>, NoMemory>
-    requires { (z : RowValue) → times row_value_order z rows.items ≤ 1 }
-    ensures { IfOk result (λ pages. pages ≡ sorted row_value_order rows.items) }
-{
-    let rows = sorted_rows(rows);
-    Pages::from_sorted(alloc, &rows)
-}
-
-// Sorts the rows by key, then id. Takes no memory. Cost: the number of the rows times its logarithm.
-fn sorted_rows(mut rows: Vec<RowBytes>) -> Vec<RowBytes>
-    ensures { result.items ≡ sorted row_value_order rows.items }
-{
-    rows.sort_unstable();
-    rows
 }
 
 /// Puts rows, which must ascend by key, then id, into pages. All pages but the last are filled to three quarters.

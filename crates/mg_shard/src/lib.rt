@@ -12,8 +12,9 @@
 //! `without_index` change one index only, and copy one page of the list of indexes (index_entry.rt,
 //! index_list.rt), while `finish` makes that list anew; `redeal` deals documents to another number of
 //! shards, whatever placement dealt them before (`Redeals`), and `redeal_by` does the same with several
-//! workers. `rows_for` extracts and sorts the rows of an index and puts them into pages
-//! (shard_indexes.rt), with several workers by `rayon` (extracted.rt).
+//! workers (new_shards.rt). `rows_for` extracts and sorts the rows of an index and puts them into pages
+//! (shard_indexes.rt), with several workers by `rayon` (extracted.rt). Where a function takes a number of
+//! workers, it has at most that many threads.
 #![tactic(auto)]
 
 mod docs;
@@ -28,6 +29,7 @@ mod index_list;
 mod index_ref;
 mod index_rows;
 pub mod laws;
+mod new_shards;
 mod placed;
 mod placement;
 mod redealt;
@@ -35,7 +37,6 @@ mod reply;
 mod served;
 mod shard;
 mod shard_indexes;
-mod workforce;
 
 pub use docs::Docs;
 pub use document::Document;

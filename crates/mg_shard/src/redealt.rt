@@ -1,17 +1,17 @@
 //! Documents that are dealt anew to another number of shards.
-ghost use Rattle.std.specs.Prelude.{◌≡◌, ◌<◌, IfOk};
+ghost use Rattle.std.specs.Prelude.{◌≡◌, ◌<◌, IfOk, List, length};
 ghost use Rattle.mg_index.specs.Catalog.{IsCatalog};
 ghost use Rattle.mg_shard.specs.Index.{definitions_of};
-ghost use Rattle.mg_shard.specs.Redealt.{Redeals, first_definitions};
-ghost use Rattle.mg_shard.specs.Shard.{shards_view};
+ghost use Rattle.mg_shard.specs.Redealt.{AreMade, Redeals, documents_view, first_definitions};
+ghost use Rattle.mg_shard.specs.Shard.{ShardView, shards_view};
 
 use crate::document::Document;
 use crate::index_entry::IndexEntry;
 use crate::index_list::share_indexes;
+use crate::new_shards::{make_by_threads, make_in_turn};
 use crate::placed::{all_documents, places_of};
 use crate::placement::Placement;
 use crate::shard::Shard;
-use crate::workforce::{Alone, Together, Workforce};
 use mg_pages::Shared;
 use mg_value::NoMemory;
 use std::alloc::Global;
@@ -35,12 +35,20 @@ pub fn redeal<P: Placement>(
     ensures { IfOk result
         (λ v. Redeals (P.place placement.now) shards (shards_view former.now) v.items) }
 {
-    deal(&Alone, alloc, former, placement, shards)
+    let dealt = deal(alloc, former, placement, shards)?;
+    let made = make_in_turn(
+        alloc,
+        &dealt.documents,
+        &dealt.places,
+        &dealt.indexes,
+        shards,
+    )?;
+    Ok(made)
 }
 
-/// Deals the documents of these shards as `redeal` does; the result does not depend on the number of workers. With fewer than two workers,
-/// or fewer than 1,000 documents, no thread is started; otherwise each new shard is made by a thread of its own. If there are at least
-/// twice as many workers as new shards, further threads extract and sort the rows of each new shard that has 1,000 documents or more.
+/// Deals the documents of these shards as `redeal` does; the result does not depend on the number of workers. At most `workers` threads,
+/// the caller's among them, and at most two for each processor, make the new shards, each of which is made by one thread. No thread is
+/// started for fewer than two workers, or for one new shard.
 ///
 /// Errors and cost: those of `redeal`.
 pub fn redeal_by<P: Placement, R: Threads + Sync>(
@@ -55,30 +63,49 @@ pub fn redeal_by<P: Placement, R: Threads + Sync>(
     ensures { IfOk result
         (λ v. Redeals (P.place placement.now) count (shards_view shards.now) v.items) }
 {
-    deal(&Together { rt, workers }, alloc, shards, placement, count)
+    let dealt = deal(alloc, shards, placement, count)?;
+    let made = make_by_threads(
+        rt,
+        alloc,
+        &dealt.documents,
+        &dealt.places,
+        &dealt.indexes,
+        count,
+        workers,
+    )?;
+    Ok(made)
 }
 
-// Deals the documents of these shards to `count` new shards, which `force` makes.
-fn deal<P: Placement, F: Workforce>(
-    force: &F,
+// What new shards are made of: documents, the number of the shard of each, and indexes, whose definitions each shard gets.
+#[derive(Drop)]
+struct Dealt<'a> {
+    documents: Vec<&'a Shared<Document>>,
+    places: Vec<usize>,
+    indexes: Vec<IndexEntry>,
+}
+
+// Lists the documents of these shards, the place of each among `count` new shards, and the indexes of the first shard.
+fn deal<'a, P: Placement>(
     alloc: Global,
-    shards: &[Arc<Shard>],
+    shards: &'a [Arc<Shard>],
     placement: &P,
     count: usize,
-) -> Result<Vec<Shard>, NoMemory>
-    requires ready { F.can_work }
-    requires some { 0 < count }
-    ensures { IfOk result
-        (λ v. Redeals (P.place placement.now) count (shards_view shards.now) v.items) }
+) -> Result<Dealt<'a>, NoMemory>
+    requires { 0 < count }
+    ensures number { IfOk result (λ d. length d.places.items ≡ length d.documents.items) }
+    ensures catalog { IfOk result (λ d. IsCatalog (definitions_of d.indexes.items)) }
+    ensures dealt { IfOk result (λ d. (made : List ShardView) → length made ≡ count
+        → AreMade (documents_view d.documents.items) d.places.items (definitions_of d.indexes.items) made
+        → Redeals (P.place placement.now) count (shards_view shards.now) made) }
 {
-    let listed = all_documents(alloc, shards)?;
-    let documents: &[&Shared<Document>] = &listed;
-    let found = places_of(alloc, placement, documents, count)?;
-    let places: &[usize] = &found;
-    let first = first_indexes(alloc, shards)?;
-    let indexes: &[IndexEntry] = &first;
-    let made = force.make_all(alloc, documents, places, indexes, count)?;
-    Ok(made)
+    let documents = all_documents(alloc, shards)?;
+    let places = places_of(alloc, placement, &documents, count)?;
+    let indexes = first_indexes(alloc, shards)?;
+    Ok(Dealt {
+        documents,
+        places,
+        indexes,
+    })
 }
 
 // Lists the indexes of the first shard, with their rows shared. The list is empty if there is no shard.

@@ -1,39 +1,33 @@
 //! Methods of a shard for its indexes: they make the rows of an index, and add or remove an index.
 ghost use Rattle.std.specs.Prelude.{◌≡◌, IfOk};
-ghost use Rattle.std.specs.List.{filter_map};
 ghost use Rattle.mg_collate.specs.Row.{rows_view};
 ghost use Rattle.mg_index.specs.Catalog.{with_definition, without_definition};
-ghost use Rattle.mg_shard.specs.Documents.{docs_of};
-ghost use Rattle.mg_shard.specs.Rows.{row_of, rows_of};
+ghost use Rattle.mg_pages.specs.Runs.{elements_view};
+ghost use Rattle.mg_shard.specs.Documents.{docs_in, docs_of};
+ghost use Rattle.mg_shard.specs.Rows.{rows_of};
 
-use crate::extracted::{MANY_DOCUMENTS, pages_by_threads, rows_by_threads, sorted_by_threads};
+use crate::document::Document;
+use crate::extracted::{pages_by_threads, rows_by_threads, rows_in_order};
 use crate::index_entry::IndexEntry;
 use crate::index_list::{insert_index, remove_index};
-use crate::index_rows::{pages_of, pages_of_rows, row_in};
+use crate::index_rows::pages_of_rows;
 use crate::shard::Shard;
 use mg_collate::Row;
 use mg_index::IndexDef;
-use mg_pages::Pages;
+use mg_pages::{Pages, Shared};
 use mg_path::Path;
-use mg_rows::{KeyBytes, RowBytes};
+use mg_rows::RowBytes;
 use mg_value::NoMemory;
 use std::alloc::Global;
 use std::thread::Threads;
 
 impl Shard {
-    // Makes the rows that an index with these columns has, in the order of the documents.
-    fn unsorted_rows(&self, alloc: Global, columns: &[Path]) -> Result<Vec<RowBytes>, NoMemory>
-        ensures { IfOk result
-            (λ rows. rows.items ≡ filter_map (row_of columns.now) (docs_of self.now.documents)) }
+    // Lends the documents, as one slice for each page.
+    fn runs(&self, alloc: Global) -> Result<Vec<&[Shared<Document>]>, NoMemory>
+        ensures { IfOk result (λ v. docs_in (elements_view v.items) ≡ docs_of self.now.documents) }
     {
-        let mut rows = Vec::new(alloc);
-        let mut scratch = KeyBytes::new(alloc);
-        for (id, form) in self.docs() {
-            if let Some(row) = row_in(alloc, &mut scratch, columns, id, &form)? {
-                rows.push(row)?;
-            }
-        }
-        Ok(rows)
+        let runs = self.documents.all().runs(alloc)?;
+        Ok(runs)
     }
 
     /// Makes the rows that an index with these columns has, in the order of key, then id. The caller's thread does all the work.
@@ -44,31 +38,33 @@ impl Shard {
     ) -> Result<Pages<RowBytes>, NoMemory>
         ensures { IfOk result (λ rows. rows ≡ rows_of columns.now (docs_of self.now.documents)) }
     {
-        let rows = self.unsorted_rows(alloc, columns)?;
-        let pages = pages_of(alloc, rows)?;
+        let runs = self.runs(alloc)?;
+        let rows = rows_in_order(alloc, columns, &runs)?;
+        let pages = Pages::from_sorted(alloc, &rows)?;
         Ok(pages)
     }
 
-    // Makes what `rows_alone` makes, by several threads: they extract the rows, sort them and put them into pages.
+    // Makes what `rows_alone` makes, by at most `workers` threads.
     fn rows_together<R: Threads + Sync>(
         &self,
         rt: &R,
         alloc: Global,
         columns: &[Path],
+        workers: usize,
     ) -> Result<Pages<RowBytes>, NoMemory>
         ensures { IfOk result (λ rows. rows ≡ rows_of columns.now (docs_of self.now.documents)) }
     {
-        let documents = self.documents.all();
-        let runs = documents.runs(alloc)?;
-        let rows = rows_by_threads(rt, alloc, columns, &runs, documents.len())?;
-        let rows = sorted_by_threads(rt, rows);
-        let pages = pages_by_threads(rt, alloc, &rows)?;
+        let runs = self.runs(alloc)?;
+        let count = self.documents.all().len();
+        let rows = rows_by_threads(rt, alloc, columns, &runs, count, workers)?;
+        let pages = pages_by_threads(rt, alloc, &rows, workers)?;
         Ok(pages)
     }
 
     /// Makes the rows that an index of this definition has in this shard, in the order of key, then id, as `with_pages` takes them. They
-    /// do not depend on the number of workers. With fewer than two workers, or fewer than 1,000 documents, no thread is started; otherwise,
-    /// whatever the number of workers, up to two threads for each processor extract the rows, sort them and put them into pages.
+    /// do not depend on the number of workers. At most `workers` threads, the caller's among them, and at most two for each processor,
+    /// extract the rows, sort them and put them into pages; the caller's thread merges what they sorted. No thread is started for fewer
+    /// than two workers, or for one page of documents.
     ///
     /// Errors: `NoMemory` if an allocation fails. Cost: a step for each document, the bytes of its row, a sort of the rows, and a step
     /// for each of them. A row takes a block of memory only if it is too long to be stored in the `RowBytes` itself.
@@ -81,10 +77,10 @@ impl Shard {
     ) -> Result<Pages<RowBytes>, NoMemory>
         ensures { IfOk result (λ rows. rows ≡ rows_of definition.now.columns (docs_of self.now.documents)) }
     {
-        if workers < 2 || self.documents.all().len() < MANY_DOCUMENTS {
+        if workers < 2 {
             return Ok(self.rows_alone(alloc, definition.columns())?);
         }
-        Ok(self.rows_together(rt, alloc, definition.columns())?)
+        Ok(self.rows_together(rt, alloc, definition.columns(), workers)?)
     }
 
     // Makes the shard that has an index of this definition with these rows. It replaces an index of the same design document and name.

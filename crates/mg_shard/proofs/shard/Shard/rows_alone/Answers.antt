@@ -1,12 +1,21 @@
-use Rattle.std.proofs.Common.{◌≤◌, List, sym, ap, ◌∙◌, subst}
-use Rattle.mg_collate.specs.Row.{RowValue, row_value_order}
-use Rattle.mg_collate.specs.Sorted.{sorted}
-use Rattle.mg_shard.proofs.Rows.{at_most_once, count}
+use denote.Ref.{Bor}
+use Rattle.std.proofs.Common.{List, ap, ◌∙◌}
+use Rattle.mg_pages.specs.Runs.{elements_view}
+use Rattle.mg_shard.specs.Documents.{docs_in}
+use Rattle.mg_shard.specs.Rows.{rows_of}
+use Rattle.mg_shard.specs.declared.document.Document.{Document}
+use Rattle.mg_shard.proofs.Rows.{rows_ascend}
 use Rattle.mg_shard.proofs.shard.Shard.rows_alone.Goals as goal
 
-pub pages_of-requires : goal.pages_of-requires
-pages_of-requires c = λ z.
-    subst (λ (rows : List RowValue). count z rows ≤ 1) (sym c.in_ok-rows.ensures) (at_most_once c.args.columns.now z c.args.self.now.documents)
+pub from_sorted-requires : goal.from_sorted-requires
+from_sorted-requires c =
+    let columns = c.args.columns.now in
+    rows_ascend columns _ c.args.self.now.documents
+    (c.deref-2.ensures.value ∙ c.in_ok-rows.ensures
+    ∙ ap (λ (runs : List (Bor (List Document))). rows_of columns (docs_in (elements_view runs))) c.deref.ensures.value ∙ ap (rows_of columns) c.in_ok-runs.ensures)
 
 pub returns : goal.returns
-returns c = c.in_ok-pages.ensures ∙ ap (sorted row_value_order) c.in_ok-rows.ensures
+returns c =
+    let columns = c.args.columns.now in
+    c.in_ok-pages.ensures ∙ c.deref-2.ensures.value ∙ c.in_ok-rows.ensures
+    ∙ ap (λ (runs : List (Bor (List Document))). rows_of columns (docs_in (elements_view runs))) c.deref.ensures.value ∙ ap (rows_of columns) c.in_ok-runs.ensures

@@ -1,7 +1,7 @@
 use Rattle.std.proofs.Common.{◌≡◌, length}
 use Rattle.mg_shard.specs.Index.{definitions_of}
 use Rattle.mg_shard.specs.Redealt.{AreMade, documents_view}
-use Rattle.mg_shard.proofs.workforce.make_in_turn.Given as goal
+use Rattle.mg_shard.proofs.new_shards.make_in_turn.Given as goal
 
 -- the shards so far are made
 abbrev pub invariant-loop-i : goal.invariant-loop-i

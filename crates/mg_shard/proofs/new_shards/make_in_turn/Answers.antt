@@ -3,7 +3,7 @@ use Rattle.mg_shard.specs.Index.{definitions_of}
 use Rattle.mg_shard.specs.Redealt.{AreMade, documents_view}
 use Rattle.mg_shard.specs.Shard.{ShardView}
 use Rattle.mg_shard.proofs.Redealing.{one_made}
-use Rattle.mg_shard.proofs.workforce.make_in_turn.Goals as goal
+use Rattle.mg_shard.proofs.new_shards.make_in_turn.Goals as goal
 
 pub loop-i-preserved : goal.loop-i-preserved
 loop-i-preserved c =

@@ -1,0 +1,6 @@
+use Rattle.mg_shard.proofs.redealt.redeal_by.Goals as goal
+
+pub returns : goal.returns
+returns g c =
+    c.in_ok-dealt.ensures.dealt c.in_ok-made.made.items c.in_ok-made.ensures.number
+    (rw (c.deref.ensures.value, c.deref-2.ensures.value, c.deref-3.ensures.value) at c.in_ok-made.ensures.made)
