@@ -12,10 +12,10 @@ use crate::connection::{Connection, Ending};
 use crate::refusal::{CONTINUE, Refusal, write_refusal};
 use crate::reply::{ROOM, content_len, write_reply};
 use crate::response::Response;
-use crate::send_buffer::SendBuffer;
 use crate::service::Service;
 use crate::start::begin;
 use crate::status::Status;
+use bytes::BytesMut;
 use http1::BodySize;
 use http1::framing::MethodKind;
 use std::alloc::Global;
@@ -181,9 +181,9 @@ impl Connection {
         ensures pending { pending self.new ≡ self.old.output.items ++ body.items }
     {
         if body.len() <= FOLDED && self.output.extend_from_slice(body.as_slice()).is_ok() {
-            self.tail = SendBuffer::new(self.alloc);
+            self.tail = BytesMut::new(self.alloc);
         } else {
-            self.tail = SendBuffer::from_vec(body);
+            self.tail = BytesMut::from_vec(body);
         }
     }
 

@@ -9,7 +9,6 @@ use crate::bounds::Bounds;
 use crate::refusal::Refusal;
 use crate::request::Request;
 use crate::response::Response;
-use crate::send_buffer::SendBuffer;
 use bytes::BytesMut;
 use http_server::Log;
 use httpdate::HttpDate;
@@ -51,13 +50,13 @@ pub struct Connection {
     /// The request whose head was read. The input begins where it begins.
     pub(crate) begun: Option<Begun>,
     pub(crate) input: BytesMut,
-    pub(crate) output: SendBuffer,
+    pub(crate) output: BytesMut,
     /// The body of the last response, which is sent after the output.
-    pub(crate) tail: SendBuffer,
+    pub(crate) tail: BytesMut,
     /// What each read added: the input after it, and its length before it. Only proofs read the logs.
     pub(crate) reads: Log<BytesMut, usize>,
     /// What was sent: a buffer before, and the number of its bytes.
-    pub(crate) writes: Log<SendBuffer, usize>,
+    pub(crate) writes: Log<BytesMut, usize>,
     /// What the service was asked, and what it responded.
     pub(crate) calls: Log<Request, Response>,
 }
@@ -80,8 +79,8 @@ impl Connection {
             is_starved: false,
             begun: None,
             input: BytesMut::new(alloc),
-            output: SendBuffer::new(alloc),
-            tail: SendBuffer::new(alloc),
+            output: BytesMut::new(alloc),
+            tail: BytesMut::new(alloc),
             reads: Log::new(),
             writes: Log::new(),
             calls: Log::new(),
@@ -106,8 +105,8 @@ impl Connection {
     {
         if self.is_unused() {
             self.input = BytesMut::new(self.alloc);
-            self.output = SendBuffer::new(self.alloc);
-            self.tail = SendBuffer::new(self.alloc);
+            self.output = BytesMut::new(self.alloc);
+            self.tail = BytesMut::new(self.alloc);
         }
     }
 

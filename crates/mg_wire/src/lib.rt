@@ -28,7 +28,6 @@ mod refusal;
 mod reply;
 mod request;
 mod response;
-mod send_buffer;
 mod sendable;
 mod service;
 mod start;

@@ -2,7 +2,7 @@
 ghost use Rattle.std.specs.Prelude.{◌≡◌, ◌+◌, ◌≤◌, ◌++◌, length, OnOk, OnErr};
 ghost use Rattle.mg_wire.specs.Refusal.{date_line, refusal_text, template_of};
 
-use crate::send_buffer::SendBuffer;
+use bytes::BytesMut;
 use http1::ReadError;
 use httpdate::HttpDate;
 use std::alloc::AllocError;
@@ -125,7 +125,7 @@ fn unreadable_template(error: ReadError) -> (&'static [u8], &'static [u8], &'sta
 const ROOM: usize = 256;
 
 /// Appends the line of the date, if there is one.
-fn write_date(output: &mut SendBuffer, date: Option<HttpDate>)
+fn write_date(output: &mut BytesMut, date: Option<HttpDate>)
     requires { 37 ≤ output.old.spare }
     ensures items { output.new.items ≡ output.old.items ++ date_line date }
     ensures spare { output.old.spare ≤ output.new.spare + 37 }
@@ -139,7 +139,7 @@ fn write_date(output: &mut SendBuffer, date: Option<HttpDate>)
 
 /// Appends the response to a request that is refused: to `HEAD` the head alone. If there is no memory for it, appends nothing.
 pub(crate) fn write_refusal(
-    output: &mut SendBuffer,
+    output: &mut BytesMut,
     date: Option<HttpDate>,
     is_head: bool,
     refusal: Refusal,

@@ -12,8 +12,8 @@ ghost use Rattle.mg_wire.specs.Reply.{size_for, first_of, Heads};
 use crate::fields::MAX_RESPONSE_FIELDS;
 use crate::request::Field;
 use crate::response::Response;
-use crate::send_buffer::SendBuffer;
 use crate::status::Status;
+use bytes::BytesMut;
 use http1::{BodySize, Header, Server};
 use httpdate::HttpDate;
 
@@ -49,7 +49,7 @@ fn size_for(len: usize) -> BodySize
 /// Appends the head of a response with these fields and so long a content, of which `sent` bytes are sent.
 pub(crate) fn write_head(
     server: &mut Server,
-    output: &mut SendBuffer,
+    output: &mut BytesMut,
     status: Status,
     fields: &[Header<'_>],
     content_len: usize,
@@ -126,7 +126,7 @@ fn headers_of<'a>(date: &'a [u8], fields: &'a [Field]) -> ([Header<'a>; MAX_FIEL
 /// Appends the head of the response, of whose content so many bytes are sent.
 pub(crate) fn write_reply(
     server: &mut Server,
-    output: &mut SendBuffer,
+    output: &mut BytesMut,
     response: &Response,
     sent: usize,
 )
