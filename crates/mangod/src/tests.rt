@@ -1,8 +1,11 @@
-//! `serve` over sockets of the loopback, one connection for each seat. A failing test ends the process.
+//! The arguments and the ends of the program, and `serve` over sockets of the loopback, one connection for each seat. A failing test ends the
+//! process.
 ghost use Rattle.std.specs.Prelude.{◌≡◌, string_bytes};
 
-use crate::ends::{Exit, STOPPED};
+use crate::arguments::settings;
+use crate::ends::{Exit, STOPPED, ending};
 use crate::serving::serve;
+use mg_http::SessionEnd;
 use mg_live::{CommitLog, Database, Live, WaitForReaders};
 use mg_shard::Md5Placement;
 use std::io;
@@ -98,4 +101,63 @@ fn serve_two<
 fn two_clients_over_tcp(rt: HostRuntime) {
     let db = String::from_str(rt.alloc(), "db").expect(&rt, "memory");
     serve_two::<Brand, _>(rt, Blank::new(2), CommitLog::new(), db)
+}
+
+fn arguments<R: AllocGlobal + Abort>(rt: &R, words: &[&str]) -> Vec<String> {
+    let mut args = Vec::new(rt.alloc());
+    for word in words {
+        let arg = String::from_str(rt.alloc(), word).expect(rt, "memory");
+        args.push(arg).expect(rt, "memory");
+    }
+    args
+}
+
+fn expect_usage<R: AllocGlobal + Abort>(rt: &R, words: &[&str]) {
+    assert!(rt; settings(&arguments(rt, words)).is_none());
+}
+
+#[test]
+fn settings_of_arguments(rt: HostRuntime) {
+    let args = arguments(&rt, &["a_$()+-0", "064", "32", "16", "-"]);
+    let Some(asked) = settings(&args) else {
+        rt.panic("the arguments are right")
+    };
+    assert!(rt; asked.db == "a_$()+-0");
+    assert!(rt; asked.shards == 64);
+    assert!(rt; asked.workers == 32);
+    assert!(rt; asked.sessions == 16);
+    assert!(rt; asked.addr == "-");
+}
+
+#[test]
+fn wrong_arguments(rt: HostRuntime) {
+    expect_usage(&rt, &[]);
+    expect_usage(&rt, &["db", "1", "1", "1"]);
+    expect_usage(&rt, &["db", "1", "1", "1", "-", "-"]);
+    expect_usage(&rt, &["", "1", "1", "1", "-"]);
+    expect_usage(&rt, &["Db", "1", "1", "1", "-"]);
+    expect_usage(&rt, &["_db", "1", "1", "1", "-"]);
+    expect_usage(&rt, &["d b", "1", "1", "1", "-"]);
+    expect_usage(&rt, &["db", "0", "1", "1", "-"]);
+    expect_usage(&rt, &["db", "65", "1", "1", "-"]);
+    expect_usage(&rt, &["db", "1", "33", "1", "-"]);
+    expect_usage(&rt, &["db", "1", "1", "17", "-"]);
+    expect_usage(&rt, &["db", "1", "1", "+1", "-"]);
+    expect_usage(&rt, &["db", "1", "1", "", "-"]);
+}
+
+fn expect_end<R: Abort>(rt: &R, end: SessionEnd, status: u8, line: &str) {
+    let found = ending(&end);
+    assert!(rt; found.0 == status);
+    assert!(rt; found.1 == line);
+}
+
+#[test]
+fn ends_of_sessions(rt: HostRuntime) {
+    expect_end(&rt, SessionEnd::Eof, 0, "");
+    expect_end(&rt, SessionEnd::Closed, 0, "");
+    expect_end(&rt, SessionEnd::Refused, 1, "mangod: refused");
+    expect_end(&rt, SessionEnd::ReadFault, 1, "mangod: read fault");
+    expect_end(&rt, SessionEnd::WriteFault, 1, "mangod: write fault");
+    expect_end(&rt, SessionEnd::Limit, 1, "mangod: limit");
 }
