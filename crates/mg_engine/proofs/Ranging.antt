@@ -17,7 +17,7 @@ use Rattle.mg_shard.specs.Histories.{Histories, ServedDocument, served_entry}
 use Rattle.mg_shard.specs.Shard.{ShardView}
 use Rattle.mg_pages.specs.Reading.{beyond}
 use Rattle.mg_shard.proofs.Standing.{same_docs}
-use Rattle.mg_shard.proofs.Walks.{filter_map-reverse}
+use Rattle.mg_scan.proofs.Entries.{filter_map-reverse}
 use Rattle.mg_engine.specs.Counted.{counted_before}
 use Rattle.mg_engine.specs.Listing.{comes_before, count_before, opposite}
 use Rattle.mg_engine.proofs.Counting.{joined_length}

@@ -1,8 +1,9 @@
 -- The entries of a shard's documents: what is kept of each, its row in the index of all documents, and the order of these rows.
 use lib.Dec.{T}
-use Rattle.std.proofs.Common.{◌≡◌, ℕ, Bool, true, false, ◌&&◌, cond, List, [], ◌∷◌, Option, Some, None, codes, map, option_map, Ordering, Less, Equal, Greater, is_eq, is_gt, is_lt, reverse, refl, ap, ap₂, sym, ◌∙◌}
+use Rattle.std.proofs.Common.{◌≡◌, ℕ, Bool, true, false, ◌&&◌, cond, List, [], ◌∷◌, ◌++◌, append-nil, Option, Some, None, codes, map, option_map, Ordering, Less, Equal, Greater, is_eq, is_gt, is_lt, reverse, refl, ap, ap₂, sym, ◌∙◌}
 use Rattle.std.proofs.lemmas.Cmp.{nat_list_cmp_total, tied_itself}
 use Rattle.std.proofs.lemmas.List.{reverse-append}
+use Rattle.std.proofs.lemmas.List.Elements.{filter_map-append}
 use Rattle.std.specs.FinMap.Entries.{below_all}
 use Rattle.std.specs.FinMap.{entries, entries_sorted, find, get, get-entries, is_sorted}
 use Rattle.std.specs.List.{AllByRecursion, cons_option, filter, filter_map}
@@ -24,9 +25,18 @@ use Rattle.mg_shard.specs.Rows.{row_of, rows_of}
 use Rattle.mg_pages.specs.Reading.{beyond}
 use Rattle.mg_shard.proofs.Rows.{sorted_is}
 use Rattle.mg_shard.proofs.Shown.{bytes_cmp}
-use Rattle.mg_shard.proofs.Walks.{filter_map-reverse}
 use Rattle.mg_value.specs.Value.{Value, no_items, item, text}
 use Rattle.mg_value.specs.View.{items_of}
+
+pub filter_map-reverse : {A B : Type 0} (f : A → Option B) (xs : List A) → filter_map f (reverse xs) ≡ reverse (filter_map f xs)
+filter_map-reverse f [] = refl
+filter_map-reverse {A} {B} f (x ∷ xs) =
+    ap (filter_map f) (reverse-append (x ∷ []) xs) ∙ filter_map-append f (reverse xs) (x ∷ []) ∙ ap (λ ys. ys ++ filter_map f (x ∷ [])) (filter_map-reverse f xs)
+    ∙ step (f x) (filter_map f xs)
+  where
+    step : (o : Option B) (us : List B) → reverse us ++ cons_option o [] ≡ reverse (cons_option o us)
+    step None us = append-nil (reverse us)
+    step (Some y) us = sym (reverse-append (y ∷ []) us)
 
 abbrev pub Entry : Type 0
 Entry = List ℕ × KeptDocument

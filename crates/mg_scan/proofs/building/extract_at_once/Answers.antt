@@ -1,5 +1,5 @@
 use denote.Param.Send.{sendable}
-use Rattle.std.proofs.Common.{sym, ◌∙◌}
+use Rattle.std.proofs.Common.{[], sym, ◌∙◌}
 use Rattle.std.proofs.Crossing.{crosses}
 use Rattle.std.proofs.MapsCrossing.{crosses as maps}
 use Rattle.mg_pages.proofs.Crossing.{pages_send, pages_sync}
@@ -14,7 +14,7 @@ pub map_from_one_thread-requires-send-X : goal.map_from_one_thread-requires-send
 map_from_one_thread-requires-send-X g c κs within = search (sendable, crosses, maps, pages_send, pages_sync, rows.the_send, rows.the_sync) depth 40
 
 pub map_from_one_thread-requires-sync-F : goal.map_from_one_thread-requires-sync-F
-map_from_one_thread-requires-sync-F g c κs within = record { shared = (build_sync _ _ _ _ _ _ c.type_bounds.sync-R c.type_bounds.sync-G).shared }
+map_from_one_thread-requires-sync-F g c κs within = record { shared = (build_sync _ _ [] _ _ _ c.type_bounds.sync-R c.type_bounds.sync-G).shared }
 
 pub returns-clause-rows : goal.returns-clause-rows
 returns-clause-rows g c =

@@ -5,19 +5,19 @@ use Rattle.mg_scan.proofs.Filled.{filled, finished}
 use Rattle.mg_scan.proofs.Steps.{hits-push, length-push, rows-push}
 use Rattle.mg_scan.proofs.source.hits_in.Goals as goal
 
-pub loop-hits-init : goal.loop-hits-init
-loop-hits-init c =
+pub loop-source-init : goal.loop-source-init
+loop-source-init c =
     let begun = c.source_of-source.ensures in
     rw c.in_ok-hits.ensures.items (record { some = first_of (omega arith, search rules); rows = sym begun.rows; documents = tt; lent = begun.hits })
 
-pub loop-hits-preserved : goal.loop-hits-preserved
-loop-hits-preserved c =
-    let was = c.loop-hits.invariant in
-    let hits = c.loop-hits.hits.items in
+pub loop-source-preserved : goal.loop-source-preserved
+loop-source-preserved c =
+    let was = c.loop-source.invariant in
+    let hits = c.loop-source.hits.items in
     let hit = c.in-Some.hit in
     let next = c.next.new.self in
     let rest = unread_rows next.search next.shard.now next.unread in
-    let long : length hits ≡ c.len.result = sym c.loop-hits.hits.ok.0 ∙ sym c.len.ensures in
+    let long : length hits ≡ c.len.result = sym c.loop-source.hits.ok.0 ∙ sym c.len.ensures in
     rw c.in_ok-push.ensures.items (record {
       some = omega (arith, length-push hits hit, long);
       rows = was.rows ∙ ap (λ rows. hit_rows hits ++ rows) c.in-Some.ensures.item ∙ sym (append_assoc (hit_rows hits) (hit_row hit ∷ []) rest) ∙ ap (λ rows. rows ++ rest) (sym (rows-push hits hit));
@@ -27,12 +27,12 @@ loop-hits-preserved c =
 
 pub returns-in_default : goal.returns-in_default
 returns-in_default c =
-    let was = c.loop-hits.invariant in
-    record { rows = finished c.args.search c.args.shard.now c.loop-hits.hits.items _ was.rows c.in_default.ensures.end was.some; documents = was.documents }
+    let was = c.loop-source.invariant in
+    record { rows = finished c.args.search c.args.shard.now c.loop-source.hits.items _ was.rows c.in_default.ensures.end was.some; documents = was.documents }
 
 pub returns : goal.returns
 returns c =
-    let was = c.loop-hits.invariant in
-    let hits = c.loop-hits.hits.items in
-    let long : length hits ≡ c.len.result = sym c.loop-hits.hits.ok.0 ∙ sym c.len.ensures in
+    let was = c.loop-source.invariant in
+    let hits = c.loop-source.hits.items in
+    let long : length hits ≡ c.len.result = sym c.loop-source.hits.ok.0 ∙ sym c.len.ensures in
     record { rows = filled c.args.search c.args.shard.now hits _ was.rows (omega (arith, long)); documents = was.documents }
