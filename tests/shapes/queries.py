@@ -163,6 +163,6 @@ SHAPES = [Shape(in_arguments, 400_000, 900_000), Shape(nin_arguments, 400_000, 9
           Shape(steps_of_a_sort, 400_000, 1_000_000), Shape(steps_of_an_index, 400_000, 1_000_000), Shape(arms_under_a_path, 64_000, 500_000),
           Shape(atoms_under_a_path, 64_000, 450_000), Shape(atoms_at_every_depth, 64_000, 450_000),
           Shape(many_fields, 400_000, 600_000), Shape(columns, 2_000, 8_000, 2), Shape(indexes, 800, 2_000, 2),
-          Shape(indexes_on_64_shards, 240, 1_000, 2, "64", "32"),
+          Shape(indexes_on_64_shards, 240, 1_000, 1, "64", "32"),
           Shape(queries_by_indexes, 8_000, 40_000), Shape(edits_under_indexes, 16_000, 100_000),
           Shape(empty_shards, 500, 5_000, 1, "64", "32")]
