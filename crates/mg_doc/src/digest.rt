@@ -1,7 +1,6 @@
 ghost use Rattle.std.specs.Prelude.{◌≡◌, IfOk, option_copied, string_bytes};
 ghost use Rattle.mg_value.specs.Text.{compact};
 ghost use Rattle.mg_value.specs.Value.{Value};
-ghost use Rattle.mg_value.specs.View.{view};
 ghost use Rattle.mg_doc.specs.Digest.{digest_of, parent_text};
 
 use md5::{Digest, Md5};
@@ -9,24 +8,6 @@ use mg_packed::Part;
 use mg_revtree::{Body, Rev};
 use mg_value::{Json, NoMemory, write};
 use std::alloc::Global;
-
-/// Makes the id of a new revision over a parent, or of a document's first revision: the MD5 of the compact text of
-/// `[deleted, parent, body]`, in 32 lower-case hexadecimal digits. The parent is written as its text `N-id`, or as null if there is none.
-///
-/// Errors: `NoMemory` if an allocation fails. Cost: the length of the body's text. Source: CouchDB's deterministic revision ids,
-/// RFC 1321.
-pub fn rev_id(
-    alloc: Global,
-    deleted: bool,
-    parent: Option<&Rev>,
-    body: &Json,
-) -> Result<String, NoMemory>
-    ensures { IfOk result
-        (λ id. string_bytes id ≡ digest_of deleted (option_copied parent.entry) (view body.now)) }
-{
-    let text = write(alloc, body)?;
-    rev_id_of_text(alloc, deleted, parent, &text)
-}
 
 /// Makes the id of a new revision over a parent as `rev_id` does, of a body that is a part of a packed value.
 ///
@@ -45,7 +26,7 @@ pub(crate) fn part_rev_id(
 }
 
 // Makes the id of a new revision over a parent, of a body with this compact text. Errors: `NoMemory` if an allocation fails.
-fn rev_id_of_text(
+pub(crate) fn rev_id_of_text(
     alloc: Global,
     deleted: bool,
     parent: Option<&Rev>,

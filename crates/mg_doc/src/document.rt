@@ -1,4 +1,4 @@
-ghost use Rattle.std.specs.Prelude.{◌≡◌, IfOk, IfSome, IsOk, None, option_map};
+ghost use Rattle.std.specs.Prelude.{◌≡◌, IfOk, IfSome, IsOk, None};
 ghost use Rattle.mg_value.specs.View.{view};
 ghost use Rattle.mg_revtree.specs.History.{Paths, Leaf as Winner, first_of};
 ghost use Rattle.mg_revtree.specs.Tree.{StandsFor};
@@ -7,27 +7,6 @@ ghost use Rattle.mg_doc.specs.Served.{served_form, served_of};
 use mg_revtree::{Form, Leaf, RevTree};
 use mg_value::{Json, NoMemory};
 use std::alloc::Global;
-
-/// Makes the document that is served for an id: the body of the winning revision with `_id` and `_rev`. `None` if that revision deletes
-/// the document, or if the tree is empty.
-///
-/// Errors: `NoMemory` if an allocation fails; if there is no document, no memory is needed. Cost: a copy of the body. Source: `GET` of a
-/// document in CouchDB's API reference.
-pub fn served(alloc: Global, id: &str, tree: &RevTree) -> Result<Option<Json>, NoMemory>
-    ensures served { IfOk result
-        (λ o. (h : Paths) → StandsFor tree.now h → option_map view o ≡ served_of id.now h) }
-    ensures form { IfOk result (λ o. IfSome o (λ form. (l : Winner) × (view form ≡ served_form id.now l))) }
-    ensures none { (h : Paths) → StandsFor tree.now h → served_of id.now h ≡ None → IsOk result }
-{
-    match tree.winner() {
-        None => Ok(None),
-        Some(leaf) => if leaf.deleted {
-            Ok(None)
-        } else {
-            Ok(Some(served_form(alloc, id, leaf)?))
-        },
-    }
-}
 
 // Makes a leaf's form: its body with the document's id as `_id` and the leaf's revision as `_rev`. Errors: `NoMemory` if an allocation
 // fails.

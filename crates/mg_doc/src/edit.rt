@@ -11,9 +11,9 @@ use crate::fault::gives_change;
 use crate::members::{checked_mark, id_in, own_body};
 use crate::revisions::change_asked;
 pub use apply::{Look, ReadyEdit};
-use mg_packed::{Kind, Object, Packed, Part};
+use mg_packed::{Kind, Object, Part};
 use mg_revtree::Body;
-use mg_value::{Json, NoMemory};
+use mg_value::NoMemory;
 use std::alloc::Global;
 use std::marker::Model;
 
@@ -75,19 +75,6 @@ impl Edit {
             Kind::Object(members) => edit_in(alloc, &members, new_edit),
             _ => Err(DocError::BadMember),
         }
-    }
-
-    /// Reads a document of a bulk as `read_part` does, from a `Json`, which is packed into a block before any member is read. An edit, and
-    /// every error but `NoMemory`, is the one that the document gives.
-    ///
-    /// Errors: `NoMemory` if an allocation fails, or if the block would be longer than 4,294,967,295 bytes, also for a document that has
-    /// a fault; else those of `read_part`. Cost: that of `read_part`, and the size of the document.
-    pub fn read(alloc: Global, document: Json, new_edits: bool) -> Result<Edit, DocError>
-        requires { is_object (view document) ≡ true }
-        ensures { ReadsAs (edit_of new_edits (view document)) result }
-    {
-        let packed = Packed::of(alloc, &document)?;
-        Edit::read_part(alloc, packed.part(), new_edits)
     }
 
     /// Returns the id of the edit, if it has one. Takes no memory.

@@ -14,6 +14,7 @@
 #![tactic(auto)]
 
 mod ahead;
+mod calls;
 mod change;
 mod conflicts;
 mod digest;

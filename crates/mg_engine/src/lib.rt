@@ -13,6 +13,7 @@
 
 mod body;
 mod bulk;
+mod calls;
 mod command;
 mod context;
 mod database;

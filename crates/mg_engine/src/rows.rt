@@ -1,6 +1,6 @@
 //! Writes the rows of documents that a page lends, part by part. Each `with_` function takes a buffer and returns it with its part appended.
 //! Errors: `NoMemory` if an allocation fails; then the buffer is dropped.
-ghost use Rattle.std.specs.Prelude.{◌≡◌, ◌++◌, [], ◌∷◌, IfOk, map, nat_lt, pos, if◌then◌else◌};
+ghost use Rattle.std.specs.Prelude.{◌≡◌, ◌++◌, IfOk, map, pos};
 ghost use Rattle.mg_value.specs.Text.{compact};
 ghost use Rattle.mg_value.specs.Value.{list, whole};
 ghost use Rattle.mg_value.specs.View.{items_of};
@@ -10,7 +10,7 @@ ghost use Rattle.mg_engine.specs.Questions.{listed_row, member_or_null, rows_val
 ghost use Rattle.mg_engine.specs.Rows.{row_front};
 
 use mg_packed::Part;
-use mg_query::Shown;
+use mg_query::{Shown, with_comma};
 use mg_value::NoMemory;
 use std::alloc::Global;
 
@@ -58,16 +58,6 @@ fn with_rows(mut out: Vec<u8>, docs: &[Shown<'_>], documents: bool) -> Result<Ve
         out = with_row(begun, &shown.part(), documents)?;
     }
     out.push(b']')?;
-    Ok(out)
-}
-
-// Appends the comma before the item at this position, counted from 0; nothing before the first item.
-fn with_comma(mut out: Vec<u8>, place: usize) -> Result<Vec<u8>, NoMemory>
-    ensures { IfOk result (λ b. b.items ≡ out.items ++ (if nat_lt 0 place then 44 ∷ [] else [])) }
-{
-    if place > 0 {
-        out.push(b',')?;
-    }
     Ok(out)
 }
 

@@ -1,4 +1,4 @@
-//! The calls of a seat, one for each kind of command.
+//! The library's surface, for callers other than this program: a call of a seat for each kind of command.
 ghost use Rattle.std.specs.Prelude.{◌≤◌};
 ghost use Rattle.mg_value.specs.View.{view};
 ghost use Rattle.mg_engine.specs.Commands.{bulk, create_index, drop_index, explain, find, get, list_indexes, reshard};

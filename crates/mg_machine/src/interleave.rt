@@ -1,4 +1,4 @@
-//! Sessions side by side, replayed one event after another.
+//! The library's surface, for callers other than this program: sessions side by side, replayed one event after another.
 ghost use Rattle.std.specs.Prelude.{◌≡◌, ◌↔◌, ℕ, List, IfOk, IsTrue, is_some, map, option_and_then, vec_len};
 ghost use Rattle.mg_engine.specs.View.{reply_view};
 ghost use Rattle.mg_machine.specs.Laws.{AreAt, IsAt};

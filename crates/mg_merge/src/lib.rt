@@ -12,6 +12,7 @@
 //! lists (`any_sharding`), and lists may be cut at the page's size before the merge (`cut_lists`).
 #![tactic(auto)]
 
+mod calls;
 mod head;
 pub mod laws;
 mod merging;
@@ -21,7 +22,8 @@ mod ranked;
 mod source;
 mod work;
 
-pub use merging::{merge, merge_items};
+pub use calls::merge;
+pub use merging::merge_items;
 pub use order::{are_in_order, items_are_in_order};
 pub use pulled::merge_pulled;
 pub use ranked::Ranked;

@@ -1,41 +1,13 @@
 ghost use Rattle.std.specs.Prelude.{◌≡◌, All, IfOk, length, map, take};
-ghost use Rattle.mg_collate.specs.Row.{rows_view};
-ghost use Rattle.mg_collate.specs.Sorted.{IsInOrder};
-ghost use Rattle.mg_merge.specs.Merged.{IsInOrderBy, contents_of, lent_view, lists_view, merged, merged_by};
+ghost use Rattle.mg_merge.specs.Merged.{IsInOrderBy, contents_of, lent_view, merged_by};
 
 use crate::pulled::merge_sources;
 use crate::ranked::Ranked;
 use crate::source::{ByItem, Rest};
 use crate::work::Work;
-use mg_collate::{Direction, Row};
+use mg_collate::Direction;
 use mg_value::NoMemory;
 use std::alloc::Global;
-
-/// Merges the lists. Returns their first `take` rows in the direction's order (fewer only if the lists have
-/// fewer; none lost or repeated), and the lengths of the lists and of the result. Each list must be in that
-/// order, which `are_in_order` tests; lists may be empty.
-///
-/// Errors: `NoMemory` if an allocation fails.
-/// Cost: a copy of each row of the result, and the comparisons of `merge_pulled`. In each list at most one row
-/// that is not in the result is read: the first such row. Memory: for each row of the result its copy and a reference,
-/// however large `take` is; for each list a slice, a reference, a number and a direction.
-pub fn merge(
-    alloc: Global,
-    lists: &[Vec<Row>],
-    direction: Direction,
-    take: usize,
-) -> Result<(Vec<Row>, Work), NoMemory>
-    requires { All (IsInOrder direction) (lists_view lists.now) }
-    ensures rows { IfOk result
-        (λ made. rows_view made.0.items ≡ merged direction take (lists_view lists.now)) }
-    ensures handed { IfOk result (λ made. made.1.handed ≡ map (λ l. length l.items) lists.now) }
-    ensures taken { IfOk result (λ made. made.1.taken ≡ length made.0.items) }
-{
-    let lent = first_lent(alloc, lists, direction, take)?;
-    let rows = copy_rows(alloc, &lent)?;
-    let work = Work::of(alloc, lists, rows.len())?;
-    Ok((rows, work))
-}
 
 /// Merges the lists. Returns their first `take` items in the direction's order of their rows (fewer only if
 /// the lists have fewer; none lost or repeated), and the lengths of the lists and of the result. Of items with
@@ -64,7 +36,7 @@ pub fn merge_items<T: Ranked + Copy>(
 }
 
 // Borrows the first `take` items of the lists, in the direction's order.
-fn first_lent<'a, T: Ranked>(
+pub(crate) fn first_lent<'a, T: Ranked>(
     alloc: Global,
     lists: &'a [Vec<T>],
     direction: Direction,
@@ -102,14 +74,4 @@ fn copy_all<T: Copy>(alloc: Global, lent: &[&T]) -> Result<Vec<T>, NoMemory>
         items.push(**item)?;
     }
     Ok(items)
-}
-
-fn copy_rows(alloc: Global, lent: &[&Row]) -> Result<Vec<Row>, NoMemory>
-    ensures { IfOk result (λ rows. rows_view rows.items ≡ rows_view (lent_view lent.now)) }
-{
-    let mut rows = Vec::with_capacity(alloc, lent.len())?;
-    for row in lent {
-        rows.push(row.copy(alloc)?)?;
-    }
-    Ok(rows)
 }

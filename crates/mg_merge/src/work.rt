@@ -8,8 +8,8 @@ use std::marker::Model;
 /// functions make a `Work`.
 #[derive(Debug, Drop)]
 pub struct Work {
-    handed: Vec<u64>,
-    taken: u64,
+    pub(crate) handed: Vec<u64>,
+    pub(crate) taken: u64,
 }
 
 impl Model for Work {
@@ -23,20 +23,6 @@ impl Model for Work {
 }
 
 impl Work {
-    /// Lends the lengths of the lists, in the order of the lists. Takes no memory.
-    pub fn handed(&self) -> &[u64]
-        ensures { result.now ≡ self.now.handed }
-    {
-        &self.handed
-    }
-
-    /// Returns the length of the result. Takes no memory.
-    pub fn taken(&self) -> u64
-        ensures { result ≡ self.now.taken }
-    {
-        self.taken
-    }
-
     // Makes the `Work` of a merge of `lists`, given the length of its result.
     pub(crate) fn of<T>(alloc: Global, lists: &[Vec<T>], taken: usize) -> Result<Work, NoMemory>
         ensures handed { IfOk result (λ w. w.handed ≡ map (λ l. length l.items) lists.now) }

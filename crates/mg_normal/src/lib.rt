@@ -7,6 +7,7 @@
 #![tactic(auto)]
 
 mod atom;
+mod calls;
 mod condition;
 pub mod laws;
 mod meaning;

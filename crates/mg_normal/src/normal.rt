@@ -10,7 +10,7 @@ use crate::meaning::rest_holds;
 use crate::pushed::push_inwards;
 use crate::rest::take_atoms;
 use mg_selector::{Sel, Sense};
-use mg_value::{Json, LentValue, NoMemory};
+use mg_value::{LentValue, NoMemory};
 use std::alloc::Global;
 use std::marker::Model;
 
@@ -51,17 +51,6 @@ impl Normal {
         let mut atoms = Vec::new(alloc);
         let rest = take_atoms(alloc, condition, &None, &mut atoms)?;
         Ok(Normal { atoms, rest })
-    }
-
-    /// Whether the selector holds of the document. Takes no memory.
-    ///
-    /// Cost: at most, for each operator, the steps to its part (for an atom, from the top of the document) and one
-    /// evaluation. An operator inside `$elemMatch` or `$allMatch` is evaluated for each element that these look at.
-    #[inline]
-    pub fn holds(&self, value: &Json) -> bool
-        ensures { result ≡ normal_holds self.now (Some (view value.now)) }
-    {
-        self.holds_of(value)
     }
 
     /// Does what `holds` does, for any lent document. Takes no memory. Cost: that of `holds`.

@@ -13,6 +13,7 @@
 #![tactic(auto)]
 
 mod answer;
+mod calls;
 mod error;
 mod explanation;
 mod fault;
@@ -27,8 +28,10 @@ mod shown;
 mod source;
 mod text;
 
-pub use answer::{lend_page, page, page_text};
+pub use answer::{lend_page, page_text};
+pub use calls::page;
 pub use error::{PageError, QueryError};
 pub use explanation::explain;
 pub use query::Query;
 pub use shown::{LentPage, Page, Shown};
+pub use text::with_comma;

@@ -70,8 +70,10 @@ fn with_documents(
     Ok(out)
 }
 
-// Appends the comma before the item at this position, counted from 0; nothing before the first item.
-fn with_comma(mut out: Vec<u8>, place: usize) -> Result<Vec<u8>, NoMemory>
+/// Appends the comma before the item at this position, counted from 0; nothing before the first item.
+///
+/// Errors: `NoMemory` if an allocation fails; then the buffer is dropped.
+pub fn with_comma(mut out: Vec<u8>, place: usize) -> Result<Vec<u8>, NoMemory>
     ensures { IfOk result (λ b. b.items ≡ out.items ++ (if nat_lt 0 place then 44 ∷ [] else [])) }
 {
     if place > 0 {

@@ -9,6 +9,7 @@
 //! first, then those in it, then those past it (`ranges_stand_together`).
 #![tactic(auto)]
 
+mod calls;
 mod decided;
 mod explained;
 pub mod laws;

@@ -1,8 +1,8 @@
-ghost use Rattle.std.specs.Prelude.{◌≡◌, ℕ, List, [], ◌∷◌, IfOk, is_none, length, map, option_map};
+ghost use Rattle.std.specs.Prelude.{◌≡◌, ℕ, List, [], ◌∷◌, IfOk, is_none, length, option_map};
 ghost use Rattle.mg_value.specs.Value.{Value, text as string};
 ghost use Rattle.mg_value.specs.View.{view as json_view};
 ghost use Rattle.mg_range.specs.Explained.{range_value};
-ghost use Rattle.mg_range.specs.RangeSide.{has_key, is_side_within, side_of};
+ghost use Rattle.mg_range.specs.RangeSide.{has_key, side_of};
 ghost use Rattle.mg_range.specs.Enter.{limit_entered};
 ghost use Rattle.mg_range.specs.Range.{in_range, limit_at, range_of};
 
@@ -60,16 +60,6 @@ impl KeyRange {
         })
     }
 
-    /// Whether the key is in the range. Takes no memory. Cost: at most two passes over the key.
-    pub fn contains(&self, key: &[Json]) -> bool
-        ensures { result ≡ has_key self.now (map json_view key.now) }
-    {
-        match &self.span {
-            Some(span) => is_side_within(side_in(span, key)),
-            None => false,
-        }
-    }
-
     /// Whether the key whose only value is this text is before, within or past the range; every key is past an empty
     /// range. Takes no memory. Cost: at most two passes over the text.
     ///
@@ -125,15 +115,5 @@ impl KeyRange {
             Some(span) => span_json(alloc, span),
             None => empty_json(alloc),
         }
-    }
-}
-
-fn is_side_within(side: RangeSide) -> bool
-    ensures { result ≡ is_side_within side }
-{
-    match side {
-        RangeSide::Before => false,
-        RangeSide::Within => true,
-        RangeSide::Past => false,
     }
 }

@@ -7,7 +7,7 @@ ghost use Rattle.mg_revtree.specs.Steps.{marked_as};
 use crate::body::Body;
 use crate::form::Form;
 use crate::revision::Rev;
-use mg_value::{Json, NoMemory};
+use mg_value::NoMemory;
 use std::alloc::Global;
 use std::cmp::Ordering;
 use std::marker::Model;
@@ -43,13 +43,6 @@ impl Leaf {
         (!self.deleted)
             .cmp(&!other.deleted)
             .then(self.rev.order(&other.rev))
-    }
-
-    /// Copies the body into a `Json` that owns its memory. Errors and cost: those of `Body::copy`.
-    pub fn json(&self, alloc: Global) -> Result<Json, NoMemory>
-        ensures { IfOk result (λ value. view value ≡ self.now.body) }
-    {
-        self.body.copy(alloc)
     }
 
     // Compares two leaves: one that has the given mark and revision, and this one, in that order.

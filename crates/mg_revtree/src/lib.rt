@@ -15,6 +15,7 @@
 #![tactic(auto)]
 
 mod body;
+mod calls;
 mod capacity;
 mod error;
 mod form;

@@ -29,16 +29,6 @@ impl Model for Rev {
 }
 
 impl Rev {
-    /// Makes the revision of this position and this id, which should be one that `is_rev_id` allows; this is not checked. Takes no memory.
-    pub fn new(pos: u32, id: String) -> Rev
-        ensures { result ≡ (pos, string_bytes id) }
-    {
-        Rev {
-            pos,
-            id: RevId::of(id),
-        }
-    }
-
     /// Reads `N-id`. The first hyphen ends N, which is in decimal, from 1 to 4,294,967,295, with no leading zero.
     ///
     /// Errors: `Bad` if and only if the text is not a revision; else `NoMemory` if an allocation fails. Takes no memory if the id has 32

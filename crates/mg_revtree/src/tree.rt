@@ -18,7 +18,7 @@ use crate::leaf::Leaf;
 use crate::leaf_list::{leaf_of, lent_leaves, position_under, undeleted_among};
 use crate::rev_id::{RevId, text_of};
 use crate::revision::Rev;
-use mg_value::{Json, NoMemory};
+use mg_value::NoMemory;
 use std::alloc::Global;
 use std::marker::Model;
 
@@ -31,7 +31,7 @@ use std::marker::Model;
 /// and once more in the leaf if the revision is a leaf.
 #[derive(Drop)]
 pub struct RevTree {
-    alloc: Global,
+    pub(crate) alloc: Global,
     growth: Growth,
 }
 
@@ -186,29 +186,6 @@ impl RevTree {
         }
     }
 
-    /// Accepts a path as `merge_with` does, with a `Json` as the body, which is packed into a block.
-    ///
-    /// Errors: those of `merge_with`, and `NoMemory` if the body cannot be packed. Cost: that of `merge_with`, and the size of the body.
-    pub fn merge(&mut self, path: &History, deleted: bool, body: Json) -> Result<Merged, MergeError>
-        ensures accepted { OnOk result ((h : Paths) → StandsFor self.old h
-            → StandsFor self.new (with_path h (path_of path.now deleted (view body)))) }
-        ensures found { IfOk result (λ m. (h : Paths) → StandsFor self.old h → m ≡ found_of h path.now) }
-        ensures fitting { (h : Paths) → StandsFor self.old h → fits h path.now ≡ true
-            → IsOkUnless result MergeError.NoMemory }
-        ensures refused { (h : Paths) → StandsFor self.old h → fits h path.now ≡ false
-            → result ≡ Err MergeError.BadHistory }
-        ensures whole { (h : Paths) → StandsFor self.old h → is_known_whole h path.now ≡ true
-            → (result ≡ Ok Merged.Known) × (self.new ≡ self.old) }
-        ensures err { OnErr result (self.new ≡ self.old) }
-    {
-        if self.is_merged(path)? {
-            return Ok(Merged::Known);
-        }
-        let body = Body::of_json(self.alloc, &body)?;
-        let (start, ids) = path.run();
-        Ok(self.accept(start, ids, deleted, body)?)
-    }
-
     /// Accepts a path as a replica sends it, with the mark and the body of its newest revision. Unknown revisions become known, and known
     /// ones without a parent get the parent that the path gives them. If the newest revision is already known, the given mark and body
     /// are ignored. A path that is known whole changes nothing. Returns whether the newest revision was new or known.
@@ -248,7 +225,7 @@ impl RevTree {
     }
 
     // Whether a path is known whole, so that a merge has nothing to do. Takes no memory. Errors: `BadHistory` if the path does not fit.
-    fn is_merged(&self, path: &History) -> Result<bool, MergeError>
+    pub(crate) fn is_merged(&self, path: &History) -> Result<bool, MergeError>
         ensures whole { IfOk result
             (λ whole. (h : Paths) → StandsFor self.now h → whole ≡ is_known_whole h path.now) }
         ensures fitting { (h : Paths) → StandsFor self.now h → fits h path.now ≡ true → IsOk result }
@@ -269,7 +246,7 @@ impl RevTree {
 
     // Accepts a run that fits, given by its start and its ids, newest first. Errors: `NoMemory`, as for `merge_with`; the tree is then as it
     // was.
-    fn accept(
+    pub(crate) fn accept(
         &mut self,
         start: u32,
         ids: &[String],
@@ -308,29 +285,6 @@ impl RevTree {
         Ok(())
     }
 
-    /// Makes a new revision as `extend_with` does, with a `Json` as the body, which is packed into a block.
-    ///
-    /// Errors: those of `extend_with`, and `NoMemory` if the body cannot be packed. Cost: that of `extend_with`, and the size of the body.
-    pub fn extend(
-        &mut self,
-        parent: Option<&Rev>,
-        id: String,
-        deleted: bool,
-        body: Json,
-    ) -> Result<(), TreeError>
-        ensures accepted { OnOk result ((h : Paths) → StandsFor self.old h
-            → StandsFor self.new
-            (with_path h (extension (option_copied parent.entry) (string_bytes id) deleted (view body)))) }
-        ensures decided { (h : Paths) → StandsFor self.old h
-            → Decides (refusal_of h (option_copied parent.entry) (string_bytes id)) result }
-        ensures err { OnErr result (self.new ≡ self.old) }
-    {
-        let pos = self.open_position(parent, &id)?;
-        let body = Body::of_json(self.alloc, &body)?;
-        self.make_revision(pos, parent, id, deleted, body)?;
-        Ok(())
-    }
-
     /// Makes a new revision over the leaf `parent`; without a parent, at position 1 in a tree without leaves. `id` should be one that
     /// `is_rev_id` allows; this is not checked.
     ///
@@ -358,7 +312,7 @@ impl RevTree {
 
     // Returns the position at which a new revision may be made over its parent, or without one. Takes no memory. Errors: those of
     // `next_position`, then `Known`.
-    fn open_position(&self, parent: Option<&Rev>, id: &String) -> Result<u32, TreeError>
+    pub(crate) fn open_position(&self, parent: Option<&Rev>, id: &String) -> Result<u32, TreeError>
         ensures decided { (h : Paths) → StandsFor self.now h
             → result ≡ open_position h (option_copied parent.entry) (string_bytes id.now) }
         ensures above { IfOk result (λ n. n ≡ position_below (option_copied parent.entry) + 1) }
@@ -372,7 +326,7 @@ impl RevTree {
 
     // Makes a new revision at position `pos` over its parent, or without one. Errors: `NoMemory`, as for `merge_with`; the tree is then as it
     // was.
-    fn make_revision(
+    pub(crate) fn make_revision(
         &mut self,
         pos: u32,
         parent: Option<&Rev>,

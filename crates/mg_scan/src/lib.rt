@@ -18,6 +18,7 @@
 
 mod begin;
 mod building;
+mod calls;
 mod counting;
 mod gate;
 mod hit;
@@ -40,11 +41,12 @@ mod worker_count;
 mod workers;
 
 pub use building::build;
+pub use calls::scan;
 pub use counting::reads_at_most;
 pub use gate::{Gate, NoGate, Place};
 pub use hit::Hit;
 pub use pulling::{pull_lent, pull_rows};
-pub use scanning::{scan, scan_lent};
+pub use scanning::scan_lent;
 pub use search::Search;
 pub use target::Target;
 pub use target_ref::TargetRef;

@@ -6,6 +6,7 @@
 #![tactic(auto)]
 
 mod argument;
+mod calls;
 mod copy;
 mod error;
 mod fault;

@@ -59,18 +59,6 @@ impl Sel {
         }
     }
 
-    /// Whether the selector holds of the document. Takes no memory.
-    ///
-    /// Cost: each path is followed and each operator evaluated at most once; inside `$elemMatch` and `$allMatch`,
-    /// at most once for each element. `Op::holds_in` says what an operator costs. Source: the operators of CouchDB's
-    /// `_find`.
-    #[inline]
-    pub fn holds(&self, value: &Json) -> bool
-        ensures { result ≡ holds_in (selector_of self.now) Sense.Plain (Some (view value.now)) }
-    {
-        self.holds_of(value)
-    }
-
     /// Whether the selector holds of the lent document, as for `holds`. Takes no memory. Cost: as for `holds`.
     #[inline]
     pub fn holds_of<L: LentValue>(&self, value: L) -> bool

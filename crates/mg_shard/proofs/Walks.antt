@@ -1,7 +1,8 @@
 -- The elements after a place, with a function applied to each; and the served documents before the last one.
 use Rattle.std.proofs.Common.{◌≡◌, ◌+◌, length, List, [], ◌∷◌, ◌++◌, Bool, true, false, Ordering, Option, Some, None, append-nil, cond, is_gt, is_lt, map, option_map, reverse, refl, ap, sym, ◌∙◌}
 use Rattle.std.proofs.lemmas.List.{length-append, reverse-append}
-use Rattle.std.specs.List.{cons_option, filter, filter_map}
+use Rattle.std.proofs.lemmas.List.Elements.{filter_map-append}
+use Rattle.std.specs.List.{cons_option, filter}
 use Rattle.mg_collate.specs.declared.direction.Direction.{Direction}
 use Rattle.mg_collate.specs.declared.direction.Direction.TheVariants.{Asc, Desc}
 use Rattle.mg_value.specs.Value.{Value}
@@ -34,14 +35,6 @@ module _ {A B : Type 0} (f : A → B) (against : A → Ordering) (order : B → 
   pub beyond-map : (direction : Direction) (xs : List A) → map f (beyond direction against xs) ≡ beyond direction order (map f xs)
   beyond-map Asc xs = where-map is_lt xs
   beyond-map Desc xs = reverse-map f (filter (λ x. is_gt (against x)) xs) ∙ ap reverse (where-map is_gt xs)
-
-filter_map-append : {A B : Type 0} (f : A → Option B) (xs ys : List A) → filter_map f (xs ++ ys) ≡ filter_map f xs ++ filter_map f ys
-filter_map-append f [] ys = refl
-filter_map-append {A} {B} f (x ∷ xs) ys = ap (cons_option (f x)) (filter_map-append f xs ys) ∙ step (f x) (filter_map f xs) (filter_map f ys)
-  where
-    step : (o : Option B) (us vs : List B) → cons_option o (us ++ vs) ≡ cons_option o us ++ vs
-    step None us vs = refl
-    step (Some y) us vs = refl
 
 -- the served documents before the last one, where that is served, and where it is deleted
 module _ (ds xs : List Document) (d : Document) (e : ds ≡ xs ++ d ∷ []) where

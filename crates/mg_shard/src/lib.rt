@@ -17,6 +17,7 @@
 //! workers, it has at most that many threads.
 #![tactic(auto)]
 
+mod calls;
 mod docs;
 mod document;
 mod document_id;
@@ -38,12 +39,13 @@ mod served;
 mod shard;
 mod shard_indexes;
 
+pub use calls::{Rows, redeal};
 pub use docs::Docs;
 pub use document::Document;
 pub use documents::Documents;
 pub use draft::{Draft, id_in};
 pub use index_ref::IndexRef;
 pub use placement::{Md5Placement, Placement};
-pub use redealt::{redeal, redeal_by};
+pub use redealt::redeal_by;
 pub use reply::EditReply;
-pub use shard::{Rows, Shard};
+pub use shard::Shard;

@@ -8,7 +8,7 @@ ghost use Rattle.mg_shard.specs.Shard.{ShardView, shards_view};
 use crate::document::Document;
 use crate::index_entry::IndexEntry;
 use crate::index_list::share_indexes;
-use crate::new_shards::{make_by_threads, make_in_turn};
+use crate::new_shards::make_by_threads;
 use crate::placed::{all_documents, places_of};
 use crate::placement::Placement;
 use crate::shard::Shard;
@@ -17,34 +17,6 @@ use mg_value::NoMemory;
 use std::alloc::Global;
 use std::sync::Arc;
 use std::thread::Threads;
-
-/// Deals the documents of these former shards to a new number of shards: each document goes, with its tree, to the shard that the
-/// placement gives, whatever placement dealt it before. If several former shards have a document with the same id, the last one is kept.
-/// Each new shard has the indexes of the first former shard, with the rows of its own documents; if there is no former shard, the new ones
-/// are empty. Documents, trees and definitions are shared with the lent shards, not copied. Starts no thread.
-///
-/// Errors: `NoMemory` if an allocation fails. Cost: for each document its placement, a step for each new shard, an insertion, and the
-/// bytes of its row in each index; and a sort of the rows of each index in each shard.
-pub fn redeal<P: Placement>(
-    alloc: Global,
-    former: &[Arc<Shard>],
-    placement: &P,
-    shards: usize,
-) -> Result<Vec<Shard>, NoMemory>
-    requires { 0 < shards }
-    ensures { IfOk result
-        (λ v. Redeals (P.place placement.now) shards (shards_view former.now) v.items) }
-{
-    let dealt = deal(alloc, former, placement, shards)?;
-    let made = make_in_turn(
-        alloc,
-        &dealt.documents,
-        &dealt.places,
-        &dealt.indexes,
-        shards,
-    )?;
-    Ok(made)
-}
 
 /// Deals the documents of these shards as `redeal` does; the result does not depend on the number of workers. At most `workers` threads,
 /// the caller's among them, and at most two for each processor, make the new shards, each of which is made by one thread. No thread is
@@ -78,14 +50,14 @@ pub fn redeal_by<P: Placement, R: Threads + Sync>(
 
 // What new shards are made of: documents, the number of the shard of each, and indexes, whose definitions each shard gets.
 #[derive(Drop)]
-struct Dealt<'a> {
-    documents: Vec<&'a Shared<Document>>,
-    places: Vec<usize>,
-    indexes: Vec<IndexEntry>,
+pub(crate) struct Dealt<'a> {
+    pub(crate) documents: Vec<&'a Shared<Document>>,
+    pub(crate) places: Vec<usize>,
+    pub(crate) indexes: Vec<IndexEntry>,
 }
 
 // Lists the documents of these shards, the place of each among `count` new shards, and the indexes of the first shard.
-fn deal<'a, P: Placement>(
+pub(crate) fn deal<'a, P: Placement>(
     alloc: Global,
     shards: &'a [Arc<Shard>],
     placement: &P,

@@ -1,43 +1,31 @@
 //! A shard: documents by their ids, and the rows of indexes over them.
-ghost use Rattle.std.specs.Prelude.{◌≡◌, ℕ, List, [], Some, length, map, option_map, unwrap_or, IfOk, IfSome};
+ghost use Rattle.std.specs.Prelude.{◌≡◌, ℕ, List, [], Some, length, map, option_map, IfOk, IfSome};
 ghost use Rattle.std.specs.FinMap as finite;
 ghost use Rattle.std.specs.FinMap.{entries, get};
 ghost use Rattle.std.specs.List.{filter_map};
 ghost use Rattle.std.specs.declared.cmp.Ordering.{Ordering};
-ghost use Rattle.mg_shard.specs.Documents.{KeptDocument, deleted_of, doc_entry, docs_of, kept_entry, form_at, id_bytes, kept_of, tree_at, StandFor};
+ghost use Rattle.mg_shard.specs.Documents.{KeptDocument, deleted_of, doc_entry, docs_of, kept_entry, form_at, id_bytes, kept_of};
 ghost use Rattle.mg_shard.specs.Own.{HasOwnId};
-ghost use Rattle.mg_pages.specs.Reading.{beyond, past};
+ghost use Rattle.mg_pages.specs.Reading.{beyond};
 ghost use Rattle.mg_shard.specs.declared.document.Document.{Document};
 ghost use Rattle.mg_value.specs.Value.{Value};
-ghost use Rattle.mg_shard.specs.Edits.{after_edits, outcome_view, outcomes};
-ghost use Rattle.mg_shard.specs.Histories.{Histories};
 ghost use Rattle.mg_shard.specs.Shard.{rows_at};
-ghost use Rattle.mg_collate.specs.Row.{row_value_order};
 ghost use Rattle.mg_index.specs.Catalog.{IsCatalog};
 ghost use Rattle.mg_shard.specs.Index.{definitions_of};
 
-use crate::docs::Docs;
 use crate::document::Document;
 use crate::document_pages::DocumentPages;
 use crate::documents::Documents;
-use crate::draft::Draft;
 use crate::index_entry::IndexEntry;
 use crate::index_list::rows_there;
 use crate::index_ref::IndexRef;
-use crate::reply::EditReply;
 use mg_collate::Direction;
-use mg_doc::Edit;
-use mg_packed::Part;
-use mg_pages::{Cursor, Iter, Pages, Probe, Shared};
-use mg_revtree::RevTree;
+use mg_pages::{Cursor, Pages, Probe, Shared};
 use mg_rows::RowBytes;
 use mg_value::NoMemory;
 use std::alloc::Global;
 use std::cmp::Ordering;
 use std::marker::Model;
-
-/// The rows of an index that are left, in the order of key, then id; `next_back` gives them from the last to the first.
-pub type Rows<'a> = Iter<'a, RowBytes>;
 
 /// Documents by their ids and the rows of indexes, in shared pages. Sharing a shard copies only the top levels. An edit makes its document
 /// anew, with a copy of the tree, removes at most one row from each index and adds at most one, and copies the pages on the way to them.
@@ -98,35 +86,6 @@ impl Shard {
             Some(document) => Some(document.get()),
             None => None,
         }
-    }
-
-    /// Returns the form in which the document with this id is served; `None` if there is no such document, or it is deleted. Takes no
-    /// memory. Cost: one look-up.
-    pub fn served(&self, id: &str) -> Option<Part<'_>>
-        ensures { result ≡ form_at self.now.documents id.now }
-    {
-        match self.document(id) {
-            Some(document) => document.form(),
-            None => None,
-        }
-    }
-
-    /// Returns the revision tree of the document with this id, deleted or not; `None` if there is no such document. Takes no memory.
-    /// Cost: one look-up.
-    pub fn tree(&self, id: &str) -> Option<&RevTree>
-        ensures { option_map (λ t. t.now) result ≡ tree_at self.now.documents id.now }
-    {
-        match self.document(id) {
-            Some(document) => Some(&document.tree),
-            None => None,
-        }
-    }
-
-    /// Lists the served documents in the order of their ids, from both ends. Takes no memory. Cost: a step a document, deleted ones too.
-    pub fn docs(&self) -> Docs<'_>
-        ensures { result ≡ docs_of self.now.documents }
-    {
-        Docs::over(self.documents.all().iter())
     }
 
     /// Lists the documents that come after a place in a direction, deleted ones too: ascending, those above the place; descending, those
@@ -209,57 +168,14 @@ impl Shard {
         &self.indexes
     }
 
-    // Returns `next`; if it is `None`, a shard that shares the pages of this one.
-    fn or_shared(&self, alloc: Global, next: Option<Shard>) -> Result<Shard, NoMemory>
-        ensures { IfOk result (λ s. s ≡ unwrap_or next self.now) }
-    {
-        match next {
-            Some(shard) => Ok(shard),
-            None => Ok(self.share(alloc)?),
-        }
-    }
-
-    /// Applies edits that have ids, in order, and returns the shard after them and the outcome of each. This shard does not change.
-    ///
-    /// Errors: `NoMemory` if an allocation fails, or at a limit that `RevTree::merge_with` or `serve_form` has. A refused edit is not an
-    /// error. Cost: that of `Draft::apply_all`, which copies each edit and moves the copy's body into the tree of its document; and that of
-    /// `Draft::finish` or, if the edits touch no document, that of `share`. `Draft::apply` takes an edit by value, and does not copy it.
-    pub fn apply(&self, alloc: Global, edits: &[Edit]) -> Result<(Shard, Vec<EditReply>), NoMemory>
-        ensures stands { IfOk result
-            (λ r. (hs : Histories) → StandFor self.now.documents hs
-            → StandFor r.0.documents (after_edits hs edits.now)) }
-        ensures indexes { IfOk result (λ r. r.0.definitions ≡ self.now.definitions) }
-        ensures replies { IfOk result
-            (λ r. (hs : Histories) → StandFor self.now.documents hs
-            → map outcome_view r.1.items ≡ outcomes hs edits.now) }
-    {
-        let mut draft = Draft::new(alloc, self);
-        let replies = draft.apply_all(alloc, edits)?;
-        let next = draft.finish(alloc)?;
-        Ok((self.or_shared(alloc, next)?, replies))
-    }
-
     // Returns the rows of the index that is named, if there is one. Takes no memory. Cost: one comparison of names if the index is at the
     // place that the name says, otherwise one look-up by name.
     #[inline(always)]
-    fn index_rows(&self, index: IndexRef<'_>) -> Option<&Pages<RowBytes>>
+    pub(crate) fn index_rows(&self, index: IndexRef<'_>) -> Option<&Pages<RowBytes>>
         ensures { option_map (λ rows. rows.now) result
             ≡ rows_at index.entry.ddoc.now index.entry.name.now self.now }
     {
         rows_there(&self.indexes, index)
-    }
-
-    /// Lists the rows of the index of this design document and name, in the order of key, then id, from both ends; `None` if there is no such
-    /// index. They are the rows of an index that is made from scratch of the served documents. Takes no memory. Cost: one look-up of the
-    /// index by its name, and then a step a row.
-    pub fn rows(&self, ddoc: &str, name: &str) -> Option<Rows<'_>>
-        ensures { result ≡ rows_at ddoc.now name.now self.now }
-    {
-        let place = 0;
-        match self.index_rows(IndexRef { ddoc, name, place }) {
-            Some(rows) => Some(rows.iter()),
-            None => None,
-        }
     }
 
     /// Lists the rows that come after a place in a direction, in the index that is named; `None` if there is no such index. Ascending,
@@ -296,26 +212,6 @@ impl Shard {
     {
         match self.index_rows(index) {
             Some(rows) => Some(rows.count_beyond(place, direction)),
-            None => None,
-        }
-    }
-
-    /// Lists the rows that come after a row in a direction, in the index of this design document and name: ascending, those above it;
-    /// descending, those below it. They are listed as by `rows`, in the order of key, then id, from both ends. `None` if there is no such
-    /// index. The row itself is not listed, and the index need not have it. Takes no memory. Cost: that of `rows`, and three look-ups.
-    pub fn rows_after(
-        &self,
-        ddoc: &str,
-        name: &str,
-        row: &RowBytes,
-        direction: Direction,
-    ) -> Option<Rows<'_>>
-        ensures { result
-            ≡ option_map (past direction (row_value_order row.now)) (rows_at ddoc.now name.now self.now) }
-    {
-        let place = 0;
-        match self.index_rows(IndexRef { ddoc, name, place }) {
-            Some(rows) => Some(rows.past(row, direction)),
             None => None,
         }
     }

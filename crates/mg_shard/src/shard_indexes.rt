@@ -1,6 +1,5 @@
 //! Methods of a shard for its indexes: they make the rows of an index, and add or remove an index.
 ghost use Rattle.std.specs.Prelude.{◌≡◌, IfOk};
-ghost use Rattle.mg_collate.specs.Row.{rows_view};
 ghost use Rattle.mg_index.specs.Catalog.{with_definition, without_definition};
 ghost use Rattle.mg_pages.specs.Runs.{elements_view};
 ghost use Rattle.mg_shard.specs.Documents.{docs_in, docs_of};
@@ -10,9 +9,7 @@ use crate::document::Document;
 use crate::extracted::{pages_by_threads, rows_by_threads, rows_in_order};
 use crate::index_entry::IndexEntry;
 use crate::index_list::{insert_index, remove_index};
-use crate::index_rows::pages_of_rows;
 use crate::shard::Shard;
-use mg_collate::Row;
 use mg_index::IndexDef;
 use mg_pages::{Pages, Shared};
 use mg_path::Path;
@@ -84,7 +81,7 @@ impl Shard {
     }
 
     // Makes the shard that has an index of this definition with these rows. It replaces an index of the same design document and name.
-    fn with(
+    pub(crate) fn with(
         &self,
         alloc: Global,
         definition: IndexDef,
@@ -108,24 +105,6 @@ impl Shard {
             (λ s. s ≡ record self.now { definitions = with_definition definition.now self.now.definitions }) }
     {
         let rows = self.rows_alone(alloc, definition.columns())?;
-        self.with(alloc, definition.copy()?, rows)
-    }
-
-    /// Makes the shard that also has an index of this definition with these rows, which must be those that `rows_for` returns, in the same
-    /// order. It replaces an index of the same design document and name.
-    ///
-    /// Errors: `NoMemory` if an allocation fails. Cost: the bytes of the rows, and that of `with_pages`.
-    pub fn with_rows(
-        &self,
-        alloc: Global,
-        definition: &IndexDef,
-        rows: Vec<Row>,
-    ) -> Result<Shard, NoMemory>
-        requires { rows_view rows.items ≡ rows_of definition.now.columns (docs_of self.now.documents) }
-        ensures { IfOk result
-            (λ s. s ≡ record self.now { definitions = with_definition definition.now self.now.definitions }) }
-    {
-        let rows = pages_of_rows(alloc, &rows)?;
         self.with(alloc, definition.copy()?, rows)
     }
 

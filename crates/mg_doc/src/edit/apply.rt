@@ -31,7 +31,7 @@ pub enum Look {
 /// An edit that was looked at and not refused, and whose path, if it is a replica's, is not known whole. Made by `Edit::look`.
 #[derive(Drop)]
 pub struct ReadyEdit {
-    edit: Edit,
+    pub(crate) edit: Edit,
 }
 
 impl Model for ReadyEdit {
@@ -62,30 +62,8 @@ impl Edit {
         }
     }
 
-    /// Applies the edit to the tree of its document, and returns the revision that was made, or the newest one of the replica's path.
-    ///
-    /// A new edit makes a revision over the one that it names, which has to be a leaf. If it names none, it
-    /// makes one over a deleted winner, or at position 1 in an empty tree. The path of
-    /// a replica is merged; one that is known whole changes nothing.
-    ///
-    /// Errors: `Conflict` if the named revision is not a leaf, if none is named but the winner is not deleted, or if the made revision is
-    /// already known; `BadHistory` if the extended leaf has the last position, 4,294,967,295, or if a replica's path does not fit; else
-    /// `NoMemory` if an allocation fails, or at a limit that `RevTree::merge_with` lists. Only the refusal of a made revision that is already
-    /// known needs memory. An error leaves the tree as it was. Cost: that of `look`; and, unless a path is known whole, a copy of the
-    /// edit and the cost of `ReadyEdit::apply`. Source: CouchDB's `_bulk_docs` with `new_edits` true and false.
-    pub fn apply(&self, alloc: Global, tree: &mut RevTree) -> Result<Rev, EditError>
-        ensures applied { (h : Paths) → StandsFor tree.old h → Applied h self.now result tree.new }
-        ensures unchanged { OnErr result (tree.new ≡ tree.old) }
-    {
-        if let Some(rev) = self.foresee(tree)? {
-            return Ok(rev);
-        }
-        let edit = self.copy(alloc)?;
-        ReadyEdit { edit }.apply(alloc, tree)
-    }
-
     // Finds what `look` finds: the newest revision of a path that is known whole; `None` if the edit is ready. Errors: those of `look`.
-    fn foresee(&self, tree: &RevTree) -> Result<Option<Rev>, EditError>
+    pub(crate) fn foresee(&self, tree: &RevTree) -> Result<Option<Rev>, EditError>
         ensures { (h : Paths) → StandsFor tree.now h
             → Foreseen h self.now (result_map_both (look_of self.now) (λ e. e) result) tree.now }
     {

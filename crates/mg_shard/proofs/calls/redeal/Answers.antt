@@ -1,4 +1,4 @@
-use Rattle.mg_shard.proofs.redealt.redeal.Goals as goal
+use Rattle.mg_shard.proofs.calls.redeal.Goals as goal
 
 pub returns : goal.returns
 returns g c =

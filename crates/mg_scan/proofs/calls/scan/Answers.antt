@@ -5,7 +5,7 @@ use Rattle.mg_scan.specs.Found.{input_of_parts}
 use Rattle.mg_scan.specs.Hit.{hit_rows}
 use Rattle.mg_scan.specs.declared.hit.Hit.{Hit}
 use Rattle.mg_scan.proofs.Made.{same_found, same_named}
-use Rattle.mg_scan.proofs.scanning.scan.Goals as goal
+use Rattle.mg_scan.proofs.calls.scan.Goals as goal
 
 pub returns : goal.returns
 returns g c =

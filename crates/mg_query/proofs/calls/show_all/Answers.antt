@@ -5,7 +5,7 @@ use Rattle.mg_shard.specs.Documents.{kept_of}
 use Rattle.mg_query.specs.Page.{shown_of}
 use Rattle.mg_query.specs.View.{query_view}
 use Rattle.mg_query.proofs.Showing.{shown_all, shown_hit, shown_more}
-use Rattle.mg_query.proofs.answer.show_all.Goals as goal
+use Rattle.mg_query.proofs.calls.show_all.Goals as goal
 
 pub loop-hit-preserved : goal.loop-hit-preserved
 loop-hit-preserved c = λ columns cs l.

@@ -4,7 +4,7 @@ use Rattle.mg_index.specs.Definition.{Steps}
 use Rattle.mg_query.specs.Page.{Candidate, shown_of}
 use Rattle.mg_query.specs.Lent.{LendEach}
 use Rattle.mg_query.specs.View.{query_view}
-use Rattle.mg_query.proofs.answer.show_all.Given as goal
+use Rattle.mg_query.proofs.calls.show_all.Given as goal
 
 -- the values so far, and those of the hits that are left, are the values of all hits
 abbrev pub invariant-loop-hit : goal.invariant-loop-hit

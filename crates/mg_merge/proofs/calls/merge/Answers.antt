@@ -2,7 +2,7 @@ use Rattle.std.proofs.Common.{ap, ◌∙◌}
 use Rattle.mg_collate.specs.Row.{row_view, rows_view}
 use Rattle.mg_merge.specs.Merged.{contents_of, lent_view, merged}
 use Rattle.mg_merge.proofs.Rows.{all_by_rows, rows_of_merged, views}
-use Rattle.mg_merge.proofs.merging.merge.Goals as goal
+use Rattle.mg_merge.proofs.calls.merge.Goals as goal
 
 pub first_lent-requires : goal.first_lent-requires
 first_lent-requires c = all_by_rows c.args.direction c.args.lists.now c.requires
