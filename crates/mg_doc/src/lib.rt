@@ -26,10 +26,10 @@ mod leaf;
 mod members;
 mod revisions;
 
+pub use calls::{rev_id, served};
 pub use change::Change;
 pub use conflicts::with_conflicts;
-pub use digest::rev_id;
-pub use document::{serve_form, served};
+pub use document::serve_form;
 pub use edit::{Edit, Look, ReadyEdit};
 pub use error::{DocError, EditError, EditRefusal};
 pub use leaf::{leaf_document, with_revisions};
