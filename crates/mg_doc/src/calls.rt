@@ -10,7 +10,7 @@ ghost use Rattle.mg_doc.specs.Served.{served_form, served_of};
 
 use crate::digest::rev_id_of_text;
 use crate::document::served_form;
-use crate::edit::{Edit, Edit, ReadyEdit};
+use crate::edit::{Edit, ReadyEdit};
 use crate::error::{DocError, EditError};
 use mg_packed::Packed;
 use mg_revtree::{Rev, RevTree};

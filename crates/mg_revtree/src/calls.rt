@@ -11,6 +11,7 @@ use crate::history::History;
 use crate::leaf::Leaf;
 use crate::rev_id::RevId;
 use crate::revision::Rev;
+use crate::tree::RevTree;
 use mg_value::{Json, NoMemory};
 use std::alloc::Global;
 
