@@ -7,7 +7,7 @@ judged in that check, and is tried in a later one.
 import re
 
 # comments, texts and what gives a file its form
-TOKEN = re.compile(r"//[^\n]*|/\*.*?\*/|r(#*)\".*?\"\1|\"(?:[^\"\\]|\\.)*\"|'(?:[^'\\\n]|\\[^\n]{1,8})'|\bfn\s+(\w+)|\bimpl\b|[{};]", re.DOTALL)
+TOKEN = re.compile(r"//[^\n]*|/\*.*?\*/|r(#*)\".*?\"\1|\"(?:[^\"\\]|\\.)*\"|'(?:[^'\\\n]|\\[^\n]{1,8})'|\bfn\s+(\w+)|\b(?:impl|trait)\b|[{};]", re.DOTALL)
 OPENS_CLAUSE = re.compile(r"\b(?:requires|ensures)\*?\s*\w*\s*$|\bghost\s+[\w ]+:\s*$")
 PLACE = re.compile(r"(?:note: )?(?:\./)?(\S+?):(\d+):\d+: ")
 # a proof that names what an edit took away says nothing of the contract
@@ -52,11 +52,11 @@ class Function:
 
 
 def owner_of(head):
-    """Returns the name of the type that the head of an `impl` block is for, without its parameters; of a reference as a check spells it."""
+    """Returns the name of the type that the head of an `impl` block is for, or of a trait, without parameters; of a reference as a check spells it."""
     plain = re.sub(r"<[^<>]*>", "", head)
     while plain != (head := re.sub(r"<[^<>]*>", "", plain)):
         plain = head
-    plain = plain.split(" where")[0].split(" for ")[-1].strip().removeprefix("impl").strip()
+    plain = plain.split(" where")[0].split(": ")[0].split(" for ")[-1].strip().removeprefix("impl").strip()
     return re.sub(r"\W+", "", plain.replace("&", "Ref").split("::")[-1])
 
 
@@ -73,7 +73,7 @@ def functions_of(file, text):
         if token[2]:
             if head is None:
                 head, clause_from = (behind, token[2]), token.end()
-        elif word == "impl" and head is None:
+        elif word in ("impl", "trait") and head is None:
             impl_from = token.end()
         elif word == "{":
             if impl_from is not None and head is None:
