@@ -18,16 +18,18 @@ use Rattle.mg_merge.specs.Merged.{merged}
 use Rattle.mg_merge.specs.Pulled.{IsGivenBy}
 use Rattle.mg_scan.specs.Begun.{IsBegunIn, IsUnreadAfter}
 use Rattle.mg_scan.specs.Decided.{IsDecidedIn}
-use Rattle.mg_scan.specs.Lead.{AreLeadsIn, IsLeadIn, IsLeadUnread, IsLeadOf, IsLeadSourceAfter, lead_rows, without_selector}
+use Rattle.mg_scan.specs.Lead.{AreLeadsIn, IsLeadIn, IsLeadOf}
+use Rattle.mg_scan.specs.Kept.{IsKept}
+use Rattle.mg_scan.specs.Sourced.{IsSourceAfter, unread_rows, without_selector}
 use Rattle.mg_scan.specs.Search.{search_input, found_by}
 use Rattle.mg_scan.specs.Way.{all_found_by}
 use Rattle.mg_scan.specs.Walked.{is_late_row, walked_all}
 use Rattle.mg_scan.specs.declared.lead.Lead.{Lead}
-use Rattle.mg_scan.specs.declared.lead_source.LeadSource.{LeadSource}
+use Rattle.mg_scan.specs.declared.source.Source.{Source}
 use Rattle.mg_scan.specs.declared.unread.Unread.{Unread}
 use Rattle.mg_scan.specs.declared.unread.Unread.TheVariants as unread
 use Rattle.mg_scan.specs.declared.search.Search.{Search}
-use Rattle.mg_scan.proofs.Begun.{begun_led, served_begun}
+use Rattle.mg_scan.proofs.Begun.{on_way, served_begun}
 use Rattle.mg_scan.proofs.Decided.{all_alike}
 use Rattle.mg_scan.proofs.Entries.{all_forms}
 use Rattle.mg_scan.proofs.Leads.{lead_rests}
@@ -84,23 +86,23 @@ nothing_after : (n : ℕ) → ◌≡◌ {A = List RowValue} [] (drop n [])
 nothing_after zero = refl
 nothing_after (suc n) = refl
 
--- what a search finds after the first n rows that it reads is what it finds, without the first n
-pub rows_left_after : (at : Option (List Steps)) (s : Search) (shard : ShardView) (n : ℕ) (l m : Unread) → IsBegunIn at s shard l → IsUnreadAfter n l m → lead_rows s m ≡ drop n (lead_rows s l)
+-- what a search without a selector finds after the first n rows that it reads is what it finds, without the first n
+pub rows_left_after : (at : Option (List Steps)) (s : Search) (shard : ShardView) (n : ℕ) (l m : Unread) → IsBegunIn at s shard l → IsUnreadAfter n l m → unread_rows (without_selector s) shard m ≡ drop n (unread_rows (without_selector s) shard l)
 rows_left_after at s shard n (unread.Rows rows) m b e =
     let ds = shard.documents in
-    ap (lead_rows s) e
+    let served = served_begun s ds b.0 rows b.2 in
+    ap (unread_rows (without_selector s) shard) e
+    ∙ sym (on_way s ds (drop n rows) (all_dropped _ n rows served))
     ∙ on_way_after (is_late_row s.direction s.range.now) n rows (late_rows (search_input s b.0) ds rows (all_forms ds) b.2)
+    ∙ ap (drop n) (on_way s ds rows served)
 rows_left_after at s shard n (unread.Documents documents) m b e =
-    ap (lead_rows s) e.1 ∙ sym (ap (λ k. drop k (lead_rows s (unread.Documents documents))) e.0)
-rows_left_after at s shard n unread.Nothing m b e = ap (lead_rows s) e ∙ nothing_after n
+    ap (unread_rows (without_selector s) shard) e.1 ∙ sym (ap (λ k. drop k (unread_rows (without_selector s) shard (unread.Documents documents))) e.0)
+rows_left_after at s shard n unread.Nothing m b e = ap (unread_rows (without_selector s) shard) e ∙ nothing_after n
 
-pub led_left_after : (at : Option (List Steps)) (s : Search) (shard : ShardView) (n : ℕ) (l m : Unread) → IsBegunIn at s shard l → IsUnreadAfter n l m → (lead : Lead) → IsLeadUnread shard m lead → IsLeadOf shard lead
-led_left_after at s shard n (unread.Rows rows) m b e lead lent =
-    let served = served_begun s shard.documents b.0 rows b.2 in
-    let kept = all_dropped _ n rows served in
-    subst (λ (x : Unread). IsLeadUnread shard x lead) e lent kept
-led_left_after at s shard n (unread.Documents documents) m b e lead lent = begun_led at s shard (unread.Documents documents) b lead (subst (λ (x : Unread). IsLeadUnread shard x lead) e.1 lent)
-led_left_after at s shard n unread.Nothing m b e lead lent = begun_led at s shard unread.Nothing b lead (subst (λ (x : Unread). IsLeadUnread shard x lead) e lent)
+pub kept_after : (shard : ShardView) (n : ℕ) (l m : Unread) → IsUnreadAfter n l m → IsKept shard l → IsKept shard m
+kept_after shard n (unread.Rows rows) m e h = subst (IsKept shard) (sym e) (all_dropped _ n rows h)
+kept_after shard n (unread.Documents documents) m e h = subst (IsKept shard) (sym e.1) h
+kept_after shard n unread.Nothing m e h = subst (IsKept shard) (sym e) h
 
 -- ---- one shard
 
@@ -109,7 +111,11 @@ one_seen [] a shard one is e = absurd (omega (arith, one))
 one_seen (x ∷ []) a shard one is e = ap (λ y. arc_value y ∷ []) (sym is) ∙ ap (λ y. y ∷ []) (sym e)
 one_seen (x ∷ y ∷ shards) a shard one is e = absurd (omega (arith, one))
 
-module _ (s : Search) (n : ℕ) (shard : ShardView) (source : LeadSource) (is : IsLeadSourceAfter n s shard source) where
+module _ (s : Search) (n : ℕ) (shard : ShardView) (source : Source) (is : IsSourceAfter n s shard source) where
+  rest_is : lead_rests source ≡ drop n (all_found_by (without_selector s) shard)
+  rest_is =
+      ap (λ (y : Search). unread_rows (without_selector y) source.shard.now source.unread) is.same_search ∙ ap (λ (t : ShardView). unread_rows (without_selector s) t source.unread) is.same_shard ∙ is.rows
+
   abbrev all : List RowValue
   all = all_found_by (without_selector s) shard
 
@@ -117,7 +123,7 @@ module _ (s : Search) (n : ℕ) (shard : ShardView) (source : LeadSource) (is : 
   all_rises = rises (directed_order s.direction) (directed_total s.direction) all (found_in_order (without_selector s) shard)
 
   rest_rises : Rises (directed_order s.direction) (lead_rests source)
-  rest_rises = subst (Rises (directed_order s.direction)) (sym is.rows) (rises_dropped (directed_order s.direction) n all all_rises)
+  rest_rises = subst (Rises (directed_order s.direction)) (sym rest_is) (rises_dropped (directed_order s.direction) n all all_rises)
 
   pub one_in_order : All (IsInOrder s.direction) (map lead_rests (source ∷ []))
   one_in_order =
@@ -130,13 +136,13 @@ module _ (s : Search) (n : ℕ) (shard : ShardView) (source : LeadSource) (is : 
       let more = skip - n in
       let sum : n + more ≡ skip = omega (arith, within) in
       let here : merged s.direction wanted (map lead_rests (source ∷ [])) ≡ drop n (take s.take all) =
-      merged_one s.direction wanted (lead_rests source) rest_rises ∙ ap (take wanted) is.rows ∙ ap (λ k. take k (drop n all)) w ∙ sym (drop_taken n s.take all) in
+      merged_one s.direction wanted (lead_rests source) rest_rises ∙ ap (take wanted) rest_is ∙ ap (λ k. take k (drop n all)) w ∙ sym (drop_taken n s.take all) in
       let there : merged s.direction s.take (map (found_by s) (shard ∷ [])) ≡ take s.take all =
       ap (merged s.direction s.take) (sym (all_alike s (shard ∷ []) decided))
       ∙ sym (found_merged (without_selector s) (shard ∷ [])) ∙ merged_one s.direction s.take all all_rises in
       ap (drop more) here ∙ drop-drop more n (take s.take all) ∙ ap (λ k. drop k (take s.take all)) sum ∙ ap (drop skip) (sym there)
 
-  pub one_given : (leads : List Lead) → All (IsGivenBy (λ x. IsLeadUnread x.shard.now x.unread) (source ∷ [])) leads → AreLeadsIn (shard ∷ []) leads
+  pub one_given : (leads : List Lead) → All (IsGivenBy (λ x. IsLeadOf x.shard.now) (source ∷ [])) leads → AreLeadsIn (shard ∷ []) leads
   one_given leads given =
       all_weaker (InOneOf IsLeadOf (shard ∷ [])) (IsLeadIn (shard ∷ [])) (λ lead here. record { place = here.0; shard = here.1; there = here.2; lead = here.3 }) leads
-      (all_given (IsLeadSourceAfter n s) (λ x. IsLeadUnread x.shard.now x.unread) IsLeadOf (λ t x here. here.leads) (shard ∷ []) (source ∷ []) (is, tt) leads given)
+      (all_given (IsSourceAfter n s) (λ x. IsLeadOf x.shard.now) IsLeadOf (λ t x here lead of. subst (λ (y : ShardView). IsLeadOf y lead) here.same_shard of) (shard ∷ []) (source ∷ []) (is, tt) leads given)

@@ -6,15 +6,13 @@ use Rattle.mg_collate.specs.Row.{RowValue, row_value_order}
 use Rattle.mg_collate.specs.Sorted.{sorted_with, sorted}
 use Rattle.mg_index.specs.Definition.{IndexDefinition, Steps}
 use Rattle.mg_scan.specs.Begun.{IsBegunIn}
-use Rattle.mg_scan.specs.Hit.{IsHitOf}
-use Rattle.mg_scan.specs.Lead.{AreServed, IsLeadUnread, IsLeadOf, lead_rows, rows_on_way, without_selector}
+use Rattle.mg_normal.specs.Normal.{NormalForm}
 use Rattle.mg_scan.specs.Scan.{all_matches}
 use Rattle.mg_scan.specs.Search.{search_input}
 use Rattle.mg_scan.specs.Way.{begin_at, walked_all_by}
-use Rattle.mg_scan.specs.Sourced.{IsUnread, unread_rows}
-use Rattle.mg_scan.specs.Walked.{id_row, is_late_row}
-use Rattle.mg_scan.specs.declared.hit.Hit.{Hit}
-use Rattle.mg_scan.specs.declared.lead.Lead.{Lead}
+use Rattle.mg_scan.specs.Kept.{AreServed, IsKept}
+use Rattle.mg_scan.specs.Sourced.{unread_rows, with_selector, without_selector}
+use Rattle.mg_scan.specs.Walked.{id_row, is_late_row, walked_all}
 use Rattle.mg_scan.specs.declared.unread.Unread.{Unread}
 use Rattle.mg_scan.specs.declared.unread.Unread.TheVariants as unread
 use Rattle.mg_scan.specs.declared.search.Search.{Search}
@@ -55,10 +53,12 @@ begun_hits at s shard (unread.Documents documents) b =
     ∙ ap (λ o. option_map_or (λ columns. all_matches (search_input s columns) (docs_of ds)) o []) (sym b.0)
 begun_hits at s shard unread.Nothing b = ap (λ o. option_map_or (λ columns. all_matches (search_input s columns) (docs_of shard.documents)) o []) (sym b)
 
-pub begun_lent : (at : Option (List Steps)) (s : Search) (shard : ShardView) (l : Unread) → IsBegunIn at s shard l → (h : Hit) → IsUnread shard l h → IsHitOf shard.documents h
-begun_lent at s shard (unread.Rows rows) b h lent = lent
-begun_lent at s shard (unread.Documents documents) b h lent = lent (all_owned shard.documents s.direction (λ e. begin_at s (id_row e.0)) documents b.1.begun)
-begun_lent at s shard unread.Nothing b h lent = lent
+-- and so it is with any selector
+pub begun_with : (at : Option (List Steps)) (s : Search) (shard : ShardView) (l : Unread) → IsBegunIn at s shard l → (n : NormalForm)
+    → unread_rows (with_selector n s) shard l ≡ option_map_or (λ columns. all_matches (search_input (with_selector n s) columns) (docs_of shard.documents)) at []
+begun_with at s shard (unread.Rows rows) b n = begun_hits at (with_selector n s) shard (unread.Rows rows) b
+begun_with at s shard (unread.Documents documents) b n = begun_hits at (with_selector n s) shard (unread.Documents documents) (b.0, record { own = b.1.own; begun = b.1.begun })
+begun_with at s shard unread.Nothing b n = begun_hits at (with_selector n s) shard unread.Nothing b
 
 -- ---- rows of served documents
 
@@ -92,7 +92,17 @@ served_begun s ds columns rows e =
     (all_beyond served s.direction (begin_at s) (rows_of columns (docs_of ds))
     (all_sorted served row_value_order (filter_map (row_of columns) (docs_of ds)) (served_rows columns ds (docs_of ds) (all_forms ds))))
 
--- ---- leads
+-- what is read from where a search begins is of documents that the shard serves or keeps
+pub begun_kept : (at : Option (List Steps)) (s : Search) (shard : ShardView) (l : Unread) → IsBegunIn at s shard l → IsKept shard l
+begun_kept at s shard (unread.Rows rows) b = served_begun s shard.documents b.0 rows b.2
+begun_kept at s shard (unread.Documents documents) b = all_owned shard.documents s.direction (λ e. begin_at s (id_row e.0)) documents b.1.begun
+begun_kept at s shard unread.Nothing b = tt
+
+-- ---- a search without a selector
+
+-- the rows before the first one that comes after the search's range, whatever their documents
+abbrev pub rows_on_way : Search → List RowValue → List RowValue
+rows_on_way s rows = walked_all (is_late_row s.direction s.range.now) (λ r. true) rows
 
 held_step : (s : Search) (ds : KeptDocuments) (r : RowValue) (b : Bool) (xs ys : List RowValue) (o : Option _) → form_at ds r.1 ≡ o → is_some o ≡ true → xs ≡ ys
     → (if b then [] else r ∷ xs) ≡ (if b then [] else if option_map_or (λ form. true) o false then r ∷ ys else ys)
@@ -101,21 +111,7 @@ held_step s ds r true xs ys (Some form) e f g = refl
 held_step s ds r false xs ys (Some form) e f g = ap (λ zs. r ∷ zs) g
 
 -- a search without a selector finds all rows of served documents
-on_way : (s : Search) (ds : KeptDocuments) (rows : List RowValue) → AreServed ds rows → rows_on_way s rows ≡ walked_all_by (without_selector s) ds rows
+pub on_way : (s : Search) (ds : KeptDocuments) (rows : List RowValue) → AreServed ds rows → rows_on_way s rows ≡ walked_all_by (without_selector s) ds rows
 on_way s ds [] h = refl
 on_way s ds (r ∷ rows) h =
     held_step s ds r (is_late_row s.direction s.range.now r) (rows_on_way s rows) (walked_all_by (without_selector s) ds rows) (form_at ds r.1) refl h.0 (on_way s ds rows h.1)
-
--- all rows on the way from where a search begins are what it finds in the shard without its selector
-pub begun_leads : (at : Option (List Steps)) (s : Search) (shard : ShardView) (l : Unread) → IsBegunIn at s shard l
-    → lead_rows s l ≡ option_map_or (λ columns. all_matches (search_input (without_selector s) columns) (docs_of shard.documents)) at []
-begun_leads at s shard (unread.Rows rows) b =
-    on_way s shard.documents rows (served_begun s shard.documents b.0 rows b.2) ∙ begun_hits at (without_selector s) shard (unread.Rows rows) b
-begun_leads at s shard (unread.Documents documents) b =
-    begun_hits at (without_selector s) shard (unread.Documents documents) (b.0, record { own = b.1.own; begun = b.1.begun })
-begun_leads at s shard unread.Nothing b = begun_hits at (without_selector s) shard unread.Nothing b
-
-pub begun_led : (at : Option (List Steps)) (s : Search) (shard : ShardView) (l : Unread) → IsBegunIn at s shard l → (lead : Lead) → IsLeadUnread shard l lead → IsLeadOf shard lead
-begun_led at s shard (unread.Rows rows) b lead lent = lent (served_begun s shard.documents b.0 rows b.2)
-begun_led at s shard (unread.Documents documents) b lead lent = lent (all_owned shard.documents s.direction (λ e. begin_at s (id_row e.0)) documents b.1.begun)
-begun_led at s shard unread.Nothing b lead lent = lent

@@ -14,7 +14,7 @@ use Rattle.mg_range.specs.Range.{Range, range_of}
 use Rattle.mg_range.proofs.Deciding.{decides_rows}
 use Rattle.mg_scan.specs.Decided.{IsDecidedIn, everything}
 use Rattle.mg_scan.specs.Found.{input_of_parts}
-use Rattle.mg_scan.specs.Lead.{without_selector}
+use Rattle.mg_scan.specs.Sourced.{without_selector}
 use Rattle.mg_scan.specs.Scan.{all_matches, comes_after, is_wanted}
 use Rattle.mg_scan.specs.Search.{after_of, search_input, found_by}
 use Rattle.mg_scan.specs.declared.search.Search.{Search}

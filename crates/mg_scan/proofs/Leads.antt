@@ -11,16 +11,16 @@ use Rattle.mg_merge.specs.Pulled.{IsGivenBy}
 use Rattle.mg_normal.specs.Normal.{normal_holds}
 use Rattle.mg_scan.specs.Decided.{IsDecidedIn, everything}
 use Rattle.mg_scan.specs.Hit.{AreHitsIn, IsHitIn, IsHitOf, hit_row, hit_rows}
-use Rattle.mg_scan.specs.Lead.{AreLeadsIn, IsLeadIn, IsLeadUnread, IsLeadOf, IsLeadSourceOf, lead_row, lead_rows, without_selector}
+use Rattle.mg_scan.specs.Lead.{AreLeadsIn, IsLeadIn, IsLeadOf, lead_row}
 use Rattle.mg_scan.specs.Search.{found_by}
-use Rattle.mg_scan.specs.Sourced.{walked_on}
+use Rattle.mg_scan.specs.Sourced.{IsSourceOf}
 use Rattle.mg_scan.specs.Walked.{list_of_option}
 use Rattle.mg_scan.specs.declared.hit.Hit.{Hit}
 use Rattle.mg_scan.specs.declared.lead.Lead.{Lead}
-use Rattle.mg_scan.specs.declared.lead_source.LeadSource.{LeadSource}
+use Rattle.mg_scan.specs.declared.source.Source.{Source}
 use Rattle.mg_scan.specs.declared.search.Search.{Search}
 use Rattle.mg_scan.proofs.Decided.{all_alike}
-use Rattle.mg_scan.proofs.Sources.{InOneOf, all_given, sources_in_order, sources_merged, sources_size}
+use Rattle.mg_scan.proofs.Sources.{InOneOf, rests, rests_given, rests_merged}
 use Rattle.mg_scan.proofs.Steps.{rows-push}
 use Rattle.mg_shard.specs.Documents.{KeptDocument, KeptDocuments, form_at, form_of, id_bytes, kept_of}
 use Rattle.mg_shard.specs.Own.{id_columns}
@@ -30,10 +30,6 @@ use Rattle.mg_shard.specs.declared.document.Document.{Document}
 use Rattle.mg_value.specs.Value.{Items, Value}
 
 -- ---- one step
-
--- a row that is not late is the next
-pub on_lead : (late : RowValue → Bool) (holds : Bool) (total : List RowValue) (r : RowValue) (rest : List RowValue) → late r ≡ false → holds ≡ true → total ≡ walked_on late holds (Some r) rest → total ≡ r ∷ rest
-on_lead late holds total r rest e f is = is ∙ ap₂ (λ (b c : Bool). if b then [] else if c then r ∷ rest else rest) e f
 
 -- a document that has a key matches `everything`
 pub keyed_holds : (o : Option Value) (key : Items) → Some key ≡ option_and_then (row_key id_columns) o → option_map_or (λ form. normal_holds everything (Some form)) o false ≡ true
@@ -48,34 +44,26 @@ form_there (Some form) key e = refl
 pub keyed_served : (ds : KeptDocuments) (d : Document) (key : Items) → get ds (id_bytes d) ≡ Some (kept_of d) → Some key ≡ option_and_then (row_key id_columns) (form_of d) → is_some (form_at ds (id_bytes d)) ≡ true
 keyed_served ds d key kept e = ap (λ (o : Option KeptDocument). is_some (option_and_then (λ (k : KeptDocument). k.1) o)) kept ∙ form_there (form_of d) key e
 
--- moves a condition P, under which Q holds of the lead, into the property of the lead
-pub lead_where : {P : Type 0} (lead : Option Lead) (Q : Lead → Type 0) → (P → IfSome lead Q) → IfSome lead (λ x. P → Q x)
-lead_where None Q f = tt
-lead_where (Some x) Q f = f
+-- a document that is served matches `everything`
+pub served_holds : (o : Option Value) → is_some o ≡ true → option_map_or (λ form. normal_holds everything (Some form)) o false ≡ true
+served_holds None e = absurd cc
+served_holds (Some form) e = refl
 
 -- ---- leads in the shards
 
-abbrev pub lead_rests : LeadSource → List RowValue
-lead_rests x = lead_rows x.search x.unread
-
-pub leads_size : (s : Search) (shards : List ShardView) (sources : List LeadSource) → AllZip (IsLeadSourceOf s) shards sources → length sources ≡ length shards
-leads_size s shards sources h = sources_size (without_selector s) (IsLeadSourceOf s) lead_rests (λ shard x is. is.rows) shards sources h
-
-pub leads_in_order : (s : Search) (shards : List ShardView) (sources : List LeadSource) → AllZip (IsLeadSourceOf s) shards sources → All (IsInOrder s.direction) (map lead_rests sources)
-leads_in_order s shards sources h = sources_in_order (without_selector s) (IsLeadSourceOf s) lead_rests (λ shard x is. is.rows) shards sources h
+abbrev pub lead_rests : Source → List RowValue
+lead_rests x = rests (λ n. everything) x
 
 -- where the range decides in each shard, the merge of their rows is that of what is found
-pub leads_merged : (s : Search) (shards : List ShardView) (sources : List LeadSource) → AllZip (IsLeadSourceOf s) shards sources → All (IsDecidedIn s.target s.normal.now s.range.now) shards
+pub leads_merged : (s : Search) (shards : List ShardView) (sources : List Source) → AllZip (IsSourceOf s) shards sources → All (IsDecidedIn s.target s.normal.now s.range.now) shards
     → merged s.direction s.take (map lead_rests sources) ≡ merged s.direction s.take (map (found_by s) shards)
-leads_merged s shards sources h decided =
-    sources_merged (without_selector s) (IsLeadSourceOf s) lead_rests (λ shard x is. is.rows) shards sources h ∙ ap (merged s.direction s.take) (all_alike s shards decided)
+leads_merged s shards sources h decided = rests_merged (λ n. everything) s shards sources h ∙ ap (merged s.direction s.take) (all_alike s shards decided)
 
 -- what the sources give are leads in the shards
-pub leads_given : (s : Search) (shards : List ShardView) (sources : List LeadSource) → AllZip (IsLeadSourceOf s) shards sources → (leads : List Lead)
-    → All (IsGivenBy (λ x. IsLeadUnread x.shard.now x.unread) sources) leads → AreLeadsIn shards leads
+pub leads_given : (s : Search) (shards : List ShardView) (sources : List Source) → AllZip (IsSourceOf s) shards sources → (leads : List Lead)
+    → All (IsGivenBy (λ (x : Source). IsLeadOf x.shard.now) sources) leads → AreLeadsIn shards leads
 leads_given s shards sources h leads given =
-    all_weaker (InOneOf IsLeadOf shards) (IsLeadIn shards) (λ lead is. record { place = is.0; shard = is.1; there = is.2; lead = is.3 }) leads
-    (all_given (IsLeadSourceOf s) (λ x. IsLeadUnread x.shard.now x.unread) IsLeadOf (λ shard x is. is.leads) shards sources h leads given)
+    all_weaker (InOneOf IsLeadOf shards) (IsLeadIn shards) (λ lead is. record { place = is.0; shard = is.1; there = is.2; lead = is.3 }) leads (rests_given IsLeadOf s shards sources h leads given)
 
 lead_at : (shards : List ShardView) (leads : List Lead) (i : ℕ) (lead : Lead) → AreLeadsIn shards leads → i < length leads → lead ≡ get_or leads i lead → IsLeadIn shards lead
 lead_at shards [] i lead h less is = absurd (omega arith)

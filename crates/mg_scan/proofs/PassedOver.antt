@@ -25,7 +25,7 @@ use Rattle.mg_range.specs.declared.side.RangeSide.TheVariants.{Before, Within, P
 use Rattle.mg_scan.specs.Begins.{beyond_rises, row_side, reached}
 use Rattle.mg_scan.specs.Decided.{everything}
 use Rattle.mg_scan.specs.Found.{all_found_in, input_of_parts, target_columns}
-use Rattle.mg_scan.specs.Lead.{without_selector}
+use Rattle.mg_scan.specs.Sourced.{without_selector}
 use Rattle.mg_scan.specs.Passed.{AreDecided, HasPageOf, IsIndex, IsWithin, beyond_row, count_all_upcoming}
 use Rattle.mg_scan.specs.Scan.{all_matches, matching_documents, comes_after, is_wanted}
 use Rattle.mg_scan.specs.Search.{after_of, found_by}

@@ -21,11 +21,13 @@ use Rattle.mg_scan.specs.Hit.{AreHitsIn, IsHitIn, IsHitOf, hit_row}
 use Rattle.mg_scan.specs.Scan.{all_matches, matching_documents, is_wanted}
 use Rattle.mg_scan.specs.Search.{search_input, found_by}
 use Rattle.mg_scan.specs.Way.{all_found_by, begin_at, entry_rows, walked_all_by}
-use Rattle.mg_scan.specs.Sourced.{AreKept, IsUnread, IsSourceOf, holds_for, unread_rows, row_among, walked_documents, walked_on}
+use Rattle.mg_normal.specs.Normal.{NormalForm}
+use Rattle.mg_scan.specs.Kept.{AreKept}
+use Rattle.mg_scan.specs.Sourced.{IsSourceOf, holds_for, unread_rows, row_among, walked_documents, walked_on, with_selector}
 use Rattle.mg_scan.specs.Walked.{holds_at, id_row, is_late_row}
 use Rattle.mg_scan.specs.declared.hit.Hit.{Hit}
 use Rattle.mg_scan.specs.declared.search.Search.{Search}
-use Rattle.mg_scan.specs.declared.source.HitSource.{HitSource}
+use Rattle.mg_scan.specs.declared.source.Source.{Source}
 use Rattle.mg_scan.proofs.Entries.{Entry, all_forms, all_rows, own_rows, rows-beyond}
 use Rattle.mg_scan.proofs.Maps.{get-map, length-view, some_is, zip_more}
 use Rattle.mg_scan.proofs.Steps.{holds_of, if_none, if_some, row_lent}
@@ -46,24 +48,19 @@ pub on_late : (late : RowValue → Bool) (holds : Bool) (total : List RowValue) 
 on_late late holds total r rest e is = is ∙ ap (λ b. if b then [] else if holds then r ∷ rest else rest) e
 
 -- a row whose document matches is found
-pub on_hit : (late : RowValue → Bool) (holds : Bool) (total : List RowValue) (r : RowValue) (rest : List RowValue) (hit : Option Hit) → late r ≡ false → option_map hit_row hit ≡ (if holds then Some r else None)
-    → total ≡ walked_on late holds (Some r) rest → IfSome hit (λ x. total ≡ hit_row x ∷ rest)
-on_hit late holds total r rest None e h is = tt
-on_hit late holds total r rest (Some x) e h is =
-    let found = if_some holds (hit_row x) r h in
+pub on_found : {A : Type 0} (row : A → RowValue) (late : RowValue → Bool) (holds : Bool) (total : List RowValue) (r : RowValue) (rest : List RowValue) (found : Option A) → late r ≡ false → option_map row found ≡ (if holds then Some r else None)
+    → total ≡ walked_on late holds (Some r) rest → IfSome found (λ x. total ≡ row x ∷ rest)
+on_found row late holds total r rest None e h is = tt
+on_found row late holds total r rest (Some x) e h is =
+    let found = if_some holds (row x) r h in
     is ∙ ap₂ (λ (b c : Bool). if b then [] else if c then r ∷ rest else rest) e found.0 ∙ ap (λ y. y ∷ rest) (sym found.1)
 
 -- a row whose document does not match is passed over
-pub on_miss : (late : RowValue → Bool) (holds : Bool) (total : List RowValue) (r : RowValue) (rest : List RowValue) (hit : Option Hit) → late r ≡ false → option_map hit_row hit ≡ (if holds then Some r else None)
-    → is_some hit ≡ false → total ≡ walked_on late holds (Some r) rest → total ≡ rest
-on_miss late holds total r rest None e h none is =
+pub on_miss : {A : Type 0} (row : A → RowValue) (late : RowValue → Bool) (holds : Bool) (total : List RowValue) (r : RowValue) (rest : List RowValue) (found : Option A) → late r ≡ false → option_map row found ≡ (if holds then Some r else None)
+    → is_some found ≡ false → total ≡ walked_on late holds (Some r) rest → total ≡ rest
+on_miss row late holds total r rest None e h none is =
     is ∙ ap₂ (λ (b c : Bool). if b then [] else if c then r ∷ rest else rest) e (if_none holds r h)
-on_miss late holds total r rest (Some x) e h none is = absurd cc
-
--- moves a condition P, under which Q holds of the hit, into the property of the hit
-pub some_where : {P : Type 0} (hit : Option Hit) (Q : Hit → Type 0) → (P → IfSome hit Q) → IfSome hit (λ x. P → Q x)
-some_where None Q f = tt
-some_where (Some x) Q f = f
+on_miss row late holds total r rest (Some x) e h none is = absurd cc
 
 -- ---- documents
 
@@ -197,23 +194,36 @@ module _ {X : Type 0} (Is : ShardView → X → Type 0) where
     all_given shards sources h hits given =
         all_weaker (IsGivenBy lent sources) (InOneOf P shards) (given_in shards sources h) hits (recursion_from_All (IsGivenBy lent sources) hits given)
 
--- ---- sources of hits
+-- ---- what the sources have still to give, if this selector is asked
 
-abbrev pub hit_rests : HitSource → List RowValue
-hit_rests x = unread_rows x.search x.shard.now x.unread
+abbrev pub rests : (NormalForm → NormalForm) → Source → List RowValue
+rests asked x = unread_rows (with_selector (asked x.search.normal.now) x.search) x.shard.now x.unread
 
-pub hits_size : (s : Search) (shards : List ShardView) (sources : List HitSource) → AllZip (IsSourceOf s) shards sources → length sources ≡ length shards
-hits_size s shards sources h = sources_size s (IsSourceOf s) hit_rests (λ shard x is. is.rows) shards sources h
+module _ (asked : NormalForm → NormalForm) (s : Search) where
+  abbrev asking : Search
+  asking = with_selector (asked s.normal.now) s
 
-pub hits_in_order : (s : Search) (shards : List ShardView) (sources : List HitSource) → AllZip (IsSourceOf s) shards sources → All (IsInOrder s.direction) (map hit_rests sources)
-hits_in_order s shards sources h = sources_in_order s (IsSourceOf s) hit_rests (λ shard x is. is.rows) shards sources h
+  pub rests_are : (shard : ShardView) (x : Source) → IsSourceOf s shard x → rests asked x ≡ all_found_by asking shard
+  rests_are shard x is =
+      ap (λ (y : Search). unread_rows (with_selector (asked y.normal.now) y) x.shard.now x.unread) is.same_search ∙ ap (λ (t : ShardView). unread_rows asking t x.unread) is.same_shard ∙ is.rows (asked s.normal.now)
 
-pub hits_merged : (s : Search) (shards : List ShardView) (sources : List HitSource) → AllZip (IsSourceOf s) shards sources → merged s.direction s.take (map hit_rests sources) ≡ merged s.direction s.take (map (found_by s) shards)
-hits_merged s shards sources h = sources_merged s (IsSourceOf s) hit_rests (λ shard x is. is.rows) shards sources h
+  pub rests_size : (shards : List ShardView) (sources : List Source) → AllZip (IsSourceOf s) shards sources → length sources ≡ length shards
+  rests_size shards sources h = sources_size asking (IsSourceOf s) (rests asked) rests_are shards sources h
+
+  pub rests_in_order : (shards : List ShardView) (sources : List Source) → AllZip (IsSourceOf s) shards sources → All (IsInOrder s.direction) (map (rests asked) sources)
+  rests_in_order shards sources h = sources_in_order asking (IsSourceOf s) (rests asked) rests_are shards sources h
+
+  pub rests_merged : (shards : List ShardView) (sources : List Source) → AllZip (IsSourceOf s) shards sources → merged s.direction s.take (map (rests asked) sources) ≡ merged s.direction s.take (map (found_by asking) shards)
+  rests_merged shards sources h = sources_merged asking (IsSourceOf s) (rests asked) rests_are shards sources h
+
+-- what the sources give is of the shards
+pub rests_given : {H : Type 0} (P : ShardView → H → Type 0) (s : Search) (shards : List ShardView) (sources : List Source) → AllZip (IsSourceOf s) shards sources → (found : List H)
+    → All (IsGivenBy (λ (x : Source). P x.shard.now) sources) found → AllByRecursion (InOneOf P shards) found
+rests_given P s shards sources h found given = all_given (IsSourceOf s) (λ x. P x.shard.now) P (λ shard x is f of. subst (λ (y : ShardView). P y f) is.same_shard of) shards sources h found given
 
 -- the sources give hits in the shards
-pub hits_given : (s : Search) (shards : List ShardView) (sources : List HitSource) → AllZip (IsSourceOf s) shards sources → (hits : List Hit)
-    → All (IsGivenBy (λ x. IsUnread x.shard.now x.unread) sources) hits → AreHitsIn shards hits
+pub hits_given : (s : Search) (shards : List ShardView) (sources : List Source) → AllZip (IsSourceOf s) shards sources → (hits : List Hit)
+    → All (IsGivenBy (λ (x : Source). IsHitOf x.shard.now.documents) sources) hits → AreHitsIn shards hits
 hits_given s shards sources h hits given =
     all_weaker (InOneOf (λ shard. IsHitOf shard.documents) shards) (IsHitIn shards) (λ hit is. record { place = is.0; shard = is.1; there = is.2; hit = is.3 }) hits
-    (all_given (IsSourceOf s) (λ x. IsUnread x.shard.now x.unread) (λ shard. IsHitOf shard.documents) (λ shard x is. is.hits) shards sources h hits given)
+    (rests_given (λ shard. IsHitOf shard.documents) s shards sources h hits given)

@@ -10,6 +10,7 @@ pub mod Search
 pub mod Way
 pub mod Worked
 pub mod Begins
+pub mod Kept
 pub mod Sourced
 pub mod Begun
 pub mod Decided

@@ -1,19 +1,16 @@
--- For private clauses: the hits of a shard that are still to come.
-use Rattle.std.specs.Prelude.{◌≡◌, Bool, false, List, [], ◌∷◌, Option, Some, None, option_map, if◌then◌else◌}
-use Rattle.std.specs.FinMap.{get}
-use Rattle.std.specs.List.{AllByRecursion}
+-- For private clauses: what a search has still to find in a shard.
+use Rattle.std.specs.Prelude.{◌≡◌, ℕ, Bool, false, List, [], ◌∷◌, Option, Some, None, drop, option_map, if◌then◌else◌}
 use Rattle.std.specs.Option.{option_and_then, option_map_or}
 use Rattle.mg_collate.specs.Row.{RowValue}
 use Rattle.mg_normal.specs.Normal.{NormalForm, normal_holds}
-use Rattle.mg_scan.specs.Hit.{IsHitOf}
+use Rattle.mg_scan.specs.Decided.{everything}
 use Rattle.mg_scan.specs.Way.{all_found_by, walked_all_by}
 use Rattle.mg_scan.specs.Walked.{is_late_row}
-use Rattle.mg_scan.specs.declared.hit.Hit.{Hit}
 use Rattle.mg_scan.specs.declared.search.Search.{Search}
 use Rattle.mg_scan.specs.declared.unread.Unread.{Unread}
 use Rattle.mg_scan.specs.declared.unread.Unread.TheVariants as unread
-use Rattle.mg_scan.specs.declared.source.HitSource.{HitSource}
-use Rattle.mg_shard.specs.Documents.{KeptDocuments, form_of, id_bytes, kept_of}
+use Rattle.mg_scan.specs.declared.source.Source.{Source}
+use Rattle.mg_shard.specs.Documents.{form_of, id_bytes}
 use Rattle.mg_shard.specs.Own.{id_columns}
 use Rattle.mg_shard.specs.Rows.{row_key}
 use Rattle.mg_shard.specs.Shard.{ShardView}
@@ -38,23 +35,28 @@ abbrev pub walked_documents : Search → List Document → List RowValue
 walked_documents s [] = []
 walked_documents s (d ∷ ds) = walked_on (is_late_row s.direction s.range.now) (holds_for s.normal.now d) (row_among d) (walked_documents s ds)
 
--- the documents are among those that a shard keeps
-abbrev pub AreKept : KeptDocuments → List Document → Type 0
-AreKept kept ds = AllByRecursion (λ d. get kept (id_bytes d) ≡ Some (kept_of d)) ds
-
--- the rows of the hits that are still to come
+-- the rows of what is still to be found
 abbrev pub unread_rows : Search → ShardView → Unread → List RowValue
 unread_rows s shard (unread.Rows rows) = walked_all_by s shard.documents rows
 unread_rows s shard (unread.Documents ds) = walked_documents s ds
 unread_rows s shard unread.Nothing = []
 
--- the hit is of a document that this shard keeps; where documents are unread, this is claimed only if the shard keeps them
-abbrev pub IsUnread : ShardView → Unread → Hit → Type 0
-IsUnread shard (unread.Rows rows) h = IsHitOf shard.documents h
-IsUnread shard (unread.Documents ds) h = AreKept shard.documents ds → IsHitOf shard.documents h
-IsUnread shard unread.Nothing h = IsHitOf shard.documents h
+-- the search with another selector
+abbrev pub with_selector : NormalForm → Search → Search
+with_selector n s = record s { normal = record { ref_ptr = s.normal.ref_ptr; now = n } }
 
--- the source gives all that the search finds in the shard without its limit, each with its document
-pub record IsSourceOf (search : Search) (s : ShardView) (source : HitSource) : Type 0 where
-  pub rows : unread_rows source.search source.shard.now source.unread ≡ all_found_by search s
-  pub hits : (h : Hit) → IsUnread source.shard.now source.unread h → IsHitOf s.documents h
+-- the search with a selector that every document matches
+abbrev pub without_selector : Search → Search
+without_selector = with_selector everything
+
+-- the source gives all that the search, with any selector, finds in the shard without its limit
+pub record IsSourceOf (search : Search) (s : ShardView) (source : Source) : Type 0 where
+  pub same_search : source.search ≡ search
+  pub same_shard : source.shard.now ≡ s
+  pub rows : (n : NormalForm) → unread_rows (with_selector n search) s source.unread ≡ all_found_by (with_selector n search) s
+
+-- the source gives all that the search would find in the shard without its selector and its limit, except the first n
+pub record IsSourceAfter (n : ℕ) (search : Search) (s : ShardView) (source : Source) : Type 0 where
+  pub same_search : source.search ≡ search
+  pub same_shard : source.shard.now ≡ s
+  pub rows : unread_rows (without_selector search) s source.unread ≡ drop n (all_found_by (without_selector search) s)

@@ -1,14 +1,22 @@
 //! Rows that a search found, each with its document, all lent.
-ghost use Rattle.std.specs.Prelude.{◌≡◌, IfOk};
+ghost use Rattle.std.specs.Prelude.{◌≡◌, false, None, Some, option_map, IfOk, IfSome, if◌then◌else◌};
+ghost use Rattle.std.specs.FinMap.{get};
+ghost use Rattle.std.specs.Option.{option_map_or};
 ghost use Rattle.mg_collate.specs.Row.{row_view};
 ghost use Rattle.mg_value.specs.View.{items_view};
-ghost use Rattle.mg_scan.specs.Hit.{hit_document, hit_form, hit_row, hit_text};
+ghost use Rattle.mg_normal.specs.Normal.{normal_holds};
+ghost use Rattle.mg_scan.specs.Hit.{IsHitOf, hit_document, hit_form, hit_row, hit_text};
+ghost use Rattle.mg_scan.specs.LentRow.{lent_row_view};
+ghost use Rattle.mg_shard.specs.Documents.{KeptDocuments, form_of, kept_of};
 
+use crate::find::Find;
 use crate::lent_row::LentRow;
 use mg_collate::Row;
 use mg_merge::Ranked;
+use mg_normal::Normal;
 use mg_packed::{Packed, Part};
-use mg_shard::Document;
+use mg_rows::RowBytes;
+use mg_shard::{Document, Shard};
 use mg_value::{Json, NoMemory};
 use std::alloc::Global;
 use std::cmp::Ordering;
@@ -71,4 +79,45 @@ impl<'a> Ranked for Hit<'a> {
     fn order(&self, other: &Hit<'a>) -> Ordering {
         self.row.compare(&other.row)
     }
+}
+
+impl<'a> Find<'a> for Hit<'a> {
+    ghost asked = { λ normal. normal };
+
+    ghost is_of = { λ shard. IsHitOf shard.documents };
+
+    // Cost: a look-up of the row's document, and the selector.
+    fn at_row(shard: &'a Shard, row: &'a RowBytes, normal: &Normal) -> Option<Hit<'a>> {
+        let document = shard.document(row.id())?;
+        hit_of(LentRow::Bytes(row), document, normal)
+    }
+
+    fn at_document(
+        _shard: &'a Shard,
+        document: &'a Document,
+        id: &'a str,
+        normal: &Normal,
+    ) -> Option<Hit<'a>> {
+        hit_of(LentRow::Id(id), document, normal)
+    }
+}
+
+// Makes the hit of a row with this document; `None` if the document is not served, or the selector does not hold of it.
+fn hit_of<'a>(row: LentRow<'a>, document: &'a Document, normal: &Normal) -> Option<Hit<'a>>
+    ensures row { option_map hit_row result
+        ≡ if option_map_or
+        (λ form. normal_holds normal.now (Some form)) (form_of document.now) false then Some
+        (lent_row_view row.entry) else None }
+    ensures lent { (ds : KeptDocuments) → get ds (lent_row_view row.entry).1 ≡ Some (kept_of document.now)
+        → IfSome result (IsHitOf ds) }
+{
+    let form = document.written()?;
+    if !normal.holds_of(form.part()) {
+        return None;
+    }
+    Some(Hit {
+        row,
+        document,
+        form,
+    })
 }

@@ -1,15 +1,19 @@
 //! Rows that a search found, lent before their documents are looked up.
 ghost use Rattle.std.specs.Prelude.{◌≡◌, ◌++◌, List, Some, true, is_some, drop, map, option_map, IfOk, IfSome, OnOk};
 ghost use Rattle.mg_scan.specs.Hit.{AreHitsIn, IsHitOf, hit_row, hit_rows};
-ghost use Rattle.mg_scan.specs.Lead.{AreLeadsIn, lead_row};
+ghost use Rattle.mg_scan.specs.Decided.{everything};
+ghost use Rattle.mg_scan.specs.Lead.{AreLeadsIn, IsLeadOf, lead_row};
 ghost use Rattle.mg_scan.specs.Walked.{list_of_option};
 ghost use Rattle.mg_shard.specs.Documents.{form_at};
 ghost use Rattle.mg_shard.specs.Shard.{ShardView};
 
+use crate::find::Find;
 use crate::hit::Hit;
 use crate::lent_row::LentRow;
 use mg_merge::Ranked;
-use mg_shard::Shard;
+use mg_normal::Normal;
+use mg_rows::RowBytes;
+use mg_shard::{Document, Shard};
 use mg_value::NoMemory;
 use std::alloc::Global;
 use std::cmp::Ordering;
@@ -27,6 +31,32 @@ impl<'a> Ranked for Lead<'a> {
 
     fn order(&self, other: &Lead<'a>) -> Ordering {
         self.row.compare(&other.row)
+    }
+}
+
+// The selector is not asked: a lead is found at each row.
+impl<'a> Find<'a> for Lead<'a> {
+    ghost asked = { λ _. everything };
+
+    ghost is_of = { IsLeadOf };
+
+    fn at_row(shard: &'a Shard, row: &'a RowBytes, _normal: &Normal) -> Option<Lead<'a>> {
+        Some(Lead {
+            shard,
+            row: LentRow::Bytes(row),
+        })
+    }
+
+    fn at_document(
+        shard: &'a Shard,
+        _document: &'a Document,
+        id: &'a str,
+        _normal: &Normal,
+    ) -> Option<Lead<'a>> {
+        Some(Lead {
+            shard,
+            row: LentRow::Id(id),
+        })
     }
 }
 

@@ -5,17 +5,15 @@ ghost use Rattle.mg_merge.specs.Merged.{merged};
 ghost use Rattle.mg_shard.specs.Shard.{shards_view};
 ghost use Rattle.mg_scan.specs.Decided.{IsDecidedIn};
 ghost use Rattle.mg_scan.specs.Hit.{AreHitsIn, hit_rows};
-ghost use Rattle.mg_scan.specs.Lead.{IsLeadSourceOf};
 ghost use Rattle.mg_scan.specs.Search.{found_by};
 ghost use Rattle.mg_scan.specs.Sourced.{IsSourceOf};
 
+use crate::finding::{source_after, source_of};
 use crate::hit::Hit;
-use crate::lead::hits_after;
-use crate::lead_source::LeadSource;
-use crate::leading::{lead_source_after, lead_source_of};
+use crate::lead::{Lead, hits_after};
 use crate::passing::pass_over;
 use crate::search::Search;
-use crate::source::{HitSource, source_of};
+use crate::source::Source;
 use mg_merge::merge_pulled;
 use mg_shard::Shard;
 use mg_value::NoMemory;
@@ -41,7 +39,12 @@ pub fn pull_lent<'a>(
     ensures pulled { IfOk result (λ made. made.1 ≤ search.entry.take + length shards.now) }
 {
     let mut sources = sources_of(alloc, shards, search)?;
-    let (hits, pulled) = merge_pulled(alloc, &mut sources, search.direction, search.take)?;
+    let (hits, pulled) = merge_pulled::<Hit<'a>, Source<'a, '_>>(
+        alloc,
+        &mut sources,
+        search.direction,
+        search.take,
+    )?;
     Ok((hits, pulled))
 }
 
@@ -111,8 +114,13 @@ fn pull_then_skip<'a>(
     ensures hits { IfOk result (λ made. AreHitsIn (shards_view shards.now) made.0.items) }
     ensures pulled { IfOk result (λ made. made.1 ≤ search.entry.take + length shards.now) }
 {
-    let mut sources = lead_sources_of(alloc, shards, search)?;
-    let (leads, pulled) = merge_pulled(alloc, &mut sources, search.direction, search.take)?;
+    let mut sources = sources_of(alloc, shards, search)?;
+    let (leads, pulled) = merge_pulled::<Lead<'a>, Source<'a, '_>>(
+        alloc,
+        &mut sources,
+        search.direction,
+        search.take,
+    )?;
     let hits = hits_after(alloc, &leads, skip)?;
     Ok((hits, pulled))
 }
@@ -134,21 +142,26 @@ fn pull_rows_of_one<'a>(
     ensures pulled { IfOk result (λ made. made.1 ≤ search.entry.take + length shards.now) }
 {
     let shard: &Shard = &shards[0];
-    let (source, passed) = lead_source_after(shard, search, skip);
+    let (source, passed) = source_after(shard, search, skip);
     let mut sources = Vec::with_capacity(alloc, 1)?;
     sources.push(source)?;
     let wanted = search.take.saturating_sub(passed);
-    let (leads, pulled) = merge_pulled(alloc, &mut sources, search.direction, wanted)?;
+    let (leads, pulled) = merge_pulled::<Lead<'a>, Source<'a, '_>>(
+        alloc,
+        &mut sources,
+        search.direction,
+        wanted,
+    )?;
     let hits = hits_after(alloc, &leads, skip - passed)?;
     Ok((hits, pulled))
 }
 
-// Makes a source of hits for each shard. Errors: `NoMemory` if an allocation fails.
+// Makes a source of what the search finds in each shard. Errors: `NoMemory` if an allocation fails.
 fn sources_of<'a, 'b>(
     alloc: Global,
     shards: &'a [Arc<Shard>],
     search: Search<'b>,
-) -> Result<Vec<HitSource<'a, 'b>>, NoMemory>
+) -> Result<Vec<Source<'a, 'b>>, NoMemory>
     ensures { IfOk result
         (λ sources. AllZip (IsSourceOf search.entry) (shards_view shards.now) sources.items) }
 {
@@ -156,23 +169,6 @@ fn sources_of<'a, 'b>(
     for i in 0..shards.len() {
         let shard: &Shard = &shards[i];
         sources.push(source_of(shard, search))?;
-    }
-    Ok(sources)
-}
-
-// Makes a source of leads for each shard. Errors: `NoMemory` if an allocation fails.
-fn lead_sources_of<'a, 'b>(
-    alloc: Global,
-    shards: &'a [Arc<Shard>],
-    search: Search<'b>,
-) -> Result<Vec<LeadSource<'a, 'b>>, NoMemory>
-    ensures { IfOk result
-        (λ sources. AllZip (IsLeadSourceOf search.entry) (shards_view shards.now) sources.items) }
-{
-    let mut sources = Vec::with_capacity(alloc, shards.len())?;
-    for i in 0..shards.len() {
-        let shard: &Shard = &shards[i];
-        sources.push(lead_source_of(shard, search))?;
     }
     Ok(sources)
 }

@@ -4,10 +4,10 @@ ghost use Rattle.std.specs.List.{AllZip};
 ghost use Rattle.mg_shard.specs.Shard.{ShardView, shards_view};
 ghost use Rattle.mg_scan.specs.Worked.{AllShardHits, AllSlots, AreHitsFoundAt, AreHitsFound};
 
+use crate::finding::hits_in;
 use crate::gate::{Gate, Place};
 use crate::hit::Hit;
 use crate::search::Search;
-use crate::source::hits_in;
 use mg_shard::Shard;
 use mg_value::NoMemory;
 use std::alloc::Global;

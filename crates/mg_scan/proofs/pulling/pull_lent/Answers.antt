@@ -3,33 +3,33 @@ use Rattle.mg_collate.specs.Sorted.{IsInOrder}
 use Rattle.mg_merge.specs.Merged.{merged}
 use Rattle.mg_merge.specs.Pulled.{IsGivenBy}
 use Rattle.mg_shard.specs.Shard.{shards_view}
-use Rattle.mg_scan.specs.Sourced.{IsUnread, unread_rows}
+use Rattle.mg_scan.specs.Hit.{IsHitOf}
 use Rattle.mg_scan.specs.declared.hit.Hit.{Hit}
-use Rattle.mg_scan.specs.declared.source.HitSource.{HitSource}
+use Rattle.mg_scan.specs.declared.source.Source.{Source}
 use Rattle.mg_scan.proofs.Maps.{length-view}
-use Rattle.mg_scan.proofs.Sources.{hits_given, hits_in_order, hits_merged, hits_size}
+use Rattle.mg_scan.proofs.Sources.{hits_given, rests, rests_in_order, rests_merged, rests_size}
 use Rattle.mg_scan.proofs.pulling.pull_lent.Goals as goal
 
 pub merge_pulled-requires : goal.merge_pulled-requires
 merge_pulled-requires c =
-    subst (λ (sources : List HitSource). All (IsInOrder c.args.search.direction) (map (λ (x : HitSource). unread_rows x.search x.shard.now x.unread) sources)) (sym c.deref_mut.ensures.value)
-    (hits_in_order _ (shards_view c.args.shards.now) c.in_ok-sources.sources.items c.in_ok-sources.ensures)
+    subst (λ (sources : List Source). All (IsInOrder c.args.search.direction) (map (rests (λ n. n)) sources)) (sym c.deref_mut.ensures.value)
+    (rests_in_order (λ n. n) _ (shards_view c.args.shards.now) c.in_ok-sources.sources.items c.in_ok-sources.ensures)
 
 pub returns-clause-rows : goal.returns-clause-rows
 returns-clause-rows c =
     c.in_ok-hits.ensures.rows
-    ∙ ap (λ (sources : List HitSource). merged c.args.search.direction c.args.search.take (map (λ (x : HitSource). unread_rows x.search x.shard.now x.unread) sources)) c.deref_mut.ensures.value
-    ∙ hits_merged _ (shards_view c.args.shards.now) c.in_ok-sources.sources.items c.in_ok-sources.ensures
+    ∙ ap (λ (sources : List Source). merged c.args.search.direction c.args.search.take (map (rests (λ n. n)) sources)) c.deref_mut.ensures.value
+    ∙ rests_merged (λ n. n) _ (shards_view c.args.shards.now) c.in_ok-sources.sources.items c.in_ok-sources.ensures
 
 pub returns-clause-hits : goal.returns-clause-hits
 returns-clause-hits c =
     hits_given _ (shards_view c.args.shards.now) c.in_ok-sources.sources.items c.in_ok-sources.ensures c.in_ok-hits.hits.items
-    (subst (λ (sources : List HitSource). All (IsGivenBy (λ (x : HitSource) (h : Hit). IsUnread x.shard.now x.unread h) sources) c.in_ok-hits.hits.items) c.deref_mut.ensures.value c.in_ok-hits.ensures.given)
+    (subst (λ (sources : List Source). All (IsGivenBy (λ (x : Source) (h : Hit). IsHitOf x.shard.now.documents h) sources) c.in_ok-hits.hits.items) c.deref_mut.ensures.value c.in_ok-hits.ensures.given)
 
 pub returns-clause-pulled : goal.returns-clause-pulled
 returns-clause-pulled c =
     let same = ap length c.deref_mut.ensures.value in
-    let size = hits_size _ (shards_view c.args.shards.now) c.in_ok-sources.sources.items c.in_ok-sources.ensures in
+    let size = rests_size (λ n. n) _ (shards_view c.args.shards.now) c.in_ok-sources.sources.items c.in_ok-sources.ensures in
     let seen = length-view c.args.shards.now in
     let within = c.in_ok-hits.ensures.pulled in
     omega (arith, same, size, seen, within)

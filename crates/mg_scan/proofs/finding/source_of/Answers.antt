@@ -1,8 +1,9 @@
+use Rattle.std.proofs.Common.{refl}
 use Rattle.mg_scan.specs.Found.{target_columns}
 use Rattle.mg_scan.specs.RangeEnd.{index_rows}
-use Rattle.mg_scan.proofs.Begun.{begun_leads, begun_led}
+use Rattle.mg_scan.proofs.Begun.{begun_kept, begun_with}
 use Rattle.mg_scan.proofs.Ends.{before_none, begun_ends}
-use Rattle.mg_scan.proofs.leading.lead_source_of.Goals as goal
+use Rattle.mg_scan.proofs.finding.source_of.Goals as goal
 
 pub invariant_of-result : goal.invariant_of-result
 invariant_of-result c =
@@ -12,11 +13,11 @@ invariant_of-result c =
     record {
       ordered = begun_ends at s shard c.unread_of.result c.unread_of.ensures;
       sure = before_none s (index_rows c.unread_of.result) c.unknown.result.sure c.unknown.ensures;
+      kept = begun_kept at s shard c.unread_of.result c.unread_of.ensures;
     }
 
 pub returns : goal.returns
 returns c =
     let s = c.args.search in
     let shard = c.args.shard.now in
-    let at = target_columns s.target shard.definitions in
-    record { rows = begun_leads at s shard c.unread_of.result c.unread_of.ensures; leads = begun_led at s shard c.unread_of.result c.unread_of.ensures }
+    record { same_search = refl; same_shard = refl; rows = begun_with (target_columns s.target shard.definitions) s shard c.unread_of.result c.unread_of.ensures }

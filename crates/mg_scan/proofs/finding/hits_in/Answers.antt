@@ -1,28 +1,28 @@
-use Rattle.std.proofs.Common.{◌≡◌, ◌++◌, ◌∷◌, [], ap, arith, length, rules, sym, ◌∙◌, append_assoc}
-use Rattle.mg_scan.specs.Hit.{hit_row, hit_rows}
-use Rattle.mg_scan.specs.Sourced.{unread_rows}
+use Rattle.std.proofs.Common.{◌≡◌, ◌++◌, ◌∷◌, [], ap, arith, length, rules, subst, sym, ◌∙◌, append_assoc}
+use Rattle.mg_scan.specs.Hit.{IsHitOf, hit_row, hit_rows}
 use Rattle.mg_scan.proofs.Filled.{filled, finished}
+use Rattle.mg_scan.proofs.Sources.{rests, rests_are}
 use Rattle.mg_scan.proofs.Steps.{hits-push, length-push, rows-push}
-use Rattle.mg_scan.proofs.source.hits_in.Goals as goal
+use Rattle.mg_scan.proofs.finding.hits_in.Goals as goal
+use Rattle.mg_shard.specs.Shard.{ShardView}
 
 pub loop-source-init : goal.loop-source-init
 loop-source-init c =
     let begun = c.source_of-source.ensures in
-    rw c.in_ok-hits.ensures.items (record { some = first_of (omega arith, search rules); rows = sym begun.rows; documents = tt; lent = begun.hits })
+    rw c.in_ok-hits.ensures.items (record { some = first_of (omega arith, search rules); rows = sym (rests_are (λ n. n) c.args.search c.args.shard.now c.source_of-source.result begun); documents = tt; lent = λ h of. subst (λ (s : ShardView). IsHitOf s.documents h) begun.same_shard of })
 
 pub loop-source-preserved : goal.loop-source-preserved
 loop-source-preserved c =
     let was = c.loop-source.invariant in
     let hits = c.loop-source.hits.items in
     let hit = c.in-Some.hit in
-    let next = c.next.new.self in
-    let rest = unread_rows next.search next.shard.now next.unread in
+    let rest = rests (λ n. n) c.next-next.new.self in
     let long : length hits ≡ c.len.result = sym c.loop-source.hits.ok.0 ∙ sym c.len.ensures in
     rw c.in_ok-push.ensures.items (record {
       some = omega (arith, length-push hits hit, long);
       rows = was.rows ∙ ap (λ rows. hit_rows hits ++ rows) c.in-Some.ensures.item ∙ sym (append_assoc (hit_rows hits) (hit_row hit ∷ []) rest) ∙ ap (λ rows. rows ++ rest) (sym (rows-push hits hit));
       documents = hits-push c.args.shard.now.documents hits hit was.documents (was.lent hit c.in-Some.ensures.given);
-      lent = λ h lent. was.lent h (c.in-Some.ensures.same h lent);
+      lent = λ h of. was.lent h (c.in-Some.ensures.same h of);
     })
 
 pub returns-in_default : goal.returns-in_default

@@ -1,8 +1,0 @@
-use Rattle.std.proofs.Common.{arith}
-use Rattle.mg_scan.specs.Lead.{IsLeadSourceOf}
-use Rattle.mg_scan.proofs.Sources.{sources_more}
-use Rattle.mg_scan.proofs.pulling.lead_sources_of.Goals as goal
-
-pub loop-i-preserved : goal.loop-i-preserved
-loop-i-preserved c =
-    rw c.in_ok-push.ensures.items (sources_more (IsLeadSourceOf c.args.search) c.args.shards.now c.loop-i.sources.items c.loop-i.i c.index-shards-i.result c.deref-shard.result.now c.lead_source_of.result (omega arith) c.index-shards-i.is c.deref-shard.ensures c.loop-i.invariant c.lead_source_of.ensures)
