@@ -95,7 +95,7 @@ fn answer_line<R: Threads + Sync, G: Gate + Sync>(
         gate,
     } = context;
     match page_text(*rt, *alloc, query, catalog, shards, *workers, *gate) {
-        Ok(text) => {
+        Ok((text, _)) => {
             let line = with_line_feed(text)?;
             Ok(line)
         }

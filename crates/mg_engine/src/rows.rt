@@ -14,8 +14,11 @@ use mg_query::{Shown, with_comma};
 use mg_value::NoMemory;
 use std::alloc::Global;
 
-// How many bytes are allocated at first: the text of most lists fits.
-const FIRST_ROOM: usize = 8192;
+// Room for what a list has besides its rows.
+const LIST_ROOM: usize = 128;
+
+// Room for what most rows have besides their documents: twice an id of up to 24 letters, and a revision.
+const ROW_ROOM: usize = 128;
 
 /// Writes the line with the rows of these documents: how many documents come before them, and how many there are.
 pub(crate) fn write_rows(
@@ -28,7 +31,7 @@ pub(crate) fn write_rows(
     ensures { IfOk result (λ line. line.items
         ≡ line_of (rows_value offset total (map (listed_row documents) (map shown_view docs.now)))) }
 {
-    let mut out = Vec::with_capacity(alloc, FIRST_ROOM)?;
+    let mut out = Vec::with_capacity(alloc, first_room(docs, documents))?;
     out.extend_from_slice(b"{\"offset\":")?;
     let mut out = with_count(alloc, out, offset)?;
     out.extend_from_slice(b",\"rows\":")?;
@@ -37,6 +40,20 @@ pub(crate) fn write_rows(
     let mut out = with_count(alloc, out, total)?;
     out.extend_from_slice(b"}\n")?;
     Ok(out)
+}
+
+// How many bytes are allocated at first: the text of most lists fits.
+fn first_room(docs: &[Shown<'_>], documents: bool) -> usize {
+    let mut room = LIST_ROOM;
+    for shown in docs {
+        let document = if documents {
+            shown.part().text().len()
+        } else {
+            0
+        };
+        room = room.saturating_add(document.saturating_add(ROW_ROOM));
+    }
+    room
 }
 
 fn with_count(alloc: Global, mut out: Vec<u8>, count: usize) -> Result<Vec<u8>, NoMemory>

@@ -1,5 +1,5 @@
 -- How many rows each shard hands over for a page.
-use Rattle.std.proofs.Common.{◌≡◌, ℕ, suc, ◌+◌, Bool, true, false, cond, List, [], ◌∷◌, ◌++◌, Some, Vec, Global, option_to_list, map, min, take, length, slice_get, refl, sym, ap, ap₂, ◌∙◌, subst, arith}
+use Rattle.std.proofs.Common.{◌≡◌, ℕ, suc, ◌+◌, Bool, true, false, cond, List, [], ◌∷◌, ◌++◌, Some, Vec, Global, option_to_list, map, min, drop, take, length, slice_get, refl, sym, ap, ap₂, ◌∙◌, subst, arith}
 use lib.Dec.{eqb}
 use Rattle.std.specs.FinMap.{entries}
 use Rattle.std.specs.List.{AllByRecursion, filter, filter_map, range_with_len}
@@ -21,10 +21,12 @@ use Rattle.mg_shard.specs.Histories.{Histories}
 use Rattle.mg_shard.specs.Rows.{row_of}
 use Rattle.mg_shard.specs.Shard.{ShardView}
 use Rattle.mg_shard.proofs.Standing.{same_docs}
-use Rattle.mg_query.specs.Page.{candidate_of, candidates_of, candidates_found, is_asked, row_by}
+use Rattle.mg_query.specs.Page.{Candidate, candidate_of, candidates_of, candidates_found, is_asked, row_by}
 use Rattle.mg_query.specs.Paged.{count_handed, counts_handed}
 use Rattle.mg_query.specs.Lent.{shard_rows}
 use Rattle.mg_query.specs.Query.{Query}
+use Rattle.mg_query.specs.Read.{IsReadFor}
+use Rattle.mg_query.specs.declared.reads.Reads.{Reads}
 use Rattle.mg_query.specs.Served.{HaveIdsAndRevs, HasIdAndRev}
 use Rattle.mg_query.proofs.Answered.{all_found_by_row, follows, is_wanted_by}
 use Rattle.mg_query.proofs.Candidates.{document, documents_of, shown_first}
@@ -100,3 +102,14 @@ module _ (complete : RangesAreComplete) (q : Query) (columns : List Steps) (norm
   listed_counts place shards hs stands whole =
       let each = λ (i : ℕ) (s : ShardView) (h : slice_get shards i ≡ Some s). let here : i ≡ 0 + i = omega arith in subst (λ j. StandFor s.documents (histories_on place (length shards) j hs)) here (stands.each i s h) in
       each_count place (length shards) 0 hs shards each whole
+
+-- ---- what is read
+
+-- as many hits are shown as candidates with their rows
+pub as_many : (columns : List Steps) (skip : ℕ) (hits : List Hit) (cs : List Candidate) → hit_rows (drop skip hits) ≡ map (row_by columns) cs → length (drop skip hits) ≡ length cs
+as_many columns skip hits cs e = sym (length-map (drop skip hits) hit_row) ∙ ap length e ∙ length-map cs (row_by columns)
+
+-- what is read for equal numbers is the same
+pub read_same : (d e : Bool) (m n : ℕ) (ms ns : List ℕ) (r : Reads) → d ≡ e → m ≡ n → ms ≡ ns → IsReadFor d m ms r → IsReadFor e n ns r
+read_same d e m n ms ns r x y z h =
+    subst (λ b. IsReadFor b n ns r) x (subst (λ k. IsReadFor d k ns r) y (subst (λ ks. IsReadFor d m ks r) z h))

@@ -1,5 +1,5 @@
 -- What shards hand over for a page: which rows, in which order, and how many.
-use Rattle.std.proofs.Common.{◌≡◌, ℕ, suc, ◌+◌, ◌≤◌, min, Bool, true, false, ◌&&◌, cond, Ordering, List, [], ◌∷◌, ◌++◌, Option, Some, None, All, Vec, Global, option_map, map, take, drop, length, is_gt, is_some, refl, sym, ap, ap₂, ◌∙◌, subst, arith}
+use Rattle.std.proofs.Common.{◌≡◌, ℕ, suc, ◌+◌, ◌≤◌, min, Bool, true, false, not, ◌&&◌, cond, Ordering, List, [], ◌∷◌, ◌++◌, Option, Some, None, All, Vec, Global, option_map, map, take, drop, length, is_gt, is_some, refl, sym, ap, ap₂, ◌∙◌, subst, arith}
 use Rattle.std.specs.List.{AllByRecursion, filter, filter_map, sum}
 use Rattle.std.specs.Option.{option_map_or}
 use Rattle.std.proofs.lemmas.List.{drop-map, length-append, length-map, length-take}
@@ -105,12 +105,16 @@ found_first q a search asks is shards listed =
     ap₂ (λ direction count. merged direction count (map (found_by search) shards)) is.direction is.take
     ∙ ap (merged q.direction (q.skip + q.limit)) (found_rows q a search asks is shards listed)
 
+both_true : (b d : Bool) → (not b && d) ≡ true → (b ≡ false) × (d ≡ true)
+both_true true d e = absurd cc
+both_true false d e = (refl, e)
+
 -- if the range decides, it decides in each shard
 pub decided_in : (q : Query) (a : Plan) (search : Search) → IsPlanOf q a → IsSearchOf q a search → a.is_decided ≡ true → (shards : List ShardView) → All (λ s. IsInCatalog s.definitions (source_view a.source)) shards
     → All (IsDecidedIn search.target search.normal.now search.range.now) shards
 decided_in q a search asks is decides shards listed =
     let columns = source_columns (source_view a.source) in
-    let decided = asks.decided decides in
+    let decided = both_true (is_some a.normal.now.rest) (decides_of a.normal.now.atoms columns) (sym asks.decided ∙ decides) in
     All-weaker (λ s. IsInCatalog s.definitions (source_view a.source)) (IsDecidedIn search.target search.normal.now search.range.now)
     (λ s there. record {
       columns = columns;
@@ -161,13 +165,6 @@ module _ (q : Query) (columns : List Steps) (normal : NormalForm) (is : IsNormal
       → drop q.skip (merged q.direction most (map (shard_rows normal columns q) shards)) ≡ map (row_by columns) (page_candidates columns q (candidates_of hs))
   rows_merged complete usable place shards hs stands whole =
       ap (λ lists. drop q.skip (merged q.direction most lists)) (all_listed shards) ∙ rows_of_answer complete q columns (normal_holds normal) is.meaning usable place shards hs stands whole
-
-  -- the rows of the hits without the first `skip` are those of the page
-  pub rows_handed : RangesAreComplete → is_usable (atoms_of q.selector) q.sort columns ≡ true → (place : Placing) (shards : List ShardView) (hs : Histories) → ShardsStandFor place shards hs → HaveIdsAndRevs (candidates_of hs)
-      → (hits : List Hit) → hit_rows hits ≡ merged q.direction most (map (shard_rows normal columns q) shards)
-      → map hit_row (drop q.skip hits) ≡ map (row_by columns) (page_candidates columns q (candidates_of hs))
-  rows_handed complete usable place shards hs stands whole hits e =
-      sym (drop-map hit_row q.skip hits) ∙ ap (drop q.skip) e ∙ rows_merged complete usable place shards hs stands whole
 
   shard_in_order : (s : ShardView) → IsInOrder q.direction (shard_rows normal columns q s)
   shard_in_order s =

@@ -4,7 +4,6 @@ use Rattle.mg_collate.specs.Row.{RowValue}
 use Rattle.mg_merge.specs.Merged.{merged}
 use Rattle.mg_index.specs.Definition.{IndexDefinition, Steps}
 use Rattle.mg_normal.specs.Normal.{IsNormalOf, NormalForm}
-use Rattle.mg_range.specs.Decided.{decides_of}
 use Rattle.mg_range.specs.Range.{range_of}
 use Rattle.mg_scan.specs.Found.{target_columns}
 use Rattle.mg_scan.specs.Hit.{AreHitsIn, hit_rows}
@@ -15,22 +14,19 @@ use Rattle.mg_shard.specs.Shard.{ShardView, shards_view}
 use Rattle.mg_query.specs.Lent.{row_at, shard_rows}
 use Rattle.mg_query.specs.Page.{source_columns}
 use Rattle.mg_query.specs.Query.{Query}
+use Rattle.mg_query.specs.Read.{is_decided}
 use Rattle.mg_query.specs.Served.{IsInCatalog, source_view}
 use Rattle.mg_query.specs.View.{query_view}
 use Rattle.mg_query.specs.declared.found.Plan.{Plan}
 use Rattle.mg_query.specs.declared.page_search.PageSearch.{PageSearch}
 
--- the normal form asks nothing besides atoms, and their range at the columns decides each of them
-abbrev pub IsDecidedBy : List Steps → NormalForm → Type 0
-IsDecidedBy columns normal = (is_some normal.rest ≡ false) × (decides_of normal.atoms columns ≡ true)
-
 -- the plan is made for the query: it has the query's selector in normal form, the range of its keys in the plan's index, and the row of its
--- bookmark; `is_decided` is true only if that range decides the whole selector
+-- bookmark; `is_decided` tells whether that range decides the whole selector
 pub record IsPlanOf (q : Query) (a : Plan) : Type 0 where
   pub normal : IsNormalOf q.selector a.normal.now
   pub range : a.range ≡ range_of a.normal.now.atoms (source_columns (source_view a.source))
   pub after : a.after ≡ option_map row_at q.bookmark
-  pub decided : a.is_decided ≡ true → IsDecidedBy (source_columns (source_view a.source)) a.normal.now
+  pub decided : a.is_decided ≡ is_decided (source_columns (source_view a.source)) a.normal.now
 
 -- the search has the query's plan and the plan's range, and each shard has the plan's index
 pub record IsPlanned (s : PageSearch) : Type 0 where

@@ -1,7 +1,8 @@
 //! The page that answers a query: as values, as text, and lent.
-ghost use Rattle.std.specs.Prelude.{◌≡◌, ◌+◌, ◌<◌, List, Err, IfOk, map, string_bytes};
+ghost use Rattle.std.specs.Prelude.{◌≡◌, ◌+◌, ◌<◌, ◌||◌, List, Ok, Err, true, IfOk, length, map, nat_lt, string_bytes};
 ghost use Rattle.mg_value.specs.Text.{compact};
 ghost use Rattle.mg_bookmark.specs.Bookmark.{spelled};
+ghost use Rattle.mg_index.specs.Choice.{Source as IndexChosen};
 ghost use Rattle.mg_index.specs.Definition.{Steps};
 ghost use Rattle.mg_scan.specs.Hit.{hit_row};
 ghost use Rattle.mg_shard.specs.Shard.{HaveIndexes, shards_view};
@@ -10,12 +11,14 @@ ghost use Rattle.mg_shard.specs.Histories.{Histories};
 ghost use Rattle.mg_query.specs.Page.{Candidate, Unanswered, answer_of, bookmark_after, candidates_of, source_columns, ddoc_of, name_of, page_of, page_value, served_by, shown_of};
 ghost use Rattle.mg_query.specs.Paged.{lent_page_view, shown_view, text_of};
 ghost use Rattle.mg_query.specs.Lent.{LendEach};
+ghost use Rattle.mg_query.specs.Read.{IsReadOf, IsReadWithin, is_pulled};
 ghost use Rattle.mg_query.specs.View.{query_view};
 ghost use Rattle.mg_query.specs.Served.{PageAnswers, HaveIdsAndRevs, error_of, source_view};
 
 use crate::error::PageError;
-use crate::found::{after_skip, find_page};
+use crate::found::find;
 use crate::query::Query;
+use crate::reads::Reads;
 use crate::shown::{LentPage, Shown, bookmark_of, lend};
 use crate::source::Source;
 use crate::text::text_with;
@@ -28,7 +31,8 @@ use std::alloc::Global;
 use std::sync::Arc;
 use std::thread::Threads;
 
-/// Writes the compact text of the page that answers a query, `{"bookmark":..,"docs":[..]}`. The shards and documents must be as for `page`.
+/// Writes the compact text of the page that answers a query, `{"bookmark":..,"docs":[..]}`, and tells how much was read for it. The shards and
+/// documents must be as for `page`.
 /// If the query shows documents whole and without conflicts, the texts that shards keep of them are copied. If the number of workers is a
 /// maximum, the search runs on the caller's thread, and passes no gate, in each of these cases: there is one worker; there are fewer than
 /// two shards; a second thread is expected to cost more than it saves.
@@ -45,18 +49,26 @@ pub fn page_text<R: Threads + Sync, G: Gate + Sync>(
     shards: &[Arc<Shard>],
     workers: Workers,
     gate: &G,
-) -> Result<Vec<u8>, PageError>
+) -> Result<(Vec<u8>, Reads), PageError>
     requires indexes { HaveIndexes catalog.now (shards_view shards.now) }
     ensures answers { (place : Placing) (hs : Histories)
         → ShardsStandFor place (shards_view shards.now) hs → HaveIdsAndRevs (candidates_of hs)
-        → PageAnswers (λ text. text.items) result
+        → PageAnswers (λ made. made.0.items) result
         (text_of (answer_of catalog.now (query_view query.now) (candidates_of hs))) }
     ensures refused { (why : Unanswered) → served_by catalog.now (query_view query.now) ≡ Err why
         → result ≡ Err (error_of why) }
+    ensures within { IfOk result (λ made. IsReadWithin (length shards.now)
+        (query.now.skip + query.now.limit) made.1) }
+    ensures read { (place : Placing) (hs : Histories) (s : IndexChosen)
+        → ShardsStandFor place (shards_view shards.now) hs → HaveIdsAndRevs (candidates_of hs)
+        → served_by catalog.now (query_view query.now) ≡ Ok s
+        → IfOk result (λ made. IsReadOf s query.now place (length shards.now) hs made.1) }
+    ensures alone { workers.1 ≡ true → (nat_lt workers.0 2 || nat_lt (length shards.now) 2) ≡ true
+        → IfOk result (λ made. is_pulled made.1 ≡ true) }
 {
-    let found = find_page(rt, alloc, query, catalog, shards, workers, gate)?;
-    let hits = after_skip(&found.hits, found.skip);
-    Ok(write_page(alloc, query, found.source, hits)?)
+    let found = find(rt, alloc, query, catalog, shards, workers, gate)?;
+    let text = write_page(alloc, query, found.source, found.page.shown())?;
+    Ok((text, found.page.reads))
 }
 
 /// Returns the page that answers a query, as `page` does, but documents that are shown as they are served are lent by their shards. The shards
@@ -81,10 +93,10 @@ pub fn lend_page<'a, R: Threads + Sync, G: Gate + Sync>(
     ensures refused { (why : Unanswered) → served_by catalog.now (query_view query.now) ≡ Err why
         → result ≡ Err (error_of why) }
 {
-    let listed = find_page(rt, alloc, query, catalog, shards, workers, gate)?;
-    let hits = after_skip(&listed.hits, listed.skip);
+    let found = find(rt, alloc, query, catalog, shards, workers, gate)?;
+    let hits = found.page.shown();
     let docs = lend_all(alloc, query, hits)?;
-    let bookmark = last_bookmark(alloc, query, listed.source, hits)?;
+    let bookmark = last_bookmark(alloc, query, found.source, hits)?;
     Ok(LentPage { docs, bookmark })
 }
 

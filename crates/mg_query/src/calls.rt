@@ -13,8 +13,9 @@ ghost use Rattle.mg_query.specs.Served.{PageAnswers, HaveIdsAndRevs, error_of};
 
 use crate::answer::last_bookmark;
 use crate::error::PageError;
-use crate::found::{after_skip, find};
+use crate::found::find;
 use crate::query::Query;
+use crate::reads::Reads;
 use crate::shown::{Page, show};
 use mg_index::Catalog;
 use mg_merge::Work;
@@ -69,10 +70,13 @@ pub fn page<R: Threads + Sync, G: Gate + Sync>(
         Workers::exactly(workers),
         gate,
     )?;
-    let hits = after_skip(&found.hits, query.skip);
+    let hits = found.page.shown();
     let docs = show_all(alloc, query, hits)?;
     let bookmark = last_bookmark(alloc, query, found.source, hits)?;
-    Ok((Page { docs, bookmark }, found.work))
+    match found.page.reads {
+        Reads::Handed(work) => Ok((Page { docs, bookmark }, work)),
+        Reads::Pulled { .. } => unreachable!(),
+    }
 }
 
 // Makes what the page shows of the documents of these hits. Errors: `NoMemory` if an allocation fails.

@@ -1,26 +1,25 @@
-//! What a query finds for its page: the first hits of all shards together; `find_page` may leave out those that the page skips.
-ghost use Rattle.std.specs.Prelude.{◌≡◌, ◌+◌, Err, IfOk, drop, length, option_map};
+//! What a query finds for its page: the first hits of all shards together; those that the page skips may be left out.
+ghost use Rattle.std.specs.Prelude.{◌≡◌, ◌+◌, ◌||◌, true, false, Err, IfOk, drop, length, nat_lt, option_map};
 ghost use Rattle.mg_shard.specs.Shard.{HaveIndexes, shards_view};
 ghost use Rattle.mg_shard.specs.Dealt.{Placing, ShardsStandFor};
 ghost use Rattle.mg_shard.specs.Histories.{Histories};
 ghost use Rattle.mg_query.specs.Plan.{IsPlanOf};
 ghost use Rattle.mg_query.specs.Page.{Unanswered, candidates_of, source_columns, page_candidates, served_by};
-ghost use Rattle.mg_query.specs.Paged.{IsWorkWithin, counts_handed};
+ghost use Rattle.mg_query.specs.Read.{IsReadOf, IsReadWithin, is_pulled};
 ghost use Rattle.mg_query.specs.Lent.{LendEach, row_at};
 ghost use Rattle.mg_query.specs.View.{query_view};
 ghost use Rattle.mg_query.specs.Served.{PageAnswers, HaveIdsAndRevs, IsInCatalog, error_of, source_view};
 
 use crate::error::PageError;
-use crate::page_search::PageSearch;
+use crate::page_search::{PageHits, PageSearch};
 use crate::query::Query;
 use crate::source::{Source, served_by};
 use mg_index::Catalog;
-use mg_merge::Work;
 use mg_normal::Normal;
 use mg_range::KeyRange;
 use mg_range::laws::ranges_are_complete;
 use mg_rows::RowBytes;
-use mg_scan::{Gate, Hit, Workers};
+use mg_scan::{Gate, Workers};
 use mg_shard::Shard;
 use mg_shard::laws::definitions_are_catalogs;
 use mg_value::NoMemory;
@@ -28,25 +27,15 @@ use std::alloc::Global;
 use std::sync::Arc;
 use std::thread::Threads;
 
-// The index that serves a query; the hits that the query's page skips, and after them those that it shows; how many rows each shard handed
-// over, and how many of these were merged.
+// The index that serves a query, and the hits of the query's page.
 #[derive(Drop)]
 pub(crate) struct Found<'a> {
     pub(crate) source: Source<'a>,
-    pub(crate) hits: Vec<Hit<'a>>,
-    pub(crate) work: Work,
-}
-
-// The index that serves a query, and hits of the query. The page shows all of these hits but the first `skip`.
-#[derive(Drop)]
-pub(crate) struct PageHits<'a> {
-    pub(crate) source: Source<'a>,
-    pub(crate) hits: Vec<Hit<'a>>,
-    pub(crate) skip: u32,
+    pub(crate) page: PageHits<'a>,
 }
 
 // The plan of a query: the index that serves it, its selector in normal form, its range of keys in that index, the row of its bookmark as
-// bytes, and `is_decided`, which is true only if the range decides the whole selector.
+// bytes, and `is_decided`: whether the range decides the whole selector.
 #[derive(Drop)]
 pub(crate) struct Plan<'a> {
     pub(crate) source: Source<'a>,
@@ -56,9 +45,11 @@ pub(crate) struct Plan<'a> {
     pub(crate) is_decided: bool,
 }
 
-// Finds the hits that the query's page skips and shows, over the indexes of the catalog; each shard has these indexes, and maybe others.
-// Each shard hands over its first hits: at most as many as the page skips and shows. Errors: those of `served_by`, and `NoMemory` if an
-// allocation fails.
+// Finds the hits of the query's page, over the indexes of the catalog; each shard has these indexes, and maybe others. Hits that the page
+// skips may be missing. If the number of workers is a maximum, the caller's thread pulls the hits one by one, as the merge asks for them,
+// and passes no gate, in each of these cases: there is one worker; there are fewer than two shards; a second thread is expected to cost more
+// than it saves. Otherwise each shard hands over its first hits: at most as many as the page skips and shows. Errors: those of `served_by`,
+// and `NoMemory` if an allocation fails.
 pub(crate) fn find<'a, R: Threads + Sync, G: Gate + Sync>(
     rt: &R,
     alloc: Global,
@@ -75,14 +66,16 @@ pub(crate) fn find<'a, R: Threads + Sync, G: Gate + Sync>(
         → result ≡ Err (error_of why) }
     ensures hits { IfOk result (λ f. (place : Placing) (hs : Histories)
         → ShardsStandFor place (shards_view shards.now) hs → HaveIdsAndRevs (candidates_of hs)
-        → LendEach (source_columns (source_view f.source)) (drop query.now.skip f.hits.items)
+        → LendEach (source_columns (source_view f.source)) (drop f.page.skip f.page.hits.items)
         (page_candidates (source_columns (source_view f.source)) (query_view query.now) (candidates_of hs))) }
-    ensures work { IfOk result
-        (λ f. IsWorkWithin (length shards.now) (query.now.skip + query.now.limit) f.work) }
-    ensures handed { IfOk result (λ f. (place : Placing) (hs : Histories)
+    ensures within { IfOk result (λ f. IsReadWithin (length shards.now)
+        (query.now.skip + query.now.limit) f.page.reads) }
+    ensures read { IfOk result (λ f. (place : Placing) (hs : Histories)
         → ShardsStandFor place (shards_view shards.now) hs → HaveIdsAndRevs (candidates_of hs)
-        → f.work.handed ≡ counts_handed (source_columns (source_view f.source)) (query_view query.now)
-        place (length shards.now) hs) }
+        → IsReadOf (source_view f.source) query.now place (length shards.now) hs f.page.reads) }
+    ensures alone { workers.1 ≡ true → (nat_lt workers.0 2 || nat_lt (length shards.now) 2) ≡ true
+        → IfOk result (λ f. is_pulled f.page.reads ≡ true) }
+    ensures exact { workers.1 ≡ false → IfOk result (λ f. is_pulled f.page.reads ≡ false) }
 {
     ranges_are_complete();
     definitions_are_catalogs(shards);
@@ -94,52 +87,10 @@ pub(crate) fn find<'a, R: Threads + Sync, G: Gate + Sync>(
         range: &range,
         shards,
     };
-    let (hits, work) = search.merge_first(rt, alloc, workers, gate)?;
+    let page = search.page_hits(rt, alloc, workers, gate)?;
     Ok(Found {
         source: plan.source,
-        hits,
-        work,
-    })
-}
-
-// Finds the hits of the query's page as `find` does, without the counts of rows; hits that the page skips may be missing. If the number of
-// workers is a maximum, the caller's thread pulls the hits one by one, as the merge asks for them, and passes no gate, in each of these
-// cases: there is one worker; there are fewer than two shards; a second thread is expected to cost more than it saves. Errors: those of
-// `find`.
-pub(crate) fn find_page<'a, R: Threads + Sync, G: Gate + Sync>(
-    rt: &R,
-    alloc: Global,
-    query: &'a Query<'_>,
-    catalog: &'a Catalog,
-    shards: &'a [Arc<Shard>],
-    workers: Workers,
-    gate: &G,
-) -> Result<PageHits<'a>, PageError>
-    requires indexes { HaveIndexes catalog.now (shards_view shards.now) }
-    ensures source { PageAnswers (λ f. source_view f.source) result
-        (served_by catalog.now (query_view query.now)) }
-    ensures refused { (why : Unanswered) → served_by catalog.now (query_view query.now) ≡ Err why
-        → result ≡ Err (error_of why) }
-    ensures hits { IfOk result (λ f. (place : Placing) (hs : Histories)
-        → ShardsStandFor place (shards_view shards.now) hs → HaveIdsAndRevs (candidates_of hs)
-        → LendEach (source_columns (source_view f.source)) (drop f.skip f.hits.items)
-        (page_candidates (source_columns (source_view f.source)) (query_view query.now) (candidates_of hs))) }
-{
-    ranges_are_complete();
-    definitions_are_catalogs(shards);
-    let plan = plan_of(alloc, query, catalog)?;
-    let range = plan.range.in_rows(alloc)?;
-    let search = PageSearch {
-        query,
-        plan: &plan,
-        range: &range,
-        shards,
-    };
-    let (hits, skip) = search.page_hits(rt, alloc, workers, gate)?;
-    Ok(PageHits {
-        source: plan.source,
-        hits,
-        skip,
+        page,
     })
 }
 
@@ -156,11 +107,11 @@ fn plan_of<'a>(
         → result ≡ Err (error_of why) }
     ensures listed { IfOk result (λ a. IsInCatalog catalog.now (source_view a.source)) }
     ensures plan { IfOk result (λ a. IsPlanOf (query_view query.now) a) }
+    ensures normal { IfOk result (λ a. a.normal.now ≡ query.now.normal) }
 {
     let source = served_by(query, catalog)?;
-    let range = source.range(alloc, &query.normal)?;
+    let (range, is_decided) = source.range(alloc, &query.normal)?;
     let after = after_row(alloc, query)?;
-    let is_decided = source.is_decided(&query.normal);
     Ok(Plan {
         source,
         normal: &query.normal,
@@ -177,17 +128,5 @@ fn after_row(alloc: Global, query: &Query<'_>) -> Result<Option<RowBytes>, NoMem
     match &query.bookmark {
         Some(bookmark) => Ok(Some(RowBytes::of(alloc, &bookmark.key, &bookmark.id)?)),
         None => Ok(None),
-    }
-}
-
-// Returns the hits after the first `skip`; no hits if there are at most `skip`.
-pub(crate) fn after_skip<'a, 'b>(hits: &'b [Hit<'a>], skip: u32) -> &'b [Hit<'a>]
-    ensures { result.now ≡ drop skip hits.now }
-{
-    let skip = skip as usize;
-    if skip < hits.len() {
-        &hits[skip..]
-    } else {
-        &[]
     }
 }

@@ -6,7 +6,9 @@
 //! as text, and `lend_page` as parts of blocks, which shards lend of the documents that are shown as they are
 //! served, for all histories that the shards represent (`answers`). They require that the shards have the
 //! indexes of the catalog; they may have others (`indexes`). Each shard hands over the rows that the query
-//! finds there, but at most as many as the page skips and shows (`handed`, `work`). `explain` is the
+//! finds there, but at most as many as the page skips and shows (`handed`, `work`); where one thread finds the
+//! page of `page_text`, all shards together give at most as many, and one more each, and if the index decides
+//! the selector, only documents that are shown are looked up (`within`, `read`, `alone`). `explain` is the
 //! definition's. A query that no index serves, or whose bookmark is of another index, is refused for that by
 //! `page`, `page_text`, `lend_page` and `explain`, and never with `NoMemory` (`refused`). Laws: `pages_join`,
 //! `pages_that_read_back_join`, `bookmarks_change_nothing_else`.
@@ -24,6 +26,7 @@ mod member;
 mod page_search;
 mod query;
 mod reader;
+mod reads;
 mod shown;
 mod source;
 mod text;
@@ -33,5 +36,6 @@ pub use calls::page;
 pub use error::{PageError, QueryError};
 pub use explanation::explain;
 pub use query::Query;
+pub use reads::Reads;
 pub use shown::{LentPage, Page, Shown};
 pub use text::with_comma;

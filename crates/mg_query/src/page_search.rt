@@ -1,14 +1,16 @@
 //! Searches for the hits of a page, by workers or on the caller's thread.
-ghost use Rattle.std.specs.Prelude.{◌≡◌, ◌+◌, true, IfOk, length, map};
+ghost use Rattle.std.specs.Prelude.{◌≡◌, ℕ, ◌+◌, ◌||◌, true, false, List, IfOk, drop, length, map, nat_lt};
 ghost use Rattle.std.specs.List.{AllZip};
 ghost use Rattle.mg_shard.specs.Shard.{shards_view};
 ghost use Rattle.mg_scan.specs.Hit.{AreHitsOf, hit_rows};
 ghost use Rattle.mg_query.specs.Plan.{AreFirst, AreOfPage, IsPlanned, IsSearchOf, rows_asked_of};
 ghost use Rattle.mg_query.specs.Paged.{IsWorkWithin};
+ghost use Rattle.mg_query.specs.Read.{IsReadFor, IsReadWithin, is_pulled};
 ghost use Rattle.mg_query.specs.View.{query_view};
 
 use crate::found::Plan;
 use crate::query::Query;
+use crate::reads::Reads;
 use mg_collate::Direction;
 use mg_merge::{Work, merge_items};
 use mg_range::RowRange;
@@ -39,6 +41,28 @@ pub(crate) struct PageSearch<'a, 'b> {
     pub(crate) shards: &'a [Arc<Shard>],
 }
 
+// Hits of which a page shows all but the first `skip`, and how much was read for them.
+#[derive(Drop)]
+pub(crate) struct PageHits<'a> {
+    pub(crate) hits: Vec<Hit<'a>>,
+    pub(crate) skip: u32,
+    pub(crate) reads: Reads,
+}
+
+impl<'a> PageHits<'a> {
+    // Lends the hits that the page shows.
+    pub(crate) fn shown(&self) -> &[Hit<'a>]
+        ensures { result.now ≡ drop self.now.skip self.now.hits.items }
+    {
+        let skip = self.skip as usize;
+        if skip < self.hits.len() {
+            &self.hits[skip..]
+        } else {
+            &[]
+        }
+    }
+}
+
 impl<'a, 'b> PageSearch<'a, 'b> {
     // How many rows the page skips and shows, at most.
     fn row_count(&self) -> usize
@@ -62,69 +86,109 @@ impl<'a, 'b> PageSearch<'a, 'b> {
         }
     }
 
-    // Finds hits of which the page shows all but the first n. Returns the hits and n: 0 if the skipped hits were left out, otherwise the
-    // query's `skip`. If the number of workers is a maximum, the search runs on the caller's thread, and passes no gate, in each of these
-    // cases: there is one worker; there are fewer than two shards; `is_small` is true. Errors: `NoMemory` if an allocation fails.
+    // Finds hits of which the page shows all but the first `skip`: 0 if the skipped hits were left out, otherwise those that the query
+    // skips. If the number of workers is a maximum, the search runs on the caller's thread, and passes no gate, in each of these cases:
+    // there is one worker; there are fewer than two shards; `is_small` is true. Errors: `NoMemory` if an allocation fails.
     pub(crate) fn page_hits<R: Threads + Sync, G: Gate + Sync>(
         &self,
         rt: &R,
         alloc: Global,
         workers: Workers,
         gate: &G,
-    ) -> Result<(Vec<Hit<'a>>, u32), NoMemory>
+    ) -> Result<PageHits<'a>, NoMemory>
         requires { IsPlanned self.now }
-        ensures { IfOk result (λ made. AreOfPage (query_view self.now.query.now) self.now.plan.now
-            (shards_view self.now.shards.now) made.1 made.0.items) }
+        ensures hits { IfOk result (λ made. AreOfPage (query_view self.now.query.now) self.now.plan.now
+            (shards_view self.now.shards.now) made.skip made.hits.items) }
+        ensures within { IfOk result (λ made. IsReadWithin (length self.now.shards.now)
+            (self.now.query.now.skip + self.now.query.now.limit) made.reads) }
+        ensures read { IfOk result (λ made. IsReadFor self.now.plan.now.is_decided
+            (length (drop made.skip made.hits.items))
+            (map (λ s. length (rows_asked_of (query_view self.now.query.now) self.now.plan.now s))
+            (shards_view self.now.shards.now)) made.reads) }
+        ensures alone { workers.1 ≡ true
+            → (nat_lt workers.0 2 || nat_lt (length self.now.shards.now) 2) ≡ true
+            → IfOk result (λ made. is_pulled made.reads ≡ true) }
+        ensures exact { workers.1 ≡ false → IfOk result (λ made. is_pulled made.reads ≡ false) }
     {
         let has_one_thread = workers.count() < 2 || self.shards.len() < 2;
         if workers.is_alone(has_one_thread || self.is_small()) {
             return self.find_alone(alloc);
         }
-        let (hits, _) = self.merge_first(rt, alloc, workers, gate)?;
-        Ok((hits, self.query.skip))
+        let (hits, work) = self.merge_first(rt, alloc, workers, gate)?;
+        Ok(PageHits {
+            hits,
+            skip: self.query.skip,
+            reads: Reads::Handed(work),
+        })
     }
 
     // Finds what `page_hits` returns, on the caller's thread. If the range decides the whole selector, no document is looked up for a row
-    // that is skipped, and the returned number is 0. Errors: `NoMemory` if an allocation fails.
-    fn find_alone(&self, alloc: Global) -> Result<(Vec<Hit<'a>>, u32), NoMemory>
+    // that is skipped, and the returned `skip` is 0. Errors: `NoMemory` if an allocation fails.
+    fn find_alone(&self, alloc: Global) -> Result<PageHits<'a>, NoMemory>
         requires { IsPlanned self.now }
-        ensures { IfOk result (λ made. AreOfPage (query_view self.now.query.now) self.now.plan.now
-            (shards_view self.now.shards.now) made.1 made.0.items) }
+        ensures hits { IfOk result (λ made. AreOfPage (query_view self.now.query.now) self.now.plan.now
+            (shards_view self.now.shards.now) made.skip made.hits.items) }
+        ensures within { IfOk result (λ made. IsReadWithin (length self.now.shards.now)
+            (self.now.query.now.skip + self.now.query.now.limit) made.reads) }
+        ensures read { IfOk result (λ made. (handed : List ℕ) → IsReadFor self.now.plan.now.is_decided
+            (length (drop made.skip made.hits.items)) handed made.reads) }
+        ensures pulled { IfOk result (λ made. is_pulled made.reads ≡ true) }
     {
         if self.plan.is_decided {
-            let hits = self.pull_page(alloc)?;
-            return Ok((hits, 0));
+            self.pull_page(alloc)
+        } else {
+            self.pull_hits(alloc)
         }
-        let hits = self.pull_hits(alloc)?;
-        Ok((hits, self.query.skip))
     }
 
     // Finds the hits that the page shows, without those that it skips. The range must decide the whole selector. Errors: `NoMemory`.
-    fn pull_page(&self, alloc: Global) -> Result<Vec<Hit<'a>>, NoMemory>
+    fn pull_page(&self, alloc: Global) -> Result<PageHits<'a>, NoMemory>
         requires decided { self.now.plan.now.is_decided ≡ true }
         requires planned { IsPlanned self.now }
-        ensures { IfOk result (λ hits. AreOfPage (query_view self.now.query.now) self.now.plan.now
-            (shards_view self.now.shards.now) 0 hits.items) }
+        ensures hits { IfOk result (λ made. AreOfPage (query_view self.now.query.now) self.now.plan.now
+            (shards_view self.now.shards.now) made.skip made.hits.items) }
+        ensures within { IfOk result (λ made. IsReadWithin (length self.now.shards.now)
+            (self.now.query.now.skip + self.now.query.now.limit) made.reads) }
+        ensures read { IfOk result (λ made. (handed : List ℕ) → IsReadFor true
+            (length (drop made.skip made.hits.items)) handed made.reads) }
+        ensures pulled { IfOk result (λ made. is_pulled made.reads ≡ true) }
     {
         let search = self.in_each_shard();
-        let (hits, _) = pull_rows(alloc, self.shards, search, self.query.skip as usize)?;
-        Ok(hits)
+        let (hits, rows) = pull_rows(alloc, self.shards, search, self.query.skip as usize)?;
+        let documents = hits.len() as u64;
+        Ok(PageHits {
+            hits,
+            skip: 0,
+            reads: Reads::Pulled { rows, documents },
+        })
     }
 
     // Finds the first hits of all shards together, as many as the page skips and shows, pulled as the merge asks for them. Errors:
     // `NoMemory`.
-    fn pull_hits(&self, alloc: Global) -> Result<Vec<Hit<'a>>, NoMemory>
+    fn pull_hits(&self, alloc: Global) -> Result<PageHits<'a>, NoMemory>
         requires { IsPlanned self.now }
-        ensures { IfOk result (λ hits. AreFirst (query_view self.now.query.now) self.now.plan.now
-            (shards_view self.now.shards.now) hits.items) }
+        ensures hits { IfOk result (λ made. AreOfPage (query_view self.now.query.now) self.now.plan.now
+            (shards_view self.now.shards.now) made.skip made.hits.items) }
+        ensures within { IfOk result (λ made. IsReadWithin (length self.now.shards.now)
+            (self.now.query.now.skip + self.now.query.now.limit) made.reads) }
+        ensures read { IfOk result (λ made. (handed : List ℕ) → IsReadFor false
+            (length (drop made.skip made.hits.items)) handed made.reads) }
+        ensures pulled { IfOk result (λ made. is_pulled made.reads ≡ true) }
     {
-        let (hits, _) = pull_lent(alloc, self.shards, self.in_each_shard())?;
-        Ok(hits)
+        let (hits, rows) = pull_lent(alloc, self.shards, self.in_each_shard())?;
+        Ok(PageHits {
+            hits,
+            skip: self.query.skip,
+            reads: Reads::Pulled {
+                rows,
+                documents: rows,
+            },
+        })
     }
 
     // Finds the first hits of all shards together: workers search the shards, and the hits that each shard hands over are merged. Also
     // returns how many rows each shard handed over, and how many of these were merged. Errors: `NoMemory` if an allocation fails.
-    pub(crate) fn merge_first<R: Threads + Sync, G: Gate + Sync>(
+    fn merge_first<R: Threads + Sync, G: Gate + Sync>(
         &self,
         rt: &R,
         alloc: Global,

@@ -7,7 +7,7 @@ ghost use Rattle.mg_index.specs.Choice.{all_docs, choice_of, id_path};
 ghost use Rattle.mg_index.specs.Definition.{IndexDefinition};
 ghost use Rattle.mg_range.specs.Range.{range_of};
 ghost use Rattle.mg_scan.specs.Found.{target_columns};
-ghost use Rattle.mg_query.specs.Plan.{IsDecidedBy};
+ghost use Rattle.mg_query.specs.Read.{is_decided};
 ghost use Rattle.mg_query.specs.Explain.{listed_source};
 ghost use Rattle.mg_query.specs.Page.{Unanswered, source_columns, ddoc_of, accepts_bookmark, is_same_ddoc, fits_source, name_of, served_by};
 ghost use Rattle.mg_query.specs.View.{query_view};
@@ -154,27 +154,17 @@ impl<'a> Source<'a> {
         }
     }
 
-    // Makes the range of keys that a query with this selector has to read in this index. Errors: `NoMemory` if an allocation fails.
-    pub(crate) fn range(self, alloc: Global, normal: &Normal) -> Result<KeyRange, NoMemory>
-        ensures { IfOk result
-            (λ r. r ≡ range_of normal.now.atoms (source_columns (source_view self.entry))) }
+    // Makes the range of keys that a query with this selector has to read in this index, and tells whether it decides the whole selector, so
+    // that no document has to be tested. Errors: `NoMemory` if an allocation fails.
+    pub(crate) fn range(self, alloc: Global, normal: &Normal) -> Result<(KeyRange, bool), NoMemory>
+        ensures range { IfOk result
+            (λ r. r.0 ≡ range_of normal.now.atoms (source_columns (source_view self.entry))) }
+        ensures decided { IfOk result
+            (λ r. r.1 ≡ is_decided (source_columns (source_view self.entry)) normal.now) }
     {
         match self {
             Source::AllDocs => id_range(alloc, normal),
-            Source::Defined(definition, _) => KeyRange::of(alloc, definition.columns(), normal),
-        }
-    }
-
-    // Whether the range of keys in this index decides the whole selector, so that no document has to be tested. Always false for the index
-    // of all documents: its rows are the documents themselves.
-    pub(crate) fn is_decided(self, normal: &Normal) -> bool
-        ensures { result ≡ true → IsDecidedBy (source_columns (source_view self.entry)) normal.now }
-    {
-        match self {
-            Source::AllDocs => false,
-            Source::Defined(definition, _) => {
-                !normal.has_rest() && decides(definition.columns(), normal.atoms())
-            }
+            Source::Defined(definition, _) => range_at(alloc, definition.columns(), normal),
         }
     }
 
@@ -189,12 +179,23 @@ impl<'a> Source<'a> {
     }
 }
 
-// Makes the range of keys in the index of all documents. Errors: `NoMemory` if an allocation fails.
-fn id_range(alloc: Global, normal: &Normal) -> Result<KeyRange, NoMemory>
-    ensures { IfOk result (λ r. r ≡ range_of normal.now.atoms (source_columns all_docs)) }
+// Makes the range of keys in the index of all documents, and tells whether it decides the selector. Errors: `NoMemory`.
+fn id_range(alloc: Global, normal: &Normal) -> Result<(KeyRange, bool), NoMemory>
+    ensures range { IfOk result (λ r. r.0 ≡ range_of normal.now.atoms (source_columns all_docs)) }
+    ensures decided { IfOk result (λ r. r.1 ≡ is_decided (source_columns all_docs) normal.now) }
 {
     let columns = vec![in alloc; id_column(alloc)?]?;
-    KeyRange::of(alloc, &columns, normal)
+    range_at(alloc, &columns, normal)
+}
+
+// Makes the range of keys at these columns, and tells whether it decides the selector. Errors: `NoMemory` if an allocation fails.
+fn range_at(alloc: Global, columns: &[Path], normal: &Normal) -> Result<(KeyRange, bool), NoMemory>
+    ensures range { IfOk result (λ r. r.0 ≡ range_of normal.now.atoms columns.now) }
+    ensures decided { IfOk result (λ r. r.1 ≡ is_decided columns.now normal.now) }
+{
+    let range = KeyRange::of(alloc, columns, normal)?;
+    let is_decided = !normal.has_rest() && decides(columns, normal.atoms());
+    Ok((range, is_decided))
 }
 
 fn id_column(alloc: Global) -> Result<Path, NoMemory>

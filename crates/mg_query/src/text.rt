@@ -18,8 +18,8 @@ use mg_scan::Hit;
 use mg_value::{NoMemory, write};
 use std::alloc::Global;
 
-// How many bytes are allocated at first: the text of most pages fits.
-const FIRST_ROOM: usize = 8192;
+// Room for what a page has besides documents that are shown whole: a bookmark of some 100 bytes, or a few documents that are shown in part.
+const PAGE_ROOM: usize = 2048;
 
 // Writes the text of the page that shows the documents of these hits and has this bookmark.
 pub(crate) fn text_with(
@@ -34,13 +34,24 @@ pub(crate) fn text_with(
           bookmark = bookmark.now;
         }))) }
 {
-    let mut out = Vec::with_capacity(alloc, FIRST_ROOM)?;
+    let mut out = Vec::with_capacity(alloc, first_room(query, hits))?;
     out.extend_from_slice(b"{\"bookmark\":")?;
     let mut out = with_string(out, bookmark)?;
     out.extend_from_slice(b",\"docs\":")?;
     let mut out = with_documents(alloc, query, out, hits)?;
     out.push(b'}')?;
     Ok(out)
+}
+
+// How many bytes are allocated at first: the text of most pages that show documents whole fits.
+fn first_room(query: &Query<'_>, hits: &[Hit<'_>]) -> usize {
+    let mut room = PAGE_ROOM;
+    if is_shown_whole(query) {
+        for hit in hits {
+            room = room.saturating_add(hit.compact_text().len().saturating_add(1));
+        }
+    }
+    room
 }
 
 fn with_string(out: Vec<u8>, text: &str) -> Result<Vec<u8>, NoMemory>

@@ -3,11 +3,13 @@ use Rattle.std.proofs.Common.{◌≡◌, ℕ, zero, suc, ◌+◌, ◌<◌, ◌�
 use Rattle.std.specs.FinMap.{get}
 use Rattle.std.specs.List.{AllZip}
 use Rattle.std.specs.Option.{option_and_then, option_map_or}
+use Rattle.std.proofs.lemmas.List.{length-drop, length-map}
 use Rattle.mg_collate.proofs.Sorting.{all_append, all_weaker}
 use Rattle.mg_collate.specs.Row.{RowValue}
+use Rattle.mg_collate.specs.declared.direction.Direction.{Direction}
 use Rattle.mg_collate.specs.Sorted.{IsInOrder}
 use Rattle.mg_merge.specs.Merged.{merged}
-use Rattle.mg_merge.specs.Pulled.{IsGivenBy}
+use Rattle.mg_merge.specs.Pulled.{ArePulled, IsGivenBy}
 use Rattle.mg_normal.specs.Normal.{normal_holds}
 use Rattle.mg_scan.specs.Decided.{IsDecidedIn, everything}
 use Rattle.mg_scan.specs.Hit.{AreHitsIn, IsHitIn, IsHitOf, hit_row, hit_rows}
@@ -107,8 +109,19 @@ pub led_in : (shards : List ShardView) (hits : List Hit) (hit : Option Hit) (lea
 led_in shards hits None leads i lead less is all here h = subst (AreHitsIn shards) (sym (append-nil hits)) h
 led_in shards hits (Some hit) leads i lead less is all here h = all_append (IsHitIn shards) hits (hit ∷ []) h (one_in shards lead hit (lead_at shards leads i lead all less is) here, tt)
 
--- the lead's document is served
-pub lead_served : (shards : List ShardView) (leads : List Lead) (i : ℕ) (lead : Lead) → i < length leads → lead ≡ get_or leads i lead → AreLeadsIn shards leads → is_some (form_at lead.shard.now.documents (lead_row lead).1) ≡ true
-lead_served shards leads i lead less is all =
+-- the lead is one of the shard that it names
+pub lead_of : (shards : List ShardView) (leads : List Lead) (i : ℕ) (lead : Lead) → i < length leads → lead ≡ get_or leads i lead → AreLeadsIn shards leads → IsLeadOf lead.shard.now lead
+lead_of shards leads i lead less is all =
     let here = lead_at shards leads i lead all less is in
-    ap (λ (s : ShardView). is_some (form_at s.documents (lead_row lead).1)) here.lead.shard ∙ here.lead.served
+    subst (λ (s : ShardView). IsLeadOf s lead) (sym here.lead.shard) here.lead
+
+-- ---- how many are given
+
+-- no more items are given than are pulled
+pub given_within : {X : Type 0} (row : X → RowValue) (direction : Direction) (lists : List (List RowValue)) (items : List X) (pulled : ℕ) → ArePulled direction lists (map row items) pulled → length items ≤ pulled
+given_within row direction lists items pulled number = omega (arith, number.1.1, length-map items row)
+
+-- no more hits are given than leads are pulled
+pub hits_within : (direction : Direction) (lists : List (List RowValue)) (leads lent : List Lead) (hits : List Hit) (skip pulled : ℕ) → ArePulled direction lists (map lead_row leads) pulled → lent ≡ leads → hit_rows hits ≡ map lead_row (drop skip lent) → length hits ≤ pulled
+hits_within direction lists leads lent hits skip pulled number same rows =
+    omega (arith, given_within lead_row direction lists leads pulled number, ap length same, length-drop skip lent, length-map (drop skip lent) lead_row, length-map hits hit_row, ap length rows)

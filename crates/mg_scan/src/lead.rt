@@ -1,10 +1,11 @@
 //! Rows that a search found, lent before their documents are looked up.
-ghost use Rattle.std.specs.Prelude.{◌≡◌, ◌++◌, List, Some, true, is_some, drop, map, option_map, IfOk, IfSome, OnOk};
+ghost use Rattle.std.specs.Prelude.{◌≡◌, ◌++◌, List, Some, drop, map, option_map, IfOk, IfSome, OnOk};
+ghost use Rattle.std.specs.FinMap.{get};
 ghost use Rattle.mg_scan.specs.Hit.{AreHitsIn, IsHitOf, hit_row, hit_rows};
 ghost use Rattle.mg_scan.specs.Decided.{everything};
 ghost use Rattle.mg_scan.specs.Lead.{AreLeadsIn, IsLeadOf, lead_row};
 ghost use Rattle.mg_scan.specs.Walked.{list_of_option};
-ghost use Rattle.mg_shard.specs.Documents.{form_at};
+ghost use Rattle.mg_shard.specs.Documents.{kept_of};
 ghost use Rattle.mg_shard.specs.Shard.{ShardView};
 
 use crate::find::Find;
@@ -18,12 +19,14 @@ use mg_value::NoMemory;
 use std::alloc::Global;
 use std::cmp::Ordering;
 
-/// A row that a search found, lent by its shard, whose document is served but not looked up yet. Leads are ordered by key, then by the
-/// bytes of the id.
+/// A row that a search found, lent by its shard, whose document is served but, for a row of an index, not looked up yet. Leads are ordered by
+/// key, then by the bytes of the id.
 #[derive(Clone, Copy, Drop)]
 pub(crate) struct Lead<'a> {
     pub(crate) shard: &'a Shard,
     pub(crate) row: LentRow<'a>,
+    /// The row's document, if the row was found at it.
+    pub(crate) document: Option<&'a Document>,
 }
 
 impl<'a> Ranked for Lead<'a> {
@@ -44,29 +47,43 @@ impl<'a> Find<'a> for Lead<'a> {
         Some(Lead {
             shard,
             row: LentRow::Bytes(row),
+            document: None,
         })
     }
 
     fn at_document(
         shard: &'a Shard,
-        _document: &'a Document,
+        document: &'a Document,
         id: &'a str,
         _normal: &Normal,
     ) -> Option<Lead<'a>> {
         Some(Lead {
             shard,
             row: LentRow::Id(id),
+            document: Some(document),
         })
     }
 }
 
-// Looks up the document of a lead, and returns the hit; `None` only if the document is not served. Cost: a look-up of the document.
-fn hit_of_lead<'a>(lead: Lead<'a>) -> Option<Hit<'a>>
-    ensures row { is_some (form_at lead.entry.shard.now.documents (lead_row lead.entry).1) ≡ true
-        → option_map hit_row result ≡ Some (lead_row lead.entry) }
-    ensures lent { IfSome result (IsHitOf lead.entry.shard.now.documents) }
+// Returns the document of a lead. Cost: a look-up of the document, unless the row was found at it.
+fn document_of<'a>(lead: Lead<'a>) -> Option<&'a Document>
+    ensures { IsLeadOf lead.entry.shard.now lead.entry → option_map (λ d. kept_of d.now) result
+        ≡ get lead.entry.shard.now.documents (lead_row lead.entry).1 }
 {
-    let document = lead.shard.document(lead.row.id())?;
+    match lead.document {
+        Some(document) => Some(document),
+        None => lead.shard.document(lead.row.id()),
+    }
+}
+
+// Returns the hit of a lead; `None` only if the document is not served. Cost: that of `document_of`.
+fn hit_of_lead<'a>(lead: Lead<'a>) -> Option<Hit<'a>>
+    ensures row { IsLeadOf lead.entry.shard.now lead.entry
+        → option_map hit_row result ≡ Some (lead_row lead.entry) }
+    ensures lent { IsLeadOf lead.entry.shard.now lead.entry
+        → IfSome result (IsHitOf lead.entry.shard.now.documents) }
+{
+    let document = document_of(lead)?;
     let form = document.written()?;
     Some(Hit {
         row: lead.row,
@@ -85,8 +102,8 @@ fn push_if<'a>(hits: &mut Vec<Hit<'a>>, hit: Option<Hit<'a>>) -> Result<(), NoMe
     Ok(())
 }
 
-// Looks up the documents of the leads after the first `skip`, and returns their hits. Errors: `NoMemory` if an allocation fails. Cost: a
-// look-up of a document for each lead after the first `skip`.
+// Returns the hits of the leads after the first `skip`. Errors: `NoMemory` if an allocation fails. Cost: that of `document_of` for each lead
+// after the first `skip`.
 pub(crate) fn hits_after<'a>(
     alloc: Global,
     leads: &[Lead<'a>],

@@ -37,6 +37,7 @@ pub fn pull_lent<'a>(
         (map (found_by search.entry) (shards_view shards.now))) }
     ensures hits { IfOk result (λ made. AreHitsIn (shards_view shards.now) made.0.items) }
     ensures pulled { IfOk result (λ made. made.1 ≤ search.entry.take + length shards.now) }
+    ensures given { IfOk result (λ made. length made.0.items ≤ made.1) }
 {
     let mut sources = sources_of(alloc, shards, search)?;
     let (hits, pulled) = merge_pulled::<Hit<'a>, Source<'a, '_>>(
@@ -71,6 +72,7 @@ pub fn pull_rows<'a>(
         (map (found_by search.entry) (shards_view shards.now)))) }
     ensures hits { IfOk result (λ made. AreHitsIn (shards_view shards.now) made.0.items) }
     ensures pulled { IfOk result (λ made. made.1 ≤ search.entry.take + length shards.now) }
+    ensures given { IfOk result (λ made. length made.0.items ≤ made.1) }
 {
     if shards.len() == 1 {
         pull_rows_of_one(alloc, shards, search, skip)
@@ -93,6 +95,7 @@ fn pull_rows_of_several<'a>(
         (map (found_by search.entry) (shards_view shards.now)))) }
     ensures hits { IfOk result (λ made. AreHitsIn (shards_view shards.now) made.0.items) }
     ensures pulled { IfOk result (λ made. made.1 ≤ search.entry.take + length shards.now) }
+    ensures given { IfOk result (λ made. length made.0.items ≤ made.1) }
 {
     let (rest, left) = pass_over(alloc, shards, search, skip)?;
     let (hits, pulled) = pull_then_skip(alloc, shards, rest, left)?;
@@ -113,6 +116,7 @@ fn pull_then_skip<'a>(
         (map (found_by search.entry) (shards_view shards.now)))) }
     ensures hits { IfOk result (λ made. AreHitsIn (shards_view shards.now) made.0.items) }
     ensures pulled { IfOk result (λ made. made.1 ≤ search.entry.take + length shards.now) }
+    ensures given { IfOk result (λ made. length made.0.items ≤ made.1) }
 {
     let mut sources = sources_of(alloc, shards, search)?;
     let (leads, pulled) = merge_pulled::<Lead<'a>, Source<'a, '_>>(
@@ -140,6 +144,7 @@ fn pull_rows_of_one<'a>(
         (map (found_by search.entry) (shards_view shards.now)))) }
     ensures hits { IfOk result (λ made. AreHitsIn (shards_view shards.now) made.0.items) }
     ensures pulled { IfOk result (λ made. made.1 ≤ search.entry.take + length shards.now) }
+    ensures given { IfOk result (λ made. length made.0.items ≤ made.1) }
 {
     let shard: &Shard = &shards[0];
     let (source, passed) = source_after(shard, search, skip);

@@ -5,18 +5,19 @@ use Rattle.mg_normal.specs.Atoms.{atoms_of}
 use Rattle.mg_shard.specs.Shard.{shards_view}
 use Rattle.mg_query.specs.Page.{source_columns}
 use Rattle.mg_query.specs.Paged.{counts_handed}
+use Rattle.mg_query.specs.Read.{is_decided}
 use Rattle.mg_query.specs.View.{query_view}
 use Rattle.mg_query.specs.Served.{source_view}
-use Rattle.mg_query.proofs.Counts.{listed_counts}
-use Rattle.mg_query.proofs.Handed.{rows_handed}
+use Rattle.mg_query.proofs.Counts.{as_many, listed_counts, read_same}
+use Rattle.mg_query.proofs.Handed.{rows_merged}
 use Rattle.mg_query.proofs.Indexed.{listed_in_each}
 use Rattle.mg_query.proofs.Lent.{lend_first}
 use Rattle.mg_query.proofs.Serving.{choice_served}
 use Rattle.mg_query.proofs.Usable.{choice_usable}
 use Rattle.mg_query.proofs.found.find.Goals as goal
 
-pub merge_first-requires-after_bounds : goal.merge_first-requires-after_bounds
-merge_first-requires-after_bounds g c = λ κs within. record {
+pub page_hits-requires-after_bounds : goal.page_hits-requires-after_bounds
+page_hits-requires-after_bounds g c = λ κs within. record {
   plan = c.in_ok-plan.ensures.plan;
   range = c.in_ok-range.ensures;
   listed = listed_in_each c.args.catalog.now (source_view c.in_ok-plan.plan.source) (shards_view c.args.shards.now) c.in_ok-plan.ensures.listed c.definitions_are_catalogs.ensures c.requires.indexes;
@@ -30,21 +31,26 @@ returns-clause-hits g c = λ place hs stands whole.
     let s = source_view plan.source in
     let columns = source_columns s in
     let shards = shards_view c.args.shards.now in
-    let hits = c.in_ok-hits.hits.items in
-    let first = c.in_ok-hits.ensures.hits in
+    let page = c.in_ok-page.page in
+    let first = c.in_ok-page.ensures.hits in
     let usable = choice_usable ds (atoms_of q.selector) q.sort q.hint s (choice_served ds q s c.in_ok-plan.ensures.answers) in
-    lend_first columns q place hs shards q.skip hits stands first.hits
-    (rows_handed q columns plan.normal.now c.in_ok-plan.ensures.plan.normal c.ranges_are_complete.ensures usable place shards hs stands whole hits first.rows)
+    lend_first columns q place hs shards page.skip page.hits.items stands first.hits
+    (first.rows ∙ rows_merged q columns plan.normal.now c.in_ok-plan.ensures.plan.normal c.ranges_are_complete.ensures usable place shards hs stands whole)
 
-pub returns-clause-handed : goal.returns-clause-handed
-returns-clause-handed g c = λ place hs stands whole.
+pub returns-clause-read : goal.returns-clause-read
+returns-clause-read g c = λ place hs stands whole.
     let q = query_view c.args.query.now in
     let ds = c.args.catalog.now in
     let plan = c.in_ok-plan.plan in
     let s = source_view plan.source in
     let columns = source_columns s in
     let shards = shards_view c.args.shards.now in
+    let page = c.in_ok-page.page in
+    let is = c.in_ok-plan.ensures.plan in
     let usable = choice_usable ds (atoms_of q.selector) q.sort q.hint s (choice_served ds q s c.in_ok-plan.ensures.answers) in
-    c.in_ok-hits.ensures.handed
-    ∙ listed_counts c.ranges_are_complete.ensures q columns plan.normal.now c.in_ok-plan.ensures.plan.normal usable place shards hs stands whole
-    ∙ ap (λ n. counts_handed columns q place n hs) (length-map c.args.shards.now arc_value)
+    read_same _ _ _ _ _ _ page.reads
+    (is.decided ∙ ap (is_decided columns) c.in_ok-plan.ensures.normal)
+    (as_many columns page.skip page.hits.items _ (c.in_ok-page.ensures.hits.rows ∙ rows_merged q columns plan.normal.now is.normal c.ranges_are_complete.ensures usable place shards hs stands whole))
+    (listed_counts c.ranges_are_complete.ensures q columns plan.normal.now is.normal usable place shards hs stands whole
+    ∙ ap (λ n. counts_handed columns q place n hs) (length-map c.args.shards.now arc_value))
+    c.in_ok-page.ensures.read

@@ -3,9 +3,10 @@ use Rattle.mg_collate.specs.Sorted.{IsInOrder}
 use Rattle.mg_merge.specs.Merged.{merged}
 use Rattle.mg_merge.specs.Pulled.{IsGivenBy}
 use Rattle.mg_shard.specs.Shard.{shards_view}
-use Rattle.mg_scan.specs.Hit.{IsHitOf}
+use Rattle.mg_scan.specs.Hit.{IsHitOf, hit_row}
 use Rattle.mg_scan.specs.declared.hit.Hit.{Hit}
 use Rattle.mg_scan.specs.declared.source.Source.{Source}
+use Rattle.mg_scan.proofs.Leads.{given_within}
 use Rattle.mg_scan.proofs.Maps.{length-view}
 use Rattle.mg_scan.proofs.Sources.{hits_given, rests, rests_in_order, rests_merged, rests_size}
 use Rattle.mg_scan.proofs.pulling.pull_lent.Goals as goal
@@ -33,3 +34,6 @@ returns-clause-pulled c =
     let seen = length-view c.args.shards.now in
     let within = c.in_ok-hits.ensures.pulled in
     omega (arith, same, size, seen, within)
+
+pub returns-clause-given : goal.returns-clause-given
+returns-clause-given c = given_within hit_row _ _ c.in_ok-hits.hits.items _ c.in_ok-hits.ensures.number

@@ -11,7 +11,7 @@ use Rattle.mg_scan.specs.Search.{found_by}
 use Rattle.mg_scan.specs.declared.lead.Lead.{Lead}
 use Rattle.mg_scan.specs.declared.source.Source.{Source}
 use Rattle.mg_scan.proofs.AfterFirst.{one_given, one_in_order, one_merged, one_seen}
-use Rattle.mg_scan.proofs.Leads.{lead_rests}
+use Rattle.mg_scan.proofs.Leads.{hits_within, lead_rests}
 use Rattle.mg_scan.proofs.pulling.pull_rows_of_one.Goals as goal
 
 pub merge_pulled-requires : goal.merge_pulled-requires
@@ -58,3 +58,15 @@ pub returns-clause-pulled : goal.returns-clause-pulled
 returns-clause-pulled c =
     let sources : c.deref_mut.result.now ≡ c.source_after-source.result.0 ∷ [] = c.deref_mut.ensures.value ∙ c.in_ok-push.ensures.items ∙ ap (λ (xs : List Source). xs ++ c.source_after-source.result.0 ∷ []) c.in_ok-sources.ensures.items in
     omega (arith, ap length sources, c.in_ok-leads.ensures.pulled, c.requires.one, c.saturating_sub-wanted.ensures)
+
+pub returns-clause-given : goal.returns-clause-given
+returns-clause-given c =
+    let s = c.args.search in
+    let source = c.source_after-source.result.0 in
+    let shard = c.deref-shard.result.now in
+    let src = c.source_after-source.ensures.source in
+    let sources : c.deref_mut.result.now ≡ source ∷ [] = c.deref_mut.ensures.value ∙ c.in_ok-push.ensures.items ∙ ap (λ (xs : List Source). xs ++ c.source_after-source.result.0 ∷ []) c.in_ok-sources.ensures.items in
+    let leads = c.in_ok-leads.leads.items in
+    let given = subst (λ (xs : List Source). All (IsGivenBy (λ (x : Source). IsLeadOf x.shard.now) xs) leads) sources c.in_ok-leads.ensures.given in
+    hits_within _ _ leads c.deref.result.now c.in_ok-hits.hits.items _ _ c.in_ok-leads.ensures.number c.deref.ensures.value
+    (c.in_ok-hits.ensures.rows (shard ∷ []) (subst (AreLeadsIn (shard ∷ [])) (sym c.deref.ensures.value) (one_given s c.source_after-source.result.1 shard source src leads given)))

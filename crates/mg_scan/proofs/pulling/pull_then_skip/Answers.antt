@@ -8,7 +8,7 @@ use Rattle.mg_scan.specs.Lead.{AreLeadsIn, IsLeadOf, lead_row}
 use Rattle.mg_scan.specs.declared.lead.Lead.{Lead}
 use Rattle.mg_scan.specs.declared.source.Source.{Source}
 use Rattle.mg_scan.specs.Decided.{everything}
-use Rattle.mg_scan.proofs.Leads.{lead_rests, leads_given, leads_merged}
+use Rattle.mg_scan.proofs.Leads.{hits_within, lead_rests, leads_given, leads_merged}
 use Rattle.mg_scan.proofs.Sources.{rests_in_order, rests_size}
 use Rattle.mg_scan.proofs.Maps.{length-view}
 use Rattle.mg_scan.proofs.pulling.pull_then_skip.Goals as goal
@@ -45,3 +45,11 @@ returns-clause-pulled c =
     let seen = length-view c.args.shards.now in
     let within = c.in_ok-leads.ensures.pulled in
     omega (arith, same, size, seen, within)
+
+pub returns-clause-given : goal.returns-clause-given
+returns-clause-given c =
+    let shards = shards_view c.args.shards.now in
+    let leads = subst (AreLeadsIn shards) (sym c.deref.ensures.value)
+    (leads_given _ shards c.in_ok-sources.sources.items c.in_ok-sources.ensures c.in_ok-leads.leads.items
+    (subst (λ (sources : List Source). All (IsGivenBy (λ (x : Source). IsLeadOf x.shard.now) sources) c.in_ok-leads.leads.items) c.deref_mut.ensures.value c.in_ok-leads.ensures.given)) in
+    hits_within _ _ c.in_ok-leads.leads.items c.deref.result.now c.in_ok-hits.hits.items c.args.skip _ c.in_ok-leads.ensures.number c.deref.ensures.value (c.in_ok-hits.ensures.rows shards leads)

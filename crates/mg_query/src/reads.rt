@@ -1,0 +1,15 @@
+use mg_merge::Work;
+
+/// How much was read for a page.
+#[derive(Debug, Drop)]
+pub enum Reads {
+    /// The caller's thread pulled rows from the shards, as the merge asked for them.
+    Pulled {
+        /// How many rows were pulled, each of a document that the query finds; rows that were passed over by counts are not among them.
+        rows: u64,
+        /// How many of the documents of these rows were looked up.
+        documents: u64,
+    },
+    /// Each shard handed over its first rows, whose documents were looked up, and some of these rows were merged.
+    Handed(Work),
+}
