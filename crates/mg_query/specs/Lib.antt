@@ -7,5 +7,6 @@ pub mod Served
 pub mod Explain
 pub mod Laws
 pub mod Paged
+pub mod Read
 pub mod Lent
 pub mod Plan

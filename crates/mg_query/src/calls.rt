@@ -15,7 +15,6 @@ use crate::answer::last_bookmark;
 use crate::error::PageError;
 use crate::found::find;
 use crate::query::Query;
-use crate::reads::Reads;
 use crate::shown::{Page, show};
 use mg_index::Catalog;
 use mg_merge::Work;
@@ -73,10 +72,7 @@ pub fn page<R: Threads + Sync, G: Gate + Sync>(
     let hits = found.page.shown();
     let docs = show_all(alloc, query, hits)?;
     let bookmark = last_bookmark(alloc, query, found.source, hits)?;
-    match found.page.reads {
-        Reads::Handed(work) => Ok((Page { docs, bookmark }, work)),
-        Reads::Pulled { .. } => unreachable!(),
-    }
+    Ok((Page { docs, bookmark }, found.page.reads.work()))
 }
 
 // Makes what the page shows of the documents of these hits. Errors: `NoMemory` if an allocation fails.

@@ -32,7 +32,7 @@ pub fn explain(
         → result ≡ Err (error_of why) }
 {
     let source = served_by(query, catalog)?;
-    let range = source.range(alloc, &query.normal)?;
+    let (range, _) = source.range(alloc, &query.normal)?;
     let range = range.to_json(alloc)?;
     let index = source.listed(alloc)?;
     Ok(render_explanation(alloc, db, query, index, range)?)

@@ -1,3 +1,6 @@
+ghost use Rattle.std.specs.Prelude.{◌≡◌, false};
+ghost use Rattle.mg_query.specs.Read.{is_pulled};
+
 use mg_merge::Work;
 
 /// How much was read for a page.
@@ -12,4 +15,17 @@ pub enum Reads {
     },
     /// Each shard handed over its first rows, whose documents were looked up, and some of these rows were merged.
     Handed(Work),
+}
+
+impl Reads {
+    // Returns what the shards handed over; no row may have been pulled.
+    pub(crate) fn work(self) -> Work
+        requires { is_pulled self ≡ false }
+        ensures { self ≡ Reads.Handed result }
+    {
+        match self {
+            Reads::Handed(work) => work,
+            Reads::Pulled { .. } => unreachable!(),
+        }
+    }
 }

@@ -20,4 +20,4 @@ pub returns-clause-within : goal.returns-clause-within
 returns-clause-within c = omega (arith, c.in_ok-hits.ensures.pulled, c.in_each_shard-search.ensures.take)
 
 pub returns-clause-read : goal.returns-clause-read
-returns-clause-read c = λ handed. (c.in_ok-hits.ensures.given, refl)
+returns-clause-read c = λ handed. (c.in_ok-hits.ensures.given, c.len-documents.ensures ∙ c.in_ok-hits.hits.ok.0)
