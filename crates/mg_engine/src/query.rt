@@ -94,13 +94,9 @@ fn answer_line<R: Threads + Sync, G: Gate + Sync>(
         workers,
         gate,
     } = context;
-    match page_text(*rt, *alloc, query, catalog, shards, *workers, *gate) {
-        Ok((text, _)) => {
-            let line = with_line_feed(text)?;
-            Ok(line)
-        }
-        Err(fault) => Err(Fault::from(fault)),
-    }
+    let (text, _) = page_text(*rt, *alloc, query, catalog, shards, *workers, *gate)?;
+    let line = with_line_feed(text)?;
+    Ok(line)
 }
 
 // Reads a query and writes the line that explains it, for a database of this name and catalog. Errors: those of `Query::read` and of

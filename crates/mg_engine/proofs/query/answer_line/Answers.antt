@@ -1,27 +1,15 @@
-use Rattle.std.proofs.Common.{◌≡◌, Err, List, sym, subst}
+use Rattle.std.proofs.Common.{◌≡◌, List, sym, subst}
 use Rattle.mg_index.specs.Definition.{IndexDefinition}
 use Rattle.mg_query.specs.Page.{answer_of, candidates_of, page_value}
 use Rattle.mg_query.specs.View.{query_view}
 use Rattle.mg_engine.specs.Commands.{shown_or_refused}
-use Rattle.mg_engine.specs.Faults.{fault_of, refusal_of_page}
-use Rattle.mg_engine.specs.Answering.{MakesAnswer}
-use Rattle.mg_engine.specs.declared.fault.Fault.{Fault}
-use Rattle.mg_engine.proofs.Pages.{no_page, page_shown}
+use Rattle.mg_engine.proofs.Pages.{page_shown}
 use Rattle.mg_engine.proofs.query.answer_line.Goals as goal
 
-pub returns-in_ok-line-in-Ok : goal.returns-in_ok-line-in-Ok
-returns-in_ok-line-in-Ok g c = λ place w st whole ix.
+pub returns : goal.returns
+returns g c = λ place w st whole ix.
     let q = query_view c.args.query.now in
     let cs = candidates_of w.docs in
-    let body = c.in_ok-line-in-Ok.line.items in
+    let body = c.in_ok-line.line.items in
     subst (λ (ds : List IndexDefinition). shown_or_refused page_value (answer_of ds q cs) ≡ record { status = 200; body = body }) (sym ix)
-    (page_shown (answer_of c.args.catalog.now q cs) c.in-Ok.text.items body (c.in-Ok.ensures.answers place w.docs st whole) c.in_ok-line-in-Ok.ensures)
-
-pub returns-in-Err : goal.returns-in-Err
-returns-in-Err g c = λ place w st whole ix.
-    let q = query_view c.args.query.now in
-    let cs = candidates_of w.docs in
-    let fault = c.in-Err.fault in
-    subst (λ (f : Fault). MakesAnswer (Err f) (shown_or_refused page_value (answer_of w.indexes q cs))) (sym c.from.ensures)
-    (subst (λ (ds : List IndexDefinition). MakesAnswer (Err (fault_of (refusal_of_page fault))) (shown_or_refused page_value (answer_of ds q cs))) (sym ix)
-    (no_page fault (answer_of c.args.catalog.now q cs) (c.in-Err.ensures.answers place w.docs st whole)))
+    (page_shown (answer_of c.args.catalog.now q cs) c.in_ok-text.text.items body (c.in_ok-text.ensures.answers place w.docs st whole) c.in_ok-line.ensures)
