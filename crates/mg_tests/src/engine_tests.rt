@@ -2,7 +2,8 @@
 use crate::given::json;
 use crate::scan_tests::BothBegin;
 use mg_engine::{Command, Engine};
-use mg_query::{Query, page};
+use mg_query::{Query, Reads, page, page_text};
+use mg_scan::{NoGate, Workers};
 use mg_shard::Md5Placement;
 use std::alloc::Global;
 use std::process::Abort;
@@ -81,4 +82,38 @@ fn two_shards_begun_on_answer(rt: HostRuntime) {
 fn two_shards_begun_on_page(rt: HostRuntime) {
     let engine = two_shards(&rt, rt.alloc());
     assert!(rt; is_paged(&rt, rt.alloc(), &engine));
+}
+
+// The page of b and d1, whose bookmark spells `[null,"_all_docs","asc",["d1"],"d1"]`.
+const PULLED: &str =
+    "{\"bookmark\":\"W251bGwsIl9hbGxfZG9jcyIsImFzYyIsWyJkMSJdLCJkMSJd\",\"docs\":[{\"_id\":\"b\",\"_rev\":\"1-a\",\"n\":2},{\"_id\":\"d1\",\"_rev\":\"1-a\",\"n\":3}]}";
+
+// Whether one worker finds the page after a skip of one. It pulls a, b and d1, and d2 as the next row of the second shard; the first shard has
+// no other row. The documents of b and d1 are looked up.
+fn is_pulled<R: Threads + Sync>(
+    rt: &R,
+    alloc: Global,
+    engine: &Engine<Md5Placement>,
+    query: &Query<'_>,
+) -> bool {
+    let catalog = engine.catalog();
+    let shards = engine.shards();
+    let workers = Workers::most(1);
+    match page_text(rt, alloc, query, catalog, shards, workers, &NoGate) {
+        Ok((text, Reads::Pulled { rows, documents })) => {
+            rows == 4 && documents == 2 && text.as_slice() == PULLED.as_bytes()
+        }
+        _ => false,
+    }
+}
+
+#[test]
+fn a_page_of_one_thread_tells_what_it_read(rt: HostRuntime) {
+    let alloc = rt.alloc();
+    let engine = two_shards(&rt, alloc);
+    let body = json(&rt, alloc, r#"{"selector":{},"limit":2,"skip":1}"#);
+    match Query::read(alloc, &body) {
+        Ok(query) => assert!(rt; is_pulled(&rt, alloc, &engine, &query)),
+        Err(_) => assert!(rt; false),
+    }
 }
