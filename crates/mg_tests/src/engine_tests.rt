@@ -99,11 +99,14 @@ fn is_pulled<R: Threads + Sync>(
     let catalog = engine.catalog();
     let shards = engine.shards();
     let workers = Workers::most(1);
-    match page_text(rt, alloc, query, catalog, shards, workers, &NoGate) {
-        Ok((text, Reads::Pulled { rows, documents })) => {
+    let Ok((text, reads)) = page_text(rt, alloc, query, catalog, shards, workers, &NoGate) else {
+        return false;
+    };
+    match reads {
+        Reads::Pulled { rows, documents } => {
             rows == 4 && documents == 2 && text.as_slice() == PULLED.as_bytes()
         }
-        _ => false,
+        Reads::Handed(_) => false,
     }
 }
 
