@@ -1,7 +1,8 @@
 -- The hits of a page lend the documents of its candidates.
-use Rattle.std.proofs.Common.{◌≡◌, ℕ, zero, suc, ◌+◌, ◌-◌, ◌<◌, ◌≤◌, List, [], ◌∷◌, Some, None, Vec, Global, get_or, length, map, take, drop, slice_get, refl, sym, ap, ap₂, ◌∙◌, subst, arith}
+use Rattle.std.proofs.Common.{◌≡◌, ℕ, zero, suc, ◌+◌, ◌-◌, ◌<◌, ◌≤◌, true, List, [], ◌∷◌, Option, Some, None, IfSome, is_some, Vec, Global, get_or, length, map, take, drop, slice_get, refl, sym, ap, ap₂, ◌∙◌, subst, arith}
 use Rattle.std.specs.Prelude.{unwrap_or}
 use Rattle.std.specs.FinMap.{get}
+use Rattle.std.specs.Option.{option_and_then}
 use Rattle.std.specs.List.{AllByRecursion, AllZip, filter}
 use Rattle.mg_collate.proofs.Sorting.{all_append, all_weaker}
 use Rattle.mg_collate.specs.Sorted.{sorted}
@@ -11,10 +12,10 @@ use Rattle.mg_index.specs.Definition.{Steps}
 use Rattle.mg_merge.specs.Merged.{contents_of, joined, merged_by, order_by}
 use Rattle.mg_revtree.specs.History.{Paths}
 use Rattle.mg_revtree.specs.Tree.{StandsFor}
-use Rattle.mg_scan.specs.Hit.{AreHitsIn, AreHitsOf, IsHitIn, IsHitOf, hit_document, hit_form, hit_row}
+use Rattle.mg_scan.specs.Hit.{AreHitsIn, AreHitsOf, IsHitIn, IsHitOf, hit_form, hit_kept, hit_row}
 use Rattle.mg_scan.specs.declared.hit.Hit.{Hit}
 use Rattle.mg_shard.specs.Dealt.{Placing, ShardsStandFor, histories_on}
-use Rattle.mg_shard.specs.Documents.{KeptDocuments, StandFor, kept_of}
+use Rattle.mg_shard.specs.Documents.{KeptDocument, StandFor}
 use Rattle.mg_shard.specs.Histories.{Histories}
 use Rattle.mg_shard.specs.Shard.{ShardView}
 use Rattle.mg_query.specs.Page.{Candidate, candidates_of, is_after, is_asked, last, order_by as candidate_order, page_candidates, row_by}
@@ -28,16 +29,27 @@ use Rattle.mg_query.proofs.Kept.{IsKnown, all_known, kept_history}
 record IsOf (hs : Histories) (h : Hit) : Type 0 where
   history : Paths
   known : get hs (hit_row h).1 ≡ Some history
-  tree : StandsFor (kept_of (hit_document h)).0 history
-  form : Some (hit_form h) ≡ served_of (hit_row h).1 history
+  tree : IfSome (hit_kept h) (λ d. StandsFor d.0 history)
+  form : hit_form h ≡ served_of (hit_row h).1 history
 
-of_shard : (place : Placing) (n i : ℕ) (hs : Histories) (ds : KeptDocuments) → StandFor ds (histories_on place n i hs) → (h : Hit) → IsHitOf ds h → IsOf hs h
-of_shard place n i hs ds stands h is =
-    let k = kept_history place n i hs (hit_row h).1 ds (kept_of (hit_document h)) stands is.document in
-    record { history = k.0; known = k.1; tree = k.2; form = sym is.form ∙ k.3 }
+served_kept : (o : Option KeptDocument) → is_some (option_and_then (λ (d : KeptDocument). d.1) o) ≡ true → (d : KeptDocument) × (o ≡ Some d)
+served_kept None e = absurd cc
+served_kept (Some d) e = (d, refl)
+
+of_shard : (place : Placing) (n i : ℕ) (hs : Histories) (s : ShardView) → StandFor s.documents (histories_on place n i hs) → (h : Hit) → IsHitOf s h → IsOf hs h
+of_shard place n i hs s stands h is =
+    let id = (hit_row h).1 in
+    let here = served_kept (hit_kept h) h.served in
+    let k = kept_history place n i hs id s.documents here.0 stands (ap (λ (t : ShardView). get t.documents id) (sym is) ∙ here.1) in
+    record {
+      history = k.0;
+      known = k.1;
+      tree = subst (λ (o : Option KeptDocument). IfSome o (λ d. StandsFor d.0 k.0)) (sym here.1) k.2;
+      form = ap (option_and_then (λ (d : KeptDocument). d.1)) here.1 ∙ k.3;
+    }
 
 of_in : (place : Placing) (hs : Histories) (shards : List ShardView) → ShardsStandFor place shards hs → (h : Hit) → IsHitIn shards h → IsOf hs h
-of_in place hs shards stands h is = of_shard place (length shards) is.place hs is.shard.documents (stands.each is.place is.shard is.there) h is.hit
+of_in place hs shards stands h is = of_shard place (length shards) is.place hs is.shard (stands.each is.place is.shard is.there) h is.hit
 
 all_taken : {X : Type 0} (P : X → Type 0) (n : ℕ) (xs : List X) → AllByRecursion P xs → AllByRecursion P (take n xs)
 all_taken P zero xs h = tt
@@ -52,17 +64,17 @@ all_dropped P (suc n) (x ∷ xs) h = all_dropped P n xs h.1
 -- ---- hits in lists, one list for each shard, are hits in these shards
 
 in_lists : (all : List ShardView) (k : ℕ) (shards : List ShardView) (lists : List (Vec Hit Global)) → ((i : ℕ) (s : ShardView) → slice_get shards i ≡ Some s → slice_get all (k + i) ≡ Some s)
-    → AllZip (λ s v. AreHitsOf s.documents v.items) shards lists → AllByRecursion (IsHitIn all) (joined (contents_of lists))
+    → AllZip (λ s v. AreHitsOf s v.items) shards lists → AllByRecursion (IsHitIn all) (joined (contents_of lists))
 in_lists all k [] [] each h = tt
 in_lists all k [] (v ∷ lists) each h = absurd h
 in_lists all k (s ∷ shards) [] each h = absurd h
 in_lists all k (s ∷ shards) (v ∷ lists) each h =
     all_append (IsHitIn all) v.items (joined (contents_of lists))
-    (all_weaker (IsHitOf s.documents) (IsHitIn all) (λ x is. record { place = k + 0; shard = s; there = each 0 s refl; hit = is }) v.items h.0)
+    (all_weaker (IsHitOf s) (IsHitIn all) (λ x is. record { place = k + 0; shard = s; there = each 0 s refl; hit = is }) v.items h.0)
     (in_lists all (suc k) shards lists (λ i t e. let m : k + suc i ≡ suc k + i = omega arith in subst (λ j. slice_get all j ≡ Some t) m (each (suc i) t e)) h.1)
 
 -- the hits of the merge of these lists are hits in the shards
-pub merged_in : (shards : List ShardView) (lists : List (Vec Hit Global)) (direction : Direction) (most : ℕ) → AllZip (λ s v. AreHitsOf s.documents v.items) shards lists
+pub merged_in : (shards : List ShardView) (lists : List (Vec Hit Global)) (direction : Direction) (most : ℕ) → AllZip (λ s v. AreHitsOf s v.items) shards lists
     → AreHitsIn shards (merged_by hit_row direction most (contents_of lists))
 merged_in shards lists direction most h =
     let all = joined (contents_of lists) in
@@ -78,8 +90,7 @@ lends : (columns : List Steps) (hs : Histories) (h : Hit) (c : Candidate) → hi
 lends columns hs h c row is known =
     let id : (hit_row h).1 ≡ c.id = ap (λ r. r.1) row in
     let history : is.history ≡ c.history = same is.history c.history (sym is.known ∙ ap (get hs) id ∙ known.0) in
-    let form : hit_form h ≡ c.form = same (hit_form h) c.form (is.form ∙ ap₂ served_of id history ∙ known.1) in
-    record { row = row; form = form; tree = subst (StandsFor (kept_of (hit_document h)).0) history is.tree }
+    record { row = row; form = is.form ∙ ap₂ served_of id history ∙ known.1; tree = subst (λ (p : Paths). IfSome (hit_kept h) (λ d. StandsFor d.0 p)) history is.tree }
 
 lend_all : (columns : List Steps) (hs : Histories) (hits : List Hit) (cs : List Candidate) → map hit_row hits ≡ map (row_by columns) cs → AllByRecursion (IsOf hs) hits → AllByRecursion (IsKnown hs) cs → LendEach columns hits cs
 lend_all columns hs [] [] e p k = tt

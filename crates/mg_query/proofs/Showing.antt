@@ -2,7 +2,7 @@
 use Rattle.std.proofs.Common.{◌≡◌, ℕ, ◌+◌, ◌<◌, ◌≤◌, Bool, true, false, ◌&&◌, ◌==◌, not, cond, List, [], ◌∷◌, ◌++◌, append_assoc, append-nil, Option, Some, None, Result, Ok, Err, get_or, length, map, drop, nat_lt, refl, sym, ap, ap₂, ◌∙◌, subst, arith}
 use Rattle.std.proofs.lemmas.Bool.Decides.{nat_tests}
 use Rattle.std.specs.Option.{option_map_or}
-use Rattle.std.specs.Prelude.{IfOk, slice_get, ◌-◌}
+use Rattle.std.specs.Prelude.{IfOk, IfSome, slice_get, ◌-◌}
 use Rattle.json.specs.Print.{escape_byte, quoted}
 use Rattle.mg_value.specs.Text.{compact, compact_items}
 use Rattle.mg_value.specs.Value.{Value, list}
@@ -13,9 +13,9 @@ use Rattle.mg_index.specs.Choice.{Source}
 use Rattle.mg_index.specs.Definition.{Steps}
 use Rattle.mg_revtree.specs.History.{Paths}
 use Rattle.mg_revtree.specs.Tree.{StandsFor, Tree}
-use Rattle.mg_scan.specs.Hit.{hit_document, hit_form, hit_row}
+use Rattle.mg_scan.specs.Hit.{hit_form, hit_kept, hit_row}
 use Rattle.mg_scan.specs.declared.hit.Hit.{Hit}
-use Rattle.mg_shard.specs.Documents.{kept_of}
+use Rattle.mg_shard.specs.Documents.{KeptDocument}
 use Rattle.mg_query.specs.Page.{Candidate, bookmark_after, bookmark_at, source_columns, ddoc_of, name_of, page_value, projected, shown_of}
 use Rattle.mg_query.specs.Lent.{LendEach, Lends, shows_whole}
 use Rattle.mg_query.specs.Query.{Query}
@@ -28,11 +28,15 @@ ok_weaker (Err e) P Q f h = h
 
 -- ---- one document
 
+pub same_form : (x y : Value) → Some x ≡ Some y → x ≡ y
+same_form x y e = cc
+
 -- what is shown of a hit's form and tree is what is shown of the candidate that the hit lends
-pub shown_hit : (q : Query) (columns : List Steps) (h : Hit) (c : Candidate) (form : Value) (tree : Tree) (v : Value)
-    → ((id : List ℕ) (p : Paths) → StandsFor tree p → v ≡ shown_of q (record { id = id; form = form; history = p })) → form ≡ hit_form h → tree ≡ (kept_of (hit_document h)).0 → Lends columns h c → v ≡ shown_of q c
-shown_hit q columns h c form tree v s f t l =
-    s c.id c.history (subst (λ x. StandsFor x c.history) (sym t) l.tree) ∙ ap (λ x. shown_of q (record { id = c.id; form = x; history = c.history })) (f ∙ l.form)
+pub shown_hit : (q : Query) (columns : List Steps) (h : Hit) (c : Candidate) (form : Value) (kept : KeptDocument) (tree : Tree) (v : Value)
+    → ((id : List ℕ) (p : Paths) → StandsFor tree p → v ≡ shown_of q (record { id = id; form = form; history = p })) → Some form ≡ hit_form h → Some kept ≡ hit_kept h → tree ≡ kept.0 → Lends columns h c → v ≡ shown_of q c
+shown_hit q columns h c form kept tree v s f k t l =
+    let there : StandsFor kept.0 c.history = subst (λ (o : Option KeptDocument). IfSome o (λ d. StandsFor d.0 c.history)) (sym k) l.tree in
+    s c.id c.history (subst (λ x. StandsFor x c.history) (sym t) there) ∙ ap (λ x. shown_of q (record { id = c.id; form = x; history = c.history })) (same_form form c.form (f ∙ l.form))
 
 whole_if : (conflicts : Bool) (fields : List Steps) (a b : Value) → (not conflicts && (length fields == 0)) ≡ true → projected fields (cond conflicts a b) ≡ b
 whole_if true fields a b e = absurd cc

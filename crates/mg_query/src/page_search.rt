@@ -45,7 +45,7 @@ pub(crate) struct PageSearch<'a, 'b> {
 #[derive(Drop)]
 pub(crate) struct PageHits<'a> {
     pub(crate) hits: Vec<Hit<'a>>,
-    pub(crate) skip: u32,
+    pub(crate) skip: usize,
     pub(crate) reads: Reads,
 }
 
@@ -54,9 +54,8 @@ impl<'a> PageHits<'a> {
     pub(crate) fn shown(&self) -> &[Hit<'a>]
         ensures { result.now ≡ drop self.now.skip self.now.hits.items }
     {
-        let skip = self.skip as usize;
-        if skip < self.hits.len() {
-            &self.hits[skip..]
+        if self.skip < self.hits.len() {
+            &self.hits[self.skip..]
         } else {
             &[]
         }
@@ -86,9 +85,9 @@ impl<'a, 'b> PageSearch<'a, 'b> {
         }
     }
 
-    // Finds hits of which the page shows all but the first `skip`: 0 if the skipped hits were left out, otherwise those that the query
-    // skips. If the number of workers is a maximum, the search runs on the caller's thread, and passes no gate, in each of these cases:
-    // there is one worker; there are fewer than two shards; `is_small` is true. Errors: `NoMemory` if an allocation fails.
+    // Finds hits of which the page shows all but the first `skip`: those that the query skips and that were not passed over by counts. If
+    // the number of workers is a maximum, the search runs on the caller's thread, and passes no gate, in each of these cases: there is one
+    // worker; there are fewer than two shards; `is_small` is true. Errors: `NoMemory` if an allocation fails.
     pub(crate) fn page_hits<R: Threads + Sync, G: Gate + Sync>(
         &self,
         rt: &R,
@@ -117,13 +116,13 @@ impl<'a, 'b> PageSearch<'a, 'b> {
         let (hits, work) = self.merge_first(rt, alloc, workers, gate)?;
         Ok(PageHits {
             hits,
-            skip: self.query.skip,
+            skip: self.query.skip as usize,
             reads: Reads::Handed(work),
         })
     }
 
-    // Finds what `page_hits` returns, on the caller's thread. If the range decides the whole selector, no document is looked up for a row
-    // that is skipped, and the returned `skip` is 0. Errors: `NoMemory` if an allocation fails.
+    // Finds what `page_hits` returns, on the caller's thread. If the range decides the whole selector, no document of a row of an index is
+    // looked up before its hit is shown. Errors: `NoMemory` if an allocation fails.
     fn find_alone(&self, alloc: Global) -> Result<PageHits<'a>, NoMemory>
         requires { IsPlanned self.now }
         ensures hits { IfOk result (λ made. AreOfPage (query_view self.now.query.now) self.now.plan.now
@@ -141,7 +140,8 @@ impl<'a, 'b> PageSearch<'a, 'b> {
         }
     }
 
-    // Finds the hits that the page shows, without those that it skips. The range must decide the whole selector. Errors: `NoMemory`.
+    // Finds the first hits of all shards together, without those that are passed over by counts. The range must decide the whole selector.
+    // Errors: `NoMemory`.
     fn pull_page(&self, alloc: Global) -> Result<PageHits<'a>, NoMemory>
         requires decided { self.now.plan.now.is_decided ≡ true }
         requires planned { IsPlanned self.now }
@@ -154,11 +154,11 @@ impl<'a, 'b> PageSearch<'a, 'b> {
         ensures pulled { IfOk result (λ made. is_pulled made.reads ≡ true) }
     {
         let search = self.in_each_shard();
-        let (hits, rows) = pull_rows(alloc, self.shards, search, self.query.skip as usize)?;
-        let documents = hits.len() as u64;
+        let (hits, skip, rows) = pull_rows(alloc, self.shards, search, self.query.skip as usize)?;
+        let documents = hits.len().saturating_sub(skip) as u64;
         Ok(PageHits {
             hits,
-            skip: 0,
+            skip,
             reads: Reads::Pulled { rows, documents },
         })
     }
@@ -178,7 +178,7 @@ impl<'a, 'b> PageSearch<'a, 'b> {
         let (hits, rows) = pull_lent(alloc, self.shards, self.in_each_shard())?;
         Ok(PageHits {
             hits,
-            skip: self.query.skip,
+            skip: self.query.skip as usize,
             reads: Reads::Pulled {
                 rows,
                 documents: rows,
@@ -222,7 +222,7 @@ impl<'a, 'b> PageSearch<'a, 'b> {
         ensures rows { IfOk result (λ lists. map (λ hits. hit_rows hits.items) lists.items
             ≡ map (rows_asked_of (query_view self.now.query.now) self.now.plan.now)
             (shards_view self.now.shards.now)) }
-        ensures hits { IfOk result (λ lists. AllZip (λ s hits. AreHitsOf s.documents hits.items)
+        ensures hits { IfOk result (λ lists. AllZip (λ s hits. AreHitsOf s hits.items)
             (shards_view self.now.shards.now) lists.items) }
     {
         let search = self.in_each_shard();

@@ -1,6 +1,6 @@
 //! Writes the text of a page, part by part. Each `with_` function takes a buffer and returns it with its part appended. Errors: `NoMemory`
 //! if an allocation fails; then the buffer is dropped.
-ghost use Rattle.std.specs.Prelude.{◌≡◌, ◌++◌, List, [], ◌∷◌, IfOk, map, nat_lt, if◌then◌else◌};
+ghost use Rattle.std.specs.Prelude.{◌≡◌, ◌++◌, List, [], ◌∷◌, IfOk, IfSome, map, nat_lt, if◌then◌else◌};
 ghost use Rattle.json.specs.Print.{quoted};
 ghost use Rattle.mg_value.specs.Text.{compact};
 ghost use Rattle.mg_value.specs.Value.{list};
@@ -112,7 +112,7 @@ fn with_document(
 
 // Appends the text that the shard keeps of a document, as it is served.
 fn with_kept(mut out: Vec<u8>, hit: &Hit<'_>) -> Result<Vec<u8>, NoMemory>
-    ensures { IfOk result (λ b. b.items ≡ out.items ++ hit_text hit.now) }
+    ensures { IfOk result (λ b. IfSome (hit_text hit.now) (λ t. b.items ≡ out.items ++ t)) }
 {
     out.extend_from_slice(hit.compact_text())?;
     Ok(out)

@@ -1,5 +1,5 @@
 -- The rows of one shard after the first n: what a search finds there, and the merge of this one list.
-use Rattle.std.proofs.Common.{◌≡◌, ℕ, zero, suc, ◌+◌, ◌-◌, ◌≤◌, Bool, true, false, List, [], ◌∷◌, Option, All, append-nil, drop, get_or, if◌then◌else◌, length, map, take, refl, ap, sym, ◌∙◌, subst, arith}
+use Rattle.std.proofs.Common.{◌≡◌, ℕ, zero, suc, ◌+◌, ◌-◌, ◌≤◌, Bool, true, false, List, [], ◌∷◌, Option, All, append-nil, drop, get_or, if◌then◌else◌, length, map, take, refl, ap, ap₂, sym, ◌∙◌, subst, arith}
 use Rattle.std.proofs.Math.Seq.{take-nil}
 use Rattle.std.proofs.lemmas.List.{drop-drop}
 use Rattle.std.proofs.lemmas.List.Elements.{All-from_recursion}
@@ -9,22 +9,23 @@ use Rattle.std.specs.declared.alloc.Global.{Global}
 use Rattle.std.specs.declared.cmp.Ordering.{Ordering}
 use Rattle.std.specs.declared.sync.Arc.{Arc}
 use Rattle.mg_collate.proofs.Directed.{directed_total}
-use Rattle.mg_collate.proofs.Sorting.{Rises, all_weaker, in_order, rises, sorted_least}
+use Rattle.mg_collate.proofs.Sorting.{Rises, in_order, rises, sorted_least}
 use Rattle.mg_collate.specs.Row.{RowValue, directed_order}
 use Rattle.mg_collate.specs.Sorted.{IsInOrder, sorted}
 use Rattle.mg_collate.specs.declared.direction.Direction.{Direction}
 use Rattle.mg_index.specs.Definition.{Steps}
 use Rattle.mg_merge.specs.Merged.{merged}
+use Rattle.mg_normal.specs.Normal.{NormalForm}
 use Rattle.mg_merge.specs.Pulled.{IsGivenBy}
 use Rattle.mg_scan.specs.Begun.{IsBegunIn, IsUnreadAfter}
 use Rattle.mg_scan.specs.Decided.{IsDecidedIn}
-use Rattle.mg_scan.specs.Lead.{AreLeadsIn, IsLeadIn, IsLeadOf}
+use Rattle.mg_scan.specs.Hit.{AreHitsIn, IsHitOf}
 use Rattle.mg_scan.specs.Kept.{IsKept}
-use Rattle.mg_scan.specs.Sourced.{IsSourceAfter, unread_rows, without_selector}
+use Rattle.mg_scan.specs.Sourced.{IsSourceAfter, rest_of, unread_rows, with_selector, without_selector}
 use Rattle.mg_scan.specs.Search.{search_input, found_by}
 use Rattle.mg_scan.specs.Way.{all_found_by}
 use Rattle.mg_scan.specs.Walked.{is_late_row, walked_all}
-use Rattle.mg_scan.specs.declared.lead.Lead.{Lead}
+use Rattle.mg_scan.specs.declared.hit.Hit.{Hit}
 use Rattle.mg_scan.specs.declared.source.Source.{Source}
 use Rattle.mg_scan.specs.declared.unread.Unread.{Unread}
 use Rattle.mg_scan.specs.declared.unread.Unread.TheVariants as unread
@@ -32,8 +33,7 @@ use Rattle.mg_scan.specs.declared.search.Search.{Search}
 use Rattle.mg_scan.proofs.Begun.{on_way, served_begun}
 use Rattle.mg_scan.proofs.Decided.{all_alike}
 use Rattle.mg_scan.proofs.Entries.{all_forms}
-use Rattle.mg_scan.proofs.Leads.{lead_rests}
-use Rattle.mg_scan.proofs.Sources.{InOneOf, all_given, found_in_order, found_merged}
+use Rattle.mg_scan.proofs.Sources.{found_in_order, found_merged, hits_given}
 use Rattle.mg_scan.proofs.Walking.{LateLast, late_rows}
 use Rattle.mg_shard.specs.Shard.{ShardView, shards_view}
 
@@ -112,9 +112,9 @@ one_seen (x ∷ []) a shard one is e = ap (λ y. arc_value y ∷ []) (sym is) �
 one_seen (x ∷ y ∷ shards) a shard one is e = absurd (omega (arith, one))
 
 module _ (s : Search) (n : ℕ) (shard : ShardView) (source : Source) (is : IsSourceAfter n s shard source) where
-  rest_is : lead_rests source ≡ drop n (all_found_by (without_selector s) shard)
+  rest_is : rest_of source ≡ drop n (all_found_by (without_selector s) shard)
   rest_is =
-      ap (λ (y : Search). unread_rows (without_selector y) source.shard.now source.unread) is.same_search ∙ ap (λ (t : ShardView). unread_rows (without_selector s) t source.unread) is.same_shard ∙ is.rows
+      ap₂ (λ (m : NormalForm) (y : Search). unread_rows (with_selector m y) source.shard.now source.unread) is.asks is.same_search ∙ ap (λ (t : ShardView). unread_rows (without_selector s) t source.unread) is.same_shard ∙ is.rows
 
   abbrev all : List RowValue
   all = all_found_by (without_selector s) shard
@@ -122,27 +122,25 @@ module _ (s : Search) (n : ℕ) (shard : ShardView) (source : Source) (is : IsSo
   all_rises : Rises (directed_order s.direction) all
   all_rises = rises (directed_order s.direction) (directed_total s.direction) all (found_in_order (without_selector s) shard)
 
-  rest_rises : Rises (directed_order s.direction) (lead_rests source)
+  rest_rises : Rises (directed_order s.direction) (rest_of source)
   rest_rises = subst (Rises (directed_order s.direction)) (sym rest_is) (rises_dropped (directed_order s.direction) n all all_rises)
 
-  pub one_in_order : All (IsInOrder s.direction) (map lead_rests (source ∷ []))
+  pub one_in_order : All (IsInOrder s.direction) (map rest_of (source ∷ []))
   one_in_order =
-      All-from_recursion (IsInOrder s.direction) (lead_rests source ∷ []) (in_order (directed_order s.direction) (directed_total s.direction) (lead_rests source) rest_rises, tt)
+      All-from_recursion (IsInOrder s.direction) (rest_of source ∷ []) (in_order (directed_order s.direction) (directed_total s.direction) (rest_of source) rest_rises, tt)
 
   -- the merge of the rows after the first n is the merge of all rows, without the first n
   pub one_merged : (skip wanted : ℕ) → n ≤ skip → wanted ≡ s.take - n → All (IsDecidedIn s.target s.normal.now s.range.now) (shard ∷ [])
-      → drop (skip - n) (merged s.direction wanted (map lead_rests (source ∷ []))) ≡ drop skip (merged s.direction s.take (map (found_by s) (shard ∷ [])))
+      → drop (skip - n) (merged s.direction wanted (map rest_of (source ∷ []))) ≡ drop skip (merged s.direction s.take (map (found_by s) (shard ∷ [])))
   one_merged skip wanted within w decided =
       let more = skip - n in
       let sum : n + more ≡ skip = omega (arith, within) in
-      let here : merged s.direction wanted (map lead_rests (source ∷ [])) ≡ drop n (take s.take all) =
-      merged_one s.direction wanted (lead_rests source) rest_rises ∙ ap (take wanted) rest_is ∙ ap (λ k. take k (drop n all)) w ∙ sym (drop_taken n s.take all) in
+      let here : merged s.direction wanted (map rest_of (source ∷ [])) ≡ drop n (take s.take all) =
+      merged_one s.direction wanted (rest_of source) rest_rises ∙ ap (take wanted) rest_is ∙ ap (λ k. take k (drop n all)) w ∙ sym (drop_taken n s.take all) in
       let there : merged s.direction s.take (map (found_by s) (shard ∷ [])) ≡ take s.take all =
       ap (merged s.direction s.take) (sym (all_alike s (shard ∷ []) decided))
       ∙ sym (found_merged (without_selector s) (shard ∷ [])) ∙ merged_one s.direction s.take all all_rises in
       ap (drop more) here ∙ drop-drop more n (take s.take all) ∙ ap (λ k. drop k (take s.take all)) sum ∙ ap (drop skip) (sym there)
 
-  pub one_given : (leads : List Lead) → All (IsGivenBy (λ x. IsLeadOf x.shard.now) (source ∷ [])) leads → AreLeadsIn (shard ∷ []) leads
-  one_given leads given =
-      all_weaker (InOneOf IsLeadOf (shard ∷ [])) (IsLeadIn (shard ∷ [])) (λ lead here. record { place = here.0; shard = here.1; there = here.2; lead = here.3 }) leads
-      (all_given (IsSourceAfter n s) (λ x. IsLeadOf x.shard.now) IsLeadOf (λ t x here lead of. subst (λ (y : ShardView). IsLeadOf y lead) here.same_shard of) (shard ∷ []) (source ∷ []) (is, tt) leads given)
+  pub one_given : (hits : List Hit) → All (IsGivenBy (λ x. IsHitOf x.shard.now) (source ∷ [])) hits → AreHitsIn (shard ∷ []) hits
+  one_given hits given = hits_given (IsSourceAfter n s) (λ t x here. here.same_shard) (shard ∷ []) (source ∷ []) (is, tt) hits given

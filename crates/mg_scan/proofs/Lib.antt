@@ -14,7 +14,6 @@ pub mod Asked
 pub mod Lent
 pub mod Begun
 pub mod Decided
-pub mod Leads
 pub mod AfterFirst
 pub mod Ends
 pub mod AddedUp

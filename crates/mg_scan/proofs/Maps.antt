@@ -95,7 +95,7 @@ zip_rows search [] (v ∷ all) h = absurd h
 zip_rows search (s ∷ shards) [] h = absurd h
 zip_rows search (s ∷ shards) (v ∷ all) h = ap₂ (λ rows lists. rows ∷ lists) h.0.rows (zip_rows search shards all h.1)
 
-pub zip_documents : (search : Search) (shards : List ShardView) (all : List (Vec Hit Global)) → AllZip (λ s w. AreHitsFound search s w.items) shards all → AllZip (λ s w. AreHitsOf s.documents w.items) shards all
+pub zip_documents : (search : Search) (shards : List ShardView) (all : List (Vec Hit Global)) → AllZip (λ s w. AreHitsFound search s w.items) shards all → AllZip (λ s w. AreHitsOf s w.items) shards all
 zip_documents search [] [] h = tt
 zip_documents search [] (v ∷ all) h = absurd h
 zip_documents search (s ∷ shards) [] h = absurd h

@@ -1,6 +1,7 @@
 -- Sources of hits: one step of a source, and the hits that all sources give.
-use Rattle.std.proofs.Common.{◌≡◌, ℕ, zero, suc, ◌+◌, ◌<◌, Bool, true, false, List, [], ◌∷◌, ◌++◌, Option, Some, None, IfSome, All, get_or, is_some, length, map, option_map, slice_get, take, if◌then◌else◌, refl, add-one, ap, ap₂, sym, ◌∙◌, subst, arith}
+use Rattle.std.proofs.Common.{◌≡◌, ℕ, zero, suc, ◌+◌, ◌<◌, ◌≤◌, Bool, true, false, List, [], ◌∷◌, ◌++◌, Option, Some, None, IfSome, All, get_or, is_some, length, map, option_map, slice_get, take, if◌then◌else◌, refl, add-one, ap, ap₂, sym, ◌∙◌, subst, arith}
 use Rattle.std.proofs.Math.Seq.{take-nil}
+use Rattle.std.proofs.lemmas.List.{length-map}
 use Rattle.std.proofs.lemmas.List.Elements.{All-from_recursion, recursion_from_All}
 use Rattle.std.specs.Arc.{arc_value}
 use Rattle.std.specs.FinMap.{entries, get}
@@ -11,11 +12,12 @@ use Rattle.std.specs.declared.sync.Arc.{Arc}
 use Rattle.mg_collate.proofs.Directed.{directed_total}
 use Rattle.mg_collate.proofs.Sorting.{all_weaker, in_order, rises_sorted}
 use Rattle.mg_collate.specs.Row.{RowValue, directed_order}
+use Rattle.mg_collate.specs.declared.direction.Direction.{Direction}
 use Rattle.mg_collate.specs.Sorted.{IsInOrder, sorted_rows}
 use Rattle.mg_index.specs.Definition.{Steps}
 use Rattle.mg_merge.proofs.Cuts.{cut_lists}
 use Rattle.mg_merge.specs.Merged.{merged}
-use Rattle.mg_merge.specs.Pulled.{IsGivenBy}
+use Rattle.mg_merge.specs.Pulled.{ArePulled, IsGivenBy}
 use Rattle.mg_scan.specs.Found.{target_columns}
 use Rattle.mg_scan.specs.Hit.{AreHitsIn, IsHitIn, IsHitOf, hit_row}
 use Rattle.mg_scan.specs.Scan.{all_matches, matching_documents, is_wanted}
@@ -23,7 +25,7 @@ use Rattle.mg_scan.specs.Search.{search_input, found_by}
 use Rattle.mg_scan.specs.Way.{all_found_by, begin_at, entry_rows, walked_all_by}
 use Rattle.mg_normal.specs.Normal.{NormalForm}
 use Rattle.mg_scan.specs.Kept.{AreKept}
-use Rattle.mg_scan.specs.Sourced.{IsSourceOf, holds_for, unread_rows, row_among, walked_documents, walked_on, with_selector}
+use Rattle.mg_scan.specs.Sourced.{IsSourceOf, holds_for, rest_of, unread_rows, row_among, walked_documents, walked_on, with_selector}
 use Rattle.mg_scan.specs.Walked.{holds_at, id_row, is_late_row}
 use Rattle.mg_scan.specs.declared.hit.Hit.{Hit}
 use Rattle.mg_scan.specs.declared.search.Search.{Search}
@@ -196,34 +198,30 @@ module _ {X : Type 0} (Is : ShardView → X → Type 0) where
 
 -- ---- what the sources have still to give, if this selector is asked
 
-abbrev pub rests : (NormalForm → NormalForm) → Source → List RowValue
-rests asked x = unread_rows (with_selector (asked x.search.normal.now) x.search) x.shard.now x.unread
-
-module _ (asked : NormalForm → NormalForm) (s : Search) where
+module _ (n : NormalForm) (s : Search) where
   abbrev asking : Search
-  asking = with_selector (asked s.normal.now) s
+  asking = with_selector n s
 
-  pub rests_are : (shard : ShardView) (x : Source) → IsSourceOf s shard x → rests asked x ≡ all_found_by asking shard
+  pub rests_are : (shard : ShardView) (x : Source) → IsSourceOf s n shard x → rest_of x ≡ all_found_by asking shard
   rests_are shard x is =
-      ap (λ (y : Search). unread_rows (with_selector (asked y.normal.now) y) x.shard.now x.unread) is.same_search ∙ ap (λ (t : ShardView). unread_rows asking t x.unread) is.same_shard ∙ is.rows (asked s.normal.now)
+      ap₂ (λ (m : NormalForm) (y : Search). unread_rows (with_selector m y) x.shard.now x.unread) is.asks is.same_search ∙ ap (λ (t : ShardView). unread_rows asking t x.unread) is.same_shard ∙ is.rows
 
-  pub rests_size : (shards : List ShardView) (sources : List Source) → AllZip (IsSourceOf s) shards sources → length sources ≡ length shards
-  rests_size shards sources h = sources_size asking (IsSourceOf s) (rests asked) rests_are shards sources h
+  pub rests_size : (shards : List ShardView) (sources : List Source) → AllZip (IsSourceOf s n) shards sources → length sources ≡ length shards
+  rests_size shards sources h = sources_size asking (IsSourceOf s n) rest_of rests_are shards sources h
 
-  pub rests_in_order : (shards : List ShardView) (sources : List Source) → AllZip (IsSourceOf s) shards sources → All (IsInOrder s.direction) (map (rests asked) sources)
-  rests_in_order shards sources h = sources_in_order asking (IsSourceOf s) (rests asked) rests_are shards sources h
+  pub rests_in_order : (shards : List ShardView) (sources : List Source) → AllZip (IsSourceOf s n) shards sources → All (IsInOrder s.direction) (map rest_of sources)
+  rests_in_order shards sources h = sources_in_order asking (IsSourceOf s n) rest_of rests_are shards sources h
 
-  pub rests_merged : (shards : List ShardView) (sources : List Source) → AllZip (IsSourceOf s) shards sources → merged s.direction s.take (map (rests asked) sources) ≡ merged s.direction s.take (map (found_by asking) shards)
-  rests_merged shards sources h = sources_merged asking (IsSourceOf s) (rests asked) rests_are shards sources h
+  pub rests_merged : (shards : List ShardView) (sources : List Source) → AllZip (IsSourceOf s n) shards sources → merged s.direction s.take (map rest_of sources) ≡ merged s.direction s.take (map (found_by asking) shards)
+  rests_merged shards sources h = sources_merged asking (IsSourceOf s n) rest_of rests_are shards sources h
 
--- what the sources give is of the shards
-pub rests_given : {H : Type 0} (P : ShardView → H → Type 0) (s : Search) (shards : List ShardView) (sources : List Source) → AllZip (IsSourceOf s) shards sources → (found : List H)
-    → All (IsGivenBy (λ (x : Source). P x.shard.now) sources) found → AllByRecursion (InOneOf P shards) found
-rests_given P s shards sources h found given = all_given (IsSourceOf s) (λ x. P x.shard.now) P (λ shard x is f of. subst (λ (y : ShardView). P y f) is.same_shard of) shards sources h found given
+-- what sources of the shards give are hits in the shards
+pub hits_given : (Is : ShardView → Source → Type 0) → ((shard : ShardView) (x : Source) → Is shard x → x.shard.now ≡ shard) → (shards : List ShardView) (sources : List Source) → AllZip Is shards sources → (hits : List Hit)
+    → All (IsGivenBy (λ (x : Source). IsHitOf x.shard.now) sources) hits → AreHitsIn shards hits
+hits_given Is same shards sources h hits given =
+    all_weaker (InOneOf IsHitOf shards) (IsHitIn shards) (λ hit is. record { place = is.0; shard = is.1; there = is.2; hit = is.3 }) hits
+    (all_given Is (λ x. IsHitOf x.shard.now) IsHitOf (λ shard x is hit of. subst (λ (y : ShardView). IsHitOf y hit) (same shard x is) of) shards sources h hits given)
 
--- the sources give hits in the shards
-pub hits_given : (s : Search) (shards : List ShardView) (sources : List Source) → AllZip (IsSourceOf s) shards sources → (hits : List Hit)
-    → All (IsGivenBy (λ (x : Source). IsHitOf x.shard.now.documents) sources) hits → AreHitsIn shards hits
-hits_given s shards sources h hits given =
-    all_weaker (InOneOf (λ shard. IsHitOf shard.documents) shards) (IsHitIn shards) (λ hit is. record { place = is.0; shard = is.1; there = is.2; hit = is.3 }) hits
-    (rests_given (λ shard. IsHitOf shard.documents) s shards sources h hits given)
+-- no more hits are given than are pulled
+pub given_within : (direction : Direction) (lists : List (List RowValue)) (hits : List Hit) (pulled : ℕ) → ArePulled direction lists (map hit_row hits) pulled → length hits ≤ pulled
+given_within direction lists hits pulled number = omega (arith, number.1.1, length-map hits hit_row)

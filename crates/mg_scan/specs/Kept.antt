@@ -1,5 +1,5 @@
 -- For private clauses: what is unread is of documents that the shard serves or keeps.
-use Rattle.std.specs.Prelude.{◌≡◌, ⊤, ℕ, true, List, [], ◌∷◌, Some, is_some}
+use Rattle.std.specs.Prelude.{◌≡◌, ⊤, ℕ, true, List, [], ◌∷◌, Option, Some, None, is_some}
 use Rattle.std.specs.Coded.{Coded-set, Unit-prop, ×_prop, coded_bool, coded_option, coded×}
 use Rattle.std.specs.FinMap.{get}
 use Rattle.std.specs.List.{AllByRecursion}
@@ -34,7 +34,12 @@ IsKept shard unread.Nothing = ⊤
 abbrev pub IsRowAmong : KeptDocuments → Document → List ℕ → Type 0
 IsRowAmong ds d id = (get ds (id_bytes d) ≡ Some (kept_of d)) × (Some (item (text id) no_items) ≡ option_and_then (row_key id_columns) (form_of d)) × (id ≡ id_bytes d)
 
--- ---- what is known of unread documents has at most one proof
+-- the document is the one that the shard keeps under this id
+abbrev pub IsLent : KeptDocuments → List ℕ → Option Document → Type 0
+IsLent ds id None = ⊤
+IsLent ds id (Some d) = get ds id ≡ Some (kept_of d)
+
+-- ---- what is known of documents has at most one proof
 
 AreServed-prop : (ds : KeptDocuments) (rows : List RowValue) → IsProp (AreServed ds rows)
 AreServed-prop ds [] = Unit-prop
@@ -48,3 +53,7 @@ pub IsKept-prop : (shard : ShardView) (l : Unread) → IsProp (IsKept shard l)
 IsKept-prop shard (unread.Rows rows) = AreServed-prop shard.documents rows
 IsKept-prop shard (unread.Documents ds) = AreKept-prop shard.documents ds
 IsKept-prop shard unread.Nothing = Unit-prop
+
+pub IsLent-prop : (ds : KeptDocuments) (id : List ℕ) (o : Option Document) → IsProp (IsLent ds id o)
+IsLent-prop ds id None = Unit-prop
+IsLent-prop ds id (Some d) = Coded-set (coded_option (coded× tree_code (coded_option value_code))) (get ds id) (Some (kept_of d))

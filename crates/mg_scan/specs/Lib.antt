@@ -14,7 +14,6 @@ pub mod Kept
 pub mod Sourced
 pub mod Begun
 pub mod Decided
-pub mod Lead
 pub mod RangeEnd
 pub mod Upcoming
 pub mod Passed

@@ -49,14 +49,29 @@ with_selector n s = record s { normal = record { ref_ptr = s.normal.ref_ptr; now
 abbrev pub without_selector : Search → Search
 without_selector = with_selector everything
 
--- the source gives all that the search, with any selector, finds in the shard without its limit
-pub record IsSourceOf (search : Search) (s : ShardView) (source : Source) : Type 0 where
+-- the selector that is asked of documents; without one, that which every document matches
+abbrev pub asked : Option NormalForm → NormalForm
+asked None = everything
+asked (Some n) = n
+
+-- the selector that a source asks
+abbrev pub asked_by : Source → NormalForm
+asked_by x = asked (option_map (λ n. n.now) x.selector)
+
+-- the rows that a source has still to give
+abbrev pub rest_of : Source → List RowValue
+rest_of x = unread_rows (with_selector (asked_by x) x.search) x.shard.now x.unread
+
+-- the source gives all that the search, with this selector, finds in the shard without its limit
+pub record IsSourceOf (search : Search) (n : NormalForm) (s : ShardView) (source : Source) : Type 0 where
   pub same_search : source.search ≡ search
   pub same_shard : source.shard.now ≡ s
-  pub rows : (n : NormalForm) → unread_rows (with_selector n search) s source.unread ≡ all_found_by (with_selector n search) s
+  pub asks : asked_by source ≡ n
+  pub rows : unread_rows (with_selector n search) s source.unread ≡ all_found_by (with_selector n search) s
 
 -- the source gives all that the search would find in the shard without its selector and its limit, except the first n
 pub record IsSourceAfter (n : ℕ) (search : Search) (s : ShardView) (source : Source) : Type 0 where
   pub same_search : source.search ≡ search
   pub same_shard : source.shard.now ≡ s
+  pub asks : asked_by source ≡ everything
   pub rows : unread_rows (without_selector search) s source.unread ≡ drop n (all_found_by (without_selector search) s)

@@ -13,7 +13,7 @@ use Rattle.mg_shard.specs.Shard.{ShardView}
 -- the hits are what the search finds in the shard, with their documents
 pub record AreHitsFound (search : Search) (s : ShardView) (hits : List Hit) : Type 0 where
   pub rows : hit_rows hits ≡ found_by search s
-  pub documents : AreHitsOf s.documents hits
+  pub documents : AreHitsOf s hits
 
 -- the hits are what the search finds in the i-th shard, if there is one; shards are counted from 0
 pub record AreHitsFoundAt (search : Search) (shards : List ShardView) (i : ℕ) (hits : List Hit) : Type 0 where

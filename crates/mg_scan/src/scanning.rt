@@ -38,7 +38,7 @@ pub fn scan_lent<'a, R: Threads + Sync, G: Gate + Sync>(
     ensures rows { IfOk result (λ lists. map (λ hits. hit_rows hits.items) lists.items
         ≡ map (found_by search.entry) (shards_view shards.now)) }
     ensures hits { IfOk result
-        (λ lists. AllZip (λ s hits. AreHitsOf s.documents hits.items) (shards_view shards.now) lists.items) }
+        (λ lists. AllZip (λ s hits. AreHitsOf s hits.items) (shards_view shards.now) lists.items) }
 {
     let next = AtomicU64::new(0);
     let given = map_from_one_thread(

@@ -5,6 +5,7 @@ ghost use Rattle.mg_scan.specs.RangeEnd.{AreBeforeEnd, EndsOnce, index_rows};
 use crate::range_end::RangeEnd;
 use crate::search::Search;
 use crate::unread::Unread;
+use mg_normal::Normal;
 use mg_shard::Shard;
 
 /// What a search has still to find in one shard: what is unread there, and what is known of it.
@@ -13,6 +14,8 @@ pub(crate) struct Source<'a, 'b> {
     pub(crate) shard: &'a Shard,
     pub(crate) unread: Unread<'a>,
     pub(crate) search: Search<'b>,
+    // The selector that is asked of documents; `None` if the range decides it.
+    pub(crate) selector: Option<&'b Normal>,
     pub(crate) range_end: RangeEnd,
     // Rows of an index are in order: if one comes after the range, so does each later one.
     ghost ordered: { EndsOnce search (index_rows unread) },

@@ -15,5 +15,5 @@ returns c =
     ok_weaker c.of.result
     (λ b. b ≡ doc)
     (λ b. (columns : List Steps) (x : Candidate) → Lends columns c.args.hit.now x → b ≡ shown_of q x)
-    (λ b e columns x l. e ∙ shown_hit q columns c.args.hit.now x c.form.result c.tree.result.now doc c.in_ok-doc.ensures c.form.ensures (c.tree.ensures ∙ ap (λ d. (kept_of d).0) c.document.ensures) l)
+    (λ b e columns x l. e ∙ shown_hit q columns c.args.hit.now x c.form.result (kept_of c.document.result.now) c.tree.result.now doc c.in_ok-doc.ensures c.form.ensures c.document.ensures c.tree.ensures l)
     c.of.ensures

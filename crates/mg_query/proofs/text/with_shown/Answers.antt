@@ -11,4 +11,4 @@ returns c = λ columns x l.
     let q = query_view c.args.query.now in
     c.in_ok-extend_from_slice.ensures.items
     ∙ ap (λ t. c.args.out.items ++ t) (c.deref.ensures.value ∙ c.in_ok-text.ensures.text
-    ∙ ap compact (shown_hit q columns c.args.hit.now x c.form.result c.tree.result.now (view c.in_ok-doc.doc) c.in_ok-doc.ensures c.form.ensures (c.tree.ensures ∙ ap (λ d. (kept_of d).0) c.document.ensures) l))
+    ∙ ap compact (shown_hit q columns c.args.hit.now x c.form.result (kept_of c.document.result.now) c.tree.result.now (view c.in_ok-doc.doc) c.in_ok-doc.ensures c.form.ensures c.document.ensures c.tree.ensures l))

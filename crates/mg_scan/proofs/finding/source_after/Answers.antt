@@ -32,5 +32,6 @@ returns-clause-source c =
     record {
       same_search = refl;
       same_shard = refl;
+      asks = refl;
       rows = rows_left_after at s shard n all left c.unread_of.ensures c.unread_after-unread.ensures.after ∙ ap (drop n) (begun_with at s shard all c.unread_of.ensures everything);
     }

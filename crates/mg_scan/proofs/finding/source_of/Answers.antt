@@ -1,5 +1,6 @@
-use Rattle.std.proofs.Common.{refl}
+use Rattle.std.proofs.Common.{option_map, refl}
 use Rattle.mg_scan.specs.Found.{target_columns}
+use Rattle.mg_scan.specs.Sourced.{asked}
 use Rattle.mg_scan.specs.RangeEnd.{index_rows}
 use Rattle.mg_scan.proofs.Begun.{begun_kept, begun_with}
 use Rattle.mg_scan.proofs.Ends.{before_none, begun_ends}
@@ -20,4 +21,4 @@ pub returns : goal.returns
 returns c =
     let s = c.args.search in
     let shard = c.args.shard.now in
-    record { same_search = refl; same_shard = refl; rows = begun_with (target_columns s.target shard.definitions) s shard c.unread_of.result c.unread_of.ensures }
+    record { same_search = refl; same_shard = refl; asks = refl; rows = begun_with (target_columns s.target shard.definitions) s shard c.unread_of.result c.unread_of.ensures (asked (option_map (λ n. n.now) c.args.selector)) }

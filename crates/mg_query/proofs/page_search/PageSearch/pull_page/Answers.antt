@@ -1,4 +1,5 @@
-use Rattle.std.proofs.Common.{drop, ap, ◌∙◌, arith}
+use Rattle.std.proofs.Common.{◌-◌, drop, ap, sym, ◌∙◌, arith}
+use Rattle.std.proofs.lemmas.List.{length-drop}
 use Rattle.mg_shard.specs.Shard.{shards_view}
 use Rattle.mg_query.specs.View.{query_view}
 use Rattle.mg_query.proofs.Handed.{decided_in, found_first}
@@ -20,4 +21,6 @@ pub returns-clause-within : goal.returns-clause-within
 returns-clause-within c = omega (arith, c.in_ok-hits.ensures.pulled, c.in_each_shard-search.ensures.take)
 
 pub returns-clause-read : goal.returns-clause-read
-returns-clause-read c = λ handed. (c.in_ok-hits.ensures.given, c.len-documents.ensures ∙ c.in_ok-hits.hits.ok.0)
+returns-clause-read c = λ handed.
+    let shown = length-drop c.in_ok-hits.skip c.in_ok-hits.hits.items in
+    (omega (arith, c.in_ok-hits.ensures.given, shown), c.saturating_sub.ensures ∙ ap (λ n. n - c.in_ok-hits.skip) (c.len.ensures ∙ c.in_ok-hits.hits.ok.0) ∙ sym shown)
