@@ -4,7 +4,7 @@ ghost use Rattle.mg_collate.specs.Row.{RowValue, row_view, row_value_order};
 use mg_collate::Row;
 use std::cmp::Ordering;
 
-/// An item with a row of an index, by which it is merged: a row itself, or a lead or hit of a search.
+/// An item with a row of an index, by which it is merged: a row itself, or a hit of a search.
 pub trait Ranked {
     // its row
     ghost row_of: { Self → RowValue };

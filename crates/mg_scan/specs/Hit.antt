@@ -5,14 +5,14 @@ use Rattle.std.specs.List.{AllByRecursion}
 use Rattle.mg_collate.specs.Row.{RowValue}
 use Rattle.mg_value.specs.Text.{compact}
 use Rattle.mg_value.specs.Value.{Value}
-use Rattle.mg_scan.specs.LentRow.{lent_row_view}
+use Rattle.mg_scan.specs.HitRow.{hit_row_view}
 use Rattle.mg_scan.specs.declared.hit.Hit.{Hit}
 use Rattle.mg_shard.specs.Documents.{KeptDocument, form_at}
 use Rattle.mg_shard.specs.Shard.{ShardView}
 
 -- the row of a hit: its key, and the id of its document
 abbrev pub hit_row : Hit → RowValue
-hit_row h = lent_row_view h.row
+hit_row h = hit_row_view h.row
 
 -- the rows of hits
 abbrev pub hit_rows : List Hit → List RowValue

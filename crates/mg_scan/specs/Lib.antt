@@ -1,7 +1,7 @@
 pub mod Scan
 pub mod Found
 pub mod Named
-pub mod LentRow
+pub mod HitRow
 pub mod Hit
 pub mod Built
 pub mod Building

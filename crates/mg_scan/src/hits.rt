@@ -9,7 +9,7 @@ ghost use Rattle.mg_scan.specs.Walked.{holds_at, id_row};
 ghost use Rattle.mg_shard.specs.Documents.{form_at, kept_of};
 
 use crate::hit::Hit;
-use crate::lent_row::LentRow;
+use crate::hit_row::HitRow;
 use mg_collate::Row;
 use mg_merge::Ranked;
 use mg_normal::Normal;
@@ -110,11 +110,11 @@ pub(crate) fn hit_at_row<'a>(
         ≡ if holds_at (asked (option_map (λ n. n.now) selector.entry)) shard.now.documents row.now.1 then Some row.now else None }
     ensures of { IfSome result (IsHitOf shard.now) }
 {
-    let row_of = LentRow::Bytes(row);
+    let found = HitRow::Bytes(row);
     let Some(normal) = selector else {
         return Some(Hit {
             shard,
-            row: row_of,
+            row: found,
             document: None,
         });
     };
@@ -124,7 +124,7 @@ pub(crate) fn hit_at_row<'a>(
     }
     Some(Hit {
         shard,
-        row: row_of,
+        row: found,
         document: Some(document),
     })
 }
@@ -151,7 +151,7 @@ pub(crate) fn hit_at_document<'a>(
     }
     Some(Hit {
         shard,
-        row: LentRow::Id(id),
+        row: HitRow::Id(id),
         document: Some(document),
     })
 }

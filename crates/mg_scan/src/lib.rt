@@ -7,9 +7,9 @@
 //! its document (`hits`), for every number of workers and every gate. `scan` copies these rows. `pull_lent`
 //! returns the first rows of all shards together (`rows`, `hits`), on the caller's thread: it pulls at most
 //! as many as it was asked for and one for each shard (`pulled`). `pull_rows` returns the same without the
-//! first `skip`, for a selector that the range decides in each shard (`decided`). It looks up only the
-//! documents of the rows that it returns, and it skips rows of an index by counts: with one shard all of
-//! them, with several most (passing.rt). `HasPageOf` of specs/Passed.antt says that the page stays the same:
+//! first `skip`, for a selector that the range decides in each shard (`decided`). It looks up no document of
+//! a row of an index: a hit does so when it is asked for its document. It skips rows of an index by counts:
+//! with one shard all of them, with several most (passing.rt). `HasPageOf` of specs/Passed.antt says that the page stays the same:
 //! the search begins after some row, and the page skips as many rows fewer as there are up to that row.
 //! `reads_at_most` says whether at most a given number of rows or documents, of all shards together, come
 //! after the place where a search begins. `build` returns each shard with the index, for every number of
@@ -23,8 +23,8 @@ mod counting;
 mod finding;
 mod gate;
 mod hit;
+mod hit_row;
 mod hits;
-mod lent_row;
 mod passing;
 mod pulling;
 mod range_end;

@@ -15,7 +15,7 @@ loop-hit-preserved c = λ columns cs l.
     let doc = view c.in_ok-doc.doc in
     ap (λ values. values ++ map (shown_of q) (drop (i + 1) cs)) (ap (map view) c.in_ok-push.ensures.items ∙ map-append view c.loop-hit.docs.items (c.in_ok-doc.doc ∷ []))
     ∙ shown_more q columns c.args.hits.now cs i hit (map view c.loop-hit.docs.items) doc l c.loop-hit-test.true c.hit-item.is
-    (λ d k. shown_hit q columns hit d c.form.result c.tree.result.now doc c.in_ok-doc.ensures c.form.ensures (c.tree.ensures ∙ ap (λ x. (kept_of x).0) c.document.ensures) k)
+    (λ d k. shown_hit q columns hit d c.form.result (kept_of c.document.result.now) c.tree.result.now doc c.in_ok-doc.ensures c.form.ensures c.document.ensures c.tree.ensures k)
     (c.loop-hit.invariant columns cs l)
 
 pub returns : goal.returns

@@ -23,4 +23,4 @@ returns-clause-within c = omega (arith, c.in_ok-hits.ensures.pulled, c.in_each_s
 pub returns-clause-read : goal.returns-clause-read
 returns-clause-read c = λ handed.
     let shown = length-drop c.in_ok-hits.skip c.in_ok-hits.hits.items in
-    (omega (arith, c.in_ok-hits.ensures.given, shown), c.saturating_sub.ensures ∙ ap (λ n. n - c.in_ok-hits.skip) (c.len.ensures ∙ c.in_ok-hits.hits.ok.0) ∙ sym shown)
+    (omega (arith, c.in_ok-hits.ensures.given, shown), c.saturating_sub-documents.ensures ∙ ap (λ n. n - c.in_ok-hits.skip) (c.len.ensures ∙ c.in_ok-hits.hits.ok.0) ∙ sym shown)

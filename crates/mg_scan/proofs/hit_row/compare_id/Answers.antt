@@ -3,7 +3,7 @@ use Rattle.std.specs.Ordering.{ordering_reverse}
 use Rattle.mg_collate.specs.Row.{row_value_order_total}
 use Rattle.mg_scan.specs.Begins.{id_rows}
 use Rattle.mg_scan.specs.Walked.{id_row}
-use Rattle.mg_scan.proofs.lent_row.compare_id.Goals as goal
+use Rattle.mg_scan.proofs.hit_row.compare_id.Goals as goal
 
 pub returns-in-Bytes : goal.returns-in-Bytes
 returns-in-Bytes c =
