@@ -43,6 +43,14 @@ whole_if true fields a b e = absurd cc
 whole_if false [] a b e = refl
 whole_if false (f ∷ fields) a b e = absurd (grind (arith, nat_tests, e))
 
+plain_if : (conflicts : Bool) (fields : List Steps) (a b : Value) → conflicts ≡ false → projected fields (cond conflicts a b) ≡ projected fields b
+plain_if true fields a b e = absurd cc
+plain_if false fields a b e = refl
+
+-- a document that is shown without its conflicts
+pub shown_plain : (q : Query) (c : Candidate) → q.conflicts ≡ false → shown_of q c ≡ projected q.fields c.form
+shown_plain q c e = plain_if q.conflicts q.fields _ c.form e
+
 -- a document that is shown whole is shown as it is served
 pub shown_whole : (q : Query) (c : Candidate) → shows_whole q ≡ true → shown_of q c ≡ c.form
 shown_whole q c e = whole_if q.conflicts q.fields _ c.form e

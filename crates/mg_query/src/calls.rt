@@ -82,7 +82,7 @@ fn show_all(alloc: Global, query: &Query<'_>, hits: &[Hit<'_>]) -> Result<Vec<Js
 {
     let mut docs = Vec::with_capacity(alloc, hits.len())?;
     for hit in hits {
-        let doc = show(alloc, query, hit.form(), hit.document().tree())?;
+        let doc = show(alloc, query, hit)?;
         docs.push(doc)?;
     }
     Ok(docs)

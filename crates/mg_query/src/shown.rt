@@ -1,5 +1,5 @@
 //! What a page shows of a document, and the bookmark of a row.
-ghost use Rattle.std.specs.Prelude.{◌≡◌, ℕ, List, IfOk, string_bytes};
+ghost use Rattle.std.specs.Prelude.{◌≡◌, ℕ, true, List, IfOk, string_bytes};
 ghost use Rattle.mg_index.specs.Definition.{Steps};
 ghost use Rattle.mg_value.specs.View.{view, items_view};
 ghost use Rattle.mg_revtree.specs.History.{Paths};
@@ -92,27 +92,36 @@ fn show_packed(alloc: Global, query: &Query<'_>, hit: &Hit<'_>) -> Result<Packed
     ensures { IfOk result (λ block. (columns : List Steps) (c : Candidate) → Lends columns hit.now c
         → block ≡ shown_of (query_view query.now) c) }
 {
-    let doc = show(alloc, query, hit.form(), hit.document().tree())?;
+    let doc = show(alloc, query, hit)?;
     Packed::of(alloc, &doc)
 }
 
-// Makes what a query shows of a document with this form and tree: with its conflicts if they are asked for, and only its parts at the
-// fields if any are given. Errors: `NoMemory` if an allocation fails.
-pub(crate) fn show(
+// Makes what a query shows of a hit's document: with its conflicts if they are asked for, and only its parts at the fields if any are
+// given. Errors: `NoMemory` if an allocation fails.
+pub(crate) fn show(alloc: Global, query: &Query<'_>, hit: &Hit<'_>) -> Result<Json, NoMemory>
+    ensures { IfOk result (λ v. (columns : List Steps) (c : Candidate) → Lends columns hit.now c
+        → view v ≡ shown_of (query_view query.now) c) }
+{
+    if query.conflicts {
+        show_with_conflicts(alloc, query, hit.form(), hit.document().tree())
+    } else {
+        project_lent(alloc, &query.fields, hit.form())
+    }
+}
+
+// Makes what a query that asks for conflicts shows of a document with this form and tree. Errors: `NoMemory` if an allocation fails.
+fn show_with_conflicts(
     alloc: Global,
     query: &Query<'_>,
     form: Part<'_>,
     tree: &RevTree,
 ) -> Result<Json, NoMemory>
+    requires { query.now.conflicts ≡ true }
     ensures { IfOk result (λ v. (id : List ℕ) (h : Paths) → StandsFor tree.now h
         → view v ≡ shown_of (query_view query.now) (record { id = id; form = form.entry; history = h })) }
 {
-    if query.conflicts {
-        let whole = with_conflicts(alloc, form.to_json(alloc)?, tree)?;
-        project_owned(alloc, &query.fields, whole)
-    } else {
-        project_lent(alloc, &query.fields, form)
-    }
+    let whole = with_conflicts(alloc, form.to_json(alloc)?, tree)?;
+    project_owned(alloc, &query.fields, whole)
 }
 
 // Returns the parts of a document at the fields; the whole document if no fields are given. Errors: `NoMemory` if an allocation fails.

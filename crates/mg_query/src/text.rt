@@ -128,7 +128,7 @@ fn with_shown(
     ensures { IfOk result (λ b. (columns : List Steps) (c : Candidate) → Lends columns hit.now c
         → b.items ≡ out.items ++ compact (shown_of (query_view query.now) c)) }
 {
-    let doc = show(alloc, query, hit.form(), hit.document().tree())?;
+    let doc = show(alloc, query, hit)?;
     let text = write(alloc, &doc)?;
     out.extend_from_slice(&text)?;
     Ok(out)

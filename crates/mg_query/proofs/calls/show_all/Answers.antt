@@ -1,10 +1,9 @@
 use Rattle.std.proofs.Common.{◌+◌, ◌++◌, [], ◌∷◌, map, drop, ap, ◌∙◌}
 use Rattle.std.proofs.lemmas.List.{map-append}
 use Rattle.mg_value.specs.View.{view}
-use Rattle.mg_shard.specs.Documents.{kept_of}
 use Rattle.mg_query.specs.Page.{shown_of}
 use Rattle.mg_query.specs.View.{query_view}
-use Rattle.mg_query.proofs.Showing.{shown_all, shown_hit, shown_more}
+use Rattle.mg_query.proofs.Showing.{shown_all, shown_more}
 use Rattle.mg_query.proofs.calls.show_all.Goals as goal
 
 pub loop-hit-preserved : goal.loop-hit-preserved
@@ -15,7 +14,7 @@ loop-hit-preserved c = λ columns cs l.
     let doc = view c.in_ok-doc.doc in
     ap (λ values. values ++ map (shown_of q) (drop (i + 1) cs)) (ap (map view) c.in_ok-push.ensures.items ∙ map-append view c.loop-hit.docs.items (c.in_ok-doc.doc ∷ []))
     ∙ shown_more q columns c.args.hits.now cs i hit (map view c.loop-hit.docs.items) doc l c.loop-hit-test.true c.hit-item.is
-    (λ d k. shown_hit q columns hit d c.form.result (kept_of c.document.result.now) c.tree.result.now doc c.in_ok-doc.ensures c.form.ensures c.document.ensures c.tree.ensures k)
+    (λ d k. c.in_ok-doc.ensures columns d k)
     (c.loop-hit.invariant columns cs l)
 
 pub returns : goal.returns
