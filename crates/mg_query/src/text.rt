@@ -43,15 +43,17 @@ pub(crate) fn text_with(
     Ok(out)
 }
 
-// How many bytes are allocated at first: the text of most pages that show documents whole fits.
+// How many bytes are allocated at first: the text of most pages that show documents of one size whole fits. One document is looked up.
 fn first_room(query: &Query<'_>, hits: &[Hit<'_>]) -> usize {
-    let mut room = PAGE_ROOM;
-    if is_shown_whole(query) {
-        for hit in hits {
-            room = room.saturating_add(hit.compact_text().len().saturating_add(1));
+    match hits.first() {
+        Some(hit) if is_shown_whole(query) => {
+            let document = hit.compact_text().len().saturating_add(1);
+            hits.len()
+                .saturating_mul(document)
+                .saturating_add(PAGE_ROOM)
         }
+        _ => PAGE_ROOM,
     }
-    room
 }
 
 fn with_string(out: Vec<u8>, text: &str) -> Result<Vec<u8>, NoMemory>
